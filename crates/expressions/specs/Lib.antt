@@ -1,0 +1,5 @@
+pub mod Rules
+pub mod Nodes
+pub mod Influence
+pub mod Bindings
+pub mod Variables

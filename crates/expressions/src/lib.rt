@@ -1,0 +1,1 @@
+// Conditions, bindings, variables and influence.

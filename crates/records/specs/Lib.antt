@@ -1,0 +1,4 @@
+pub mod Sets
+pub mod Fields
+pub mod Plan
+pub mod Case

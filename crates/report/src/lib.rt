@@ -1,0 +1,13 @@
+// The three operations: check a plan, answer a case, show a world.
+
+// What an operation answers; `specs/Operations.antt` gives document 01's numbers for each.
+pub enum Answer {
+    // a plan without fault
+    Accepted,
+    // the counts of lines, events and admissible worlds
+    Answered { lines: usize, events: usize, worlds: u64 },
+    // refusal number and record
+    Refused { number: u8, record: usize },
+    // refusal 11: the count of worlds, and the most allowed
+    TooManyWorlds { count: u64, most: u64 },
+}

@@ -1,0 +1,4 @@
+pub mod Active
+pub mod World
+pub mod View
+pub mod Events

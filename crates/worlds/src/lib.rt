@@ -1,0 +1,1 @@
+// One world: steps 1 to 8 on one valuation.
