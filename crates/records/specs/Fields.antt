@@ -142,11 +142,13 @@ module _ {A : Type 0} (formats : List Format) (add : Raw → A → A) (judge : R
   readFrom zero s at kind a k = refused 1 k
   readFrom (suc n) s at kind a k =
       cond (leb (length s) at) (cond (eqb k 0) (refused 3 0) (fine a))
-      (elim (recordAt formats s at)
-      [ bad ↦ refused 1 k
-      | got r p ↦ elim (ltb (r .kind) kind)
-        [ true ↦ refused 1 k
-        | false ↦ elim (judge r (add r a)) [ zero ↦ readFrom n s p (r .kind) (add r a) (k + 1) | suc m ↦ refused (suc m) k ] ] ])
+      (elim (recordAt formats s at) [
+        | bad ↦ refused 1 k
+        | got r p ↦ elim (ltb (r .kind) kind) [
+          | true ↦ refused 1 k
+          | false ↦ elim (judge r (add r a)) [ zero ↦ readFrom n s p (r .kind) (add r a) (k + 1) | suc m ↦ refused (suc m) k ]
+        ]
+      ])
 
 -- a fault for each record in order, 0 for none: "Each names its first record"
 unfoldable pub firstFault : {A : Type 0} → ℕ → List ℕ → Verdict A → Verdict A

@@ -2,3 +2,5 @@ pub mod Sets
 pub mod Fields
 pub mod Plan
 pub mod Case
+pub mod Decoded
+pub mod Sound

@@ -107,6 +107,7 @@ planFormats =
   where
     mask : Shape
     mask = bytes (number ∷ number ∷ number ∷ number ∷ number ∷ number ∷ number ∷ number ∷ [])
+
     election : Shape
     election = bytes (number ∷ actor ∷ upTo 2 ∷ citation ∷ [])
 
@@ -138,15 +139,16 @@ abbrev pub joined : {A : Type 0} → ℕ → (Raw → A) → Raw → List A → 
 joined kind make r xs = cond (eqb (r .kind) kind) (xs ++ (make r ∷ [])) xs
 
 unfoldable pub addToPlan : Raw → Plan → Plan
-addToPlan r P = record
-  { headings = joined 1 (λ r. record { relation = num r 0; chain = field r 1 }) r (P .headings)
-  ; facts = joined 2 (λ r. record { family = field r 0; tuple = field r 1 }) r (P .facts)
-  ; nodes = joined 3 nodeOf r (P .nodes)
-  ; edges = joined 4 edgeOf r (P .edges)
-  ; cuts = joined 5 cutOf r (P .cuts)
-  ; attachments = joined 6 attachmentOf r (P .attachments)
-  ; bars = joined 7 (λ r. record { members = wide r 0; condition = num r 1; citation = num r 2 }) r (P .bars)
-  ; statuses = joined 8 (λ r. record { person = num r 0; condition = num r 1; citation = num r 2 }) r (P .statuses) }
+addToPlan r P = record {
+  headings = joined 1 (λ r. record { relation = num r 0; chain = field r 1 }) r (P .headings);
+  facts = joined 2 (λ r. record { family = field r 0; tuple = field r 1 }) r (P .facts);
+  nodes = joined 3 nodeOf r (P .nodes);
+  edges = joined 4 edgeOf r (P .edges);
+  cuts = joined 5 cutOf r (P .cuts);
+  attachments = joined 6 attachmentOf r (P .attachments);
+  bars = joined 7 (λ r. record { members = wide r 0; condition = num r 1; citation = num r 2 }) r (P .bars);
+  statuses = joined 8 (λ r. record { person = num r 0; condition = num r 1; citation = num r 2 }) r (P .statuses);
+}
 
 unfoldable pub planCounts : Plan → List ℕ
 planCounts P =

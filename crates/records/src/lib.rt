@@ -1,2 +1,4 @@
 // Bytes to plan and case, and the sets of persons that everything above uses.
+pub mod case;
+pub mod plan;
 pub mod sets;

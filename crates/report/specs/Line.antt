@@ -41,14 +41,15 @@ holding sets p = unionBelow (length sets) (λ i. only (has (getD sets i 0) p) (o
 
 -- "Open fields: variables whose influence holds the person, zero for kind 0"
 abbrev pub openLine : Influence → ℕ → ℕ → ℕ → ℕ → ℕ → Line
-openLine I p kind role block citations = record
-  { person = p
-  ; kind = kind
-  ; role = role
-  ; block = block
-  ; openFacts = holding (I .facts) p
-  ; openDecisions = holding (I .decisions) p
-  ; citations = citations }
+openLine I p kind role block citations = record {
+  person = p;
+  kind = kind;
+  role = role;
+  block = block;
+  openFacts = holding (I .facts) p;
+  openDecisions = holding (I .decisions) p;
+  citations = citations;
+}
 
 -- the line where the block stands, by whether the roles agree; "Otherwise the kind of the first world that has one, else 1"
 abbrev pub lineBy : Influence → ℕ → Bool → Bool → View → ℕ → ℕ → Line

@@ -5,9 +5,19 @@ pub enum Answer {
     // a plan without fault
     Accepted,
     // the counts of lines, events and admissible worlds
-    Answered { lines: usize, events: usize, worlds: u64 },
+    Answered {
+        lines: usize,
+        events: usize,
+        worlds: u64,
+    },
     // refusal number and record
-    Refused { number: u8, record: usize },
+    Refused {
+        number: u8,
+        record: usize,
+    },
     // refusal 11: the count of worlds, and the most allowed
-    TooManyWorlds { count: u64, most: u64 },
+    TooManyWorlds {
+        count: u64,
+        most: u64,
+    },
 }

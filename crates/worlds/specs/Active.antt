@@ -21,13 +21,14 @@ pub record Active : Type 0 where
   pub decisions : ℕ
 
 unfoldable pub flags : Plan → List Bool → ℕ → Active
-flags P vs decisions = record
-  { frozen = below (edgeCount P) (λ i. on vs (edge P i .condition) && not (anyOf (on vs) (edge P i .defeaters)))
-  ; cuts = below (cutCount P) (λ i. on vs (cut P i .condition))
-  ; attachments = below (attachmentCount P) (λ i. on vs (attachment P i .condition))
-  ; bars = below (barCount P) (λ i. on vs (bar P i .condition))
-  ; statuses = below (statusCount P) (λ i. on vs (status P i .condition))
-  ; decisions = decisions }
+flags P vs decisions = record {
+  frozen = below (edgeCount P) (λ i. on vs (edge P i .condition) && not (anyOf (on vs) (edge P i .defeaters)));
+  cuts = below (cutCount P) (λ i. on vs (cut P i .condition));
+  attachments = below (attachmentCount P) (λ i. on vs (attachment P i .condition));
+  bars = below (barCount P) (λ i. on vs (bar P i .condition));
+  statuses = below (statusCount P) (λ i. on vs (status P i .condition));
+  decisions = decisions;
+}
 
 unfoldable pub active : Plan → Values → Active
 active P v = flags P (values P (v .facts)) (v .decisions)

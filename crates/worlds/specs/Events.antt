@@ -48,7 +48,7 @@ module _ (P : Plan) (C : Case) (roster : ℕ) (w : World) where
   unfoldable pub blockedEvents : List (List ℕ)
   blockedEvents =
       flatMap (λ c. listed (edgeCount P) (λ e. standing (w .kept) (w .overlapping) c && blockedBy P (w .active) c e)
-        (λ e. event 3 c e (electionActor (cut P c .election)) (electionEvidence C (cut P c .election)))) (numbers (cutCount P) 0)
+      (λ e. event 3 c e (electionActor (cut P c .election)) (electionEvidence C (cut P c .election)))) (numbers (cutCount P) 0)
 
   -- the lowest of the merged cuts
   unfoldable pub leastOfMerged : ℕ → Bool
@@ -58,8 +58,8 @@ module _ (P : Plan) (C : Case) (roster : ℕ) (w : World) where
   unfoldable pub overlapEvents : List (List ℕ)
   overlapEvents =
       flatMap (λ c. listed (cutCount P)
-        (λ d. (leastOfMerged c && leastOfMerged d) && (meets (cut P c .members) (cut P d .members) && risingLess (cut P c .members) (cut P d .members)))
-        (λ d. event 4 c d 0 0)) (numbers (cutCount P) 0)
+      (λ d. (leastOfMerged c && leastOfMerged d) && (meets (cut P c .members) (cut P d .members) && risingLess (cut P c .members) (cut P d .members)))
+      (λ d. event 4 c d 0 0)) (numbers (cutCount P) 0)
 
   -- "5 attachment: rule, anchor, actor, evidence"
   unfoldable pub attachmentEvents : List (List ℕ)

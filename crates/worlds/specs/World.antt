@@ -141,17 +141,19 @@ abbrev pub blockOf : State → ℕ → ℕ
 blockOf s p = getD (s .blocks) p 0
 
 unfoldable pub firstState : Plan → ℕ → ℕ → Active → List Bool → State
-firstState P roster marks a applied = record
-  { blocks = below 64 (firstBlock P roster marks applied (restSets P a (minus (minus roster marks) (cutMembers P applied))))
-  ; attached = 0
-  ; moved = 0 }
+firstState P roster marks a applied = record {
+  blocks = below 64 (firstBlock P roster marks applied (restSets P a (minus (minus roster marks) (cutMembers P applied))));
+  attached = 0;
+  moved = 0;
+}
 
 -- the members leave their blocks, and come into the anchor's
 unfoldable pub move : ℕ → ℕ → ℕ → State → State
-move i target movers s = record
-  { blocks = below 64 (λ p. cond (has target p) target (minus (blockOf s p) movers))
-  ; attached = union (s .attached) movers
-  ; moved = union (s .moved) (one i) }
+move i target movers s = record {
+  blocks = below 64 (λ p. cond (has target p) target (minus (blockOf s p) movers));
+  attached = union (s .attached) movers;
+  moved = union (s .moved) (one i);
+}
 
 unfoldable pub attach : Plan → ℕ → Active → ℕ → State → State
 attach P marks a i s =
@@ -190,15 +192,16 @@ afterMarks P roster a m =
     let overlapping = overlappingCuts P kept in
     let applied = appliedCuts P a kept overlapping in
     let s = lastState P roster (marked m) a applied in
-    record
-    { active = a
-    ; kept = kept
-    ; overlapping = overlapping
-    ; applied = applied
-    ; marks = m
-    ; state = s
-    ; barred = barredBy P a (s .attached)
-    ; excluded = excludedBy P a }
+    record {
+      active = a;
+      kept = kept;
+      overlapping = overlapping;
+      applied = applied;
+      marks = m;
+      state = s;
+      barred = barredBy P a (s .attached);
+      excluded = excludedBy P a;
+    }
 
 unfoldable pub worldOf : Plan → ℕ → Influence → Active → World
 worldOf P roster I a = afterMarks P roster a (marksOf P roster I a)

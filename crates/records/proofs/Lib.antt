@@ -1,0 +1,3 @@
+pub mod SetLaws
+pub mod Closing
+pub mod LoopLaws
