@@ -1,3 +1,5 @@
 pub mod SetLaws
 pub mod Closing
 pub mod LoopLaws
+pub mod ListLaws
+pub mod NamingLaws

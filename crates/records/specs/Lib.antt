@@ -4,3 +4,5 @@ pub mod Plan
 pub mod Case
 pub mod Decoded
 pub mod Sound
+pub mod Check
+pub mod Named

@@ -1,4 +1,7 @@
 // Bytes to plan and case, and the sets of persons that everything above uses.
 pub mod case;
+pub mod checked;
+pub mod counts;
+pub mod naming;
 pub mod plan;
 pub mod sets;
