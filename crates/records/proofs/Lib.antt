@@ -2,3 +2,4 @@ pub mod SetLaws
 pub mod Closing
 pub mod LoopLaws
 pub mod Rising
+pub mod Members

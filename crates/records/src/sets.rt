@@ -15,11 +15,7 @@ pub fn bit(p: u8) -> u64
 pub fn contains(m: u64, p: u8) -> bool
     ensures { λ r. ⌜ r ≡ has m p ⌝ }
 {
-    if p < 64 {
-        m & bit(p) != 0
-    } else {
-        false
-    }
+    if p < 64 { m & bit(p) != 0 } else { false }
 }
 
 pub fn union(a: u64, b: u64) -> u64
