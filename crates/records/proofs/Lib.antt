@@ -3,3 +3,8 @@ pub mod Closing
 pub mod LoopLaws
 pub mod ListLaws
 pub mod NamingLaws
+pub mod Rising
+pub mod Members
+pub mod ElectionLaws
+pub mod CrossingLaws
+pub mod CheckLaws

@@ -1,6 +1,6 @@
 -- Laws of lists that are walked by their places: tests of all, first faults, lists made from the front of an array. Assumes nothing.
 use mathlib.Core.Path.{_≡_, refl, sym, ap, _∙_, subst}
-use mathlib.Core.Bool.{Bool, true, false, _&&_, cond}
+use mathlib.Core.Bool.{Bool, true, false, _&&_, _||_, not, cond}
 use mathlib.Core.List.{List, [], _∷_, _++_, map}
 use Prim.Native.Nat.{ℕ, zero, suc, _+_, _-_, _≤_, _<_, min}
 use native.Mathlib.Nat.{le-of-suc-le-suc, not-suc-le-zero, min-zero, zero-min, suc-min-suc}
@@ -87,3 +87,22 @@ fault-stops at fs i n v R h t e = sym (rw (drop-cons fs i 0 h, ← t)) ∙ e
 pub fault-ends : {A : Type 0} (at : ℕ) (fs : List ℕ) (i : ℕ) (v R : Verdict A) → length fs ≤ i → firstFault (at + i) (drop i fs) v ≡ R → v ≡ R
 unfolding firstFault
 fault-ends at fs i v R h e = sym (rw (drop-of-length-le fs h)) ∙ e
+
+-- some entry passes, where not all fail
+pub any-not : {A : Type 0} (f : A → Bool) (l : List A) → anyOf f l ≡ not (allOf (λ x. not (f x)) l)
+unfolding allOf anyOf
+any-not f [] = refl
+any-not f (x ∷ xs) = go (f x) (anyOf f xs) (allOf (λ x. not (f x)) xs) (any-not f xs)
+  where
+    go : (b p q : Bool) → p ≡ not q → (b || p) ≡ not (not b && q)
+    go true p q e = refl
+    go false p q e = e
+
+pub all-append : {A : Type 0} (f : A → Bool) (xs ys : List A) → allOf f (xs ++ ys) ≡ (allOf f xs && allOf f ys)
+unfolding allOf
+all-append f [] ys = refl
+all-append f (x ∷ xs) ys = go (f x) (allOf f (xs ++ ys)) (allOf f xs) (allOf f ys) (all-append f xs ys)
+  where
+    go : (b p q r : Bool) → p ≡ (q && r) → (b && p) ≡ ((b && q) && r)
+    go true p q r e = e
+    go false p q r e = refl

@@ -7,10 +7,10 @@ use native.Mathlib.Nat.{le-of-suc-le-suc, not-suc-le-zero}
 use native.Mathlib.Omega.{arith}
 use lib.Dec.{eqb, ltb}
 use lib.ListN.{length, getD, take, drop, length-map, length-append, List·getD-eq-default}
-use Rattle.records.specs.Sets.{allOf}
+use Rattle.records.specs.Sets.{allOf, below, numbers}
 use Rattle.records.specs.Plan as paper
 use Rattle.records.specs.Fields.{fault}
-use Rattle.records.specs.Decoded.{given, nodeBy, factOf, nodeOf, edgeOf, electionOf, cutOf, attachmentOf, barOf, statusOf, planOf}
+use Rattle.records.specs.Decoded.{given, nodeBy, factOf, nodeOf, edgeOf, electionOf, decisionsOf, cutOf, attachmentOf, barOf, statusOf, planOf}
 use Rattle.records.specs.Named.{allUnder, CountsOf}
 use Rattle.records.specs.declared.counts.Counts.{Counts}
 use Rattle.records.specs.declared.plan.Node.{Node}
@@ -20,9 +20,10 @@ use Rattle.records.specs.declared.plan.Attachment.{Attachment}
 use Rattle.records.specs.declared.plan.Bar.{Bar}
 use Rattle.records.specs.declared.plan.Status.{Status}
 use Rattle.records.specs.declared.plan.Plan.{Plan}
-use Rattle.records.proofs.ListLaws.{getD-mapped, getD-front, getD-stay, getD-past}
+use Rattle.records.proofs.ListLaws.{all-mapped, getD-mapped, getD-front, getD-stay, getD-past}
 use Rattle.records.specs.declared.plan.Fact.{Fact}
 use Rattle.records.specs.declared.plan.Election.{Election}
+use Rattle.records.specs.declared.plan.Decisions.{Decisions}
 
 pub neg-sound : (P : paper.Plan) (k s n : ℕ) (is : List ℕ) → 4 ≤ s → ltb n k ≡ paper.nodeSound P k (nodeBy s n is)
 unfolding nodeBy paper.nodeSound
@@ -57,6 +58,14 @@ all-given f true x = go (f x)
     go true = refl
     go false = refl
 all-given f false x = refl
+
+-- the edges of decisions, and a test of all of them
+abbrev pub entries : List ℕ → ℕ → List ℕ
+entries list n = below n (λ i. getD list i 0)
+
+pub all-edges : (f : ℕ → Bool) (d : Decisions) → allOf (λ x. f (x .edge)) (decisionsOf d) ≡ allOf f (entries (d .edges) (d .count))
+unfolding decisionsOf below
+all-edges f d = all-mapped (λ (x : paper.Decision). f (x .edge)) _ (numbers (d .count) 0) ∙ sym (all-mapped f _ (numbers (d .count) 0))
 
 -- ---- the fault of record k, counted from the first node
 

@@ -6,3 +6,5 @@ pub mod Decoded
 pub mod Sound
 pub mod Check
 pub mod Named
+pub mod Crossings
+pub mod Elections

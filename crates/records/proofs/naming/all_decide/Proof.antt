@@ -1,11 +1,8 @@
 -- A loop over the edges of the decisions, left at the first that is no edge. Assumes nothing.
-use Rattle.records.specs.declared.plan.Decisions.{Decisions}
-use Rattle.records.specs.Named.{allUnder, allDecide}
-use Rattle.records.specs.Sets.{numbers, below}
-use Rattle.records.proofs.ListLaws.{all-mapped, all-goes, all-fails, all-ends}
+use Rattle.records.specs.Named.{allUnder}
+use Rattle.records.proofs.ListLaws.{all-goes, all-fails, all-ends}
 use mathlib.Core.Path.{_≡_, refl, sym, _∙_}
 use mathlib.Core.Bool.{true, false}
-use mathlib.Core.List.{List}
 use Prim.Native.Nat.{ℕ, _≤_, _<_, _-_}
 use native.Mathlib.Omega.{arith}
 use lib.Dec.{ltb}
@@ -13,18 +10,10 @@ use lib.ListN.{length, getD, drop}
 use borrow.Author.Needs.{needs}
 use borrow.Author.Tests.{lt-ltb, le-ltb}
 use Rattle.records.specs.Plan as paper
-use Rattle.records.specs.Decoded.{decisionsOf}
+use Rattle.records.proofs.NamingLaws.{entries, all-edges}
 use Rattle.records.proofs.LoopLaws.{length-below, getD-below}
 use Rattle.records.proofs.naming.all_decide.Statement.{statement}
 use Rattle.records.proofs.naming.all_decide.Tie as tie
-
--- the edges of the decisions
-abbrev entries : List ℕ → ℕ → List ℕ
-entries list n = below n (λ i. getD list i 0)
-
-same-edges : (d : Decisions) (edges : ℕ) → allDecide edges (decisionsOf d) ≡ allUnder edges (entries (d .edges) (d .count))
-unfolding decisionsOf below
-same-edges d edges = all-mapped _ _ (numbers (d .count) 0) ∙ sym (all-mapped _ _ (numbers (d .count) 0))
 
 abbrev Inv-loop : tie.InvT-loop
 Inv-loop edges list count i₀ i = (i ≤ count) × (count < 256) × (allUnder edges (drop i (entries list count)) ≡ allUnder edges (entries list count))
@@ -51,7 +40,7 @@ returns c =
     let long : length es ≡ n = length-below n _ in
     let t : ltb (getD es (l .i) 0) (s .edges) ≡ false = rw (getD-below n (λ i. getD (s .decisions .edges) i 0) 0 (l .i) (omega arith), ← c .before .before .entry .ensures, ← c .before .wide2 .ensures .0) (le-ltb _ _ (c .if1 .taken)) in
     all-fails (λ (x : ℕ). ltb x (s .edges)) es (l .i) 0 (allUnder (s .edges) es) (omega arith) t (l .inv .2)
-    ∙ rw (c .before .before .before .before .before .wide .ensures .0) (sym (same-edges (s .decisions) (s .edges)))
+    ∙ rw (c .before .before .before .before .before .wide .ensures .0) (sym (all-edges (λ (x : ℕ). ltb x (s .edges)) (s .decisions)))
 
 add-i : tie.Need-add-i Inv-loop μ-loop
 add-i c = search needs
@@ -73,7 +62,7 @@ returns-2 c =
     let es = entries (s .decisions .edges) n in
     let long : length es ≡ n = length-below n _ in
     all-ends (λ (x : ℕ). ltb x (s .edges)) es (l .i) (allUnder (s .edges) es) (omega arith) (l .inv .2)
-    ∙ rw (c .before .before .wide .ensures .0) (sym (same-edges (s .decisions) (s .edges)))
+    ∙ rw (c .before .before .wide .ensures .0) (sym (all-edges (λ (x : ℕ). ltb x (s .edges)) (s .decisions)))
 
 pub all-decide-spec : {M : Type 1} → statement M
 all-decide-spec =
