@@ -1,3 +1,3 @@
 pub mod Follow
 pub mod Circles
-
+pub mod Similar

@@ -3,17 +3,17 @@ use mathlib.Core.Path.{_≡_, refl, sym, ap, ap₂, _∙_, subst, fun-ext}
 use mathlib.Core.Bool.{Bool, true, false, _&&_, _||_, not, cond, or-true, or-false, and-false, Bool·not-not, true≢false}
 use mathlib.Core.Logic.{_⊎_, inl, inr}
 use mathlib.Core.List.{List, [], _∷_, _++_, map}
-use Prim.Native.Nat.{ℕ, zero, suc, _+_, _<_, _≤_}
+use Prim.Native.Nat.{ℕ, zero, suc, _+_, _/_, _%_, _<_, _≤_}
 use native.Mathlib.Omega.{arith}
 use native.Mathlib.Nat.{not-suc-le-zero, le-of-suc-le-suc}
 use lib.ListN.{length, getD}
 use lib.Dec.{eqb}
 use borrow.Author.Tests.{eqb-true, eqb-false, eq-eqb, not-true}
-use Rattle.records.specs.Sets.{has, one, union, meet, minus, disjoint, meets, subset, only, absorb, pass, passes, closeOf, numbers, below, anyBelow, unionBelow, foldBelow, unionOf}
+use Rattle.records.specs.Sets.{odd, when, members, membersFrom, allOf, has, one, union, meet, minus, disjoint, meets, subset, only, absorb, pass, passes, closeOf, numbers, below, anyBelow, unionBelow, foldBelow, unionOf}
 use Rattle.records.specs.Sound.{All}
-use Rattle.records.proofs.SetLaws.{Within, ext, has-none, has-one, has-union, has-meet, has-minus, of-union, of-minus, in-union-l, in-union-r, disjoint-true, disjoint-false, apart, member}
+use Rattle.records.proofs.SetLaws.{Within, ext, has-none, has-one, has-union, has-meet, has-minus, of-union, of-minus, in-union-l, in-union-r, disjoint-true, disjoint-false, apart, member, lt-or-le, has-zero, has-suc}
 use Rattle.records.proofs.Closing.{Takes, Closed, passes-next}
-use Rattle.records.proofs.LoopLaws.{getD-below, length-below}
+use Rattle.records.proofs.LoopLaws.{getD-below, getD-past, length-below, all-at}
 
 -- ---- tests
 
@@ -279,7 +279,24 @@ twins-at C (s ∷ ss) (t ∷ ts) h (suc i) = twins-at C ss ts (h .1) i
 pub all-below : {A : Type 0} (Q : A → Type 0) (n : ℕ) (f : ℕ → A) → All Q (below n f) → (i : ℕ) → i < n → Q (f i)
 all-below Q n f h i l =
     subst Q (getD-below n f (f i) i l)
-    (Rattle.records.proofs.LoopLaws.all-at Q (below n f) (f i) i h (subst (λ (k : ℕ). i < k) (sym (length-below n f)) l))
+    (all-at Q (below n f) (f i) i h (subst (λ (k : ℕ). i < k) (sym (length-below n f)) l))
+
+numbers-all : {A : Type 0} (Q : A → Type 0) (n k : ℕ) (f : ℕ → A) → ((i : ℕ) → Q (f i)) → All Q (map f (numbers n k))
+unfolding numbers
+numbers-all Q zero k f h = tt
+numbers-all Q (suc n) k f h = (h k, numbers-all Q n (suc k) f h)
+
+pub below-all : {A : Type 0} (Q : A → Type 0) (n : ℕ) (f : ℕ → A) → ((i : ℕ) → Q (f i)) → All Q (below n f)
+unfolding below
+below-all Q n f h = numbers-all Q n 0 f h
+
+-- an entry of two lists below n that are alike there
+pub below-two : {A B : Type 0} (R : A → B → Type 0) (n : ℕ) (f : ℕ → A) (g : ℕ → B) (d : A) (e : B) → R d e → (i : ℕ) → R (f i) (g i) → R (getD (below n f) i d) (getD (below n g) i e)
+below-two R n f g d e z i h = go (lt-or-le i n)
+  where
+    go : (i < n) ⊎ (n ≤ i) → R (getD (below n f) i d) (getD (below n g) i e)
+    go (inl l) = subst (λ x. R x (getD (below n g) i e)) (sym (getD-below n f d i l)) (subst (R (f i)) (sym (getD-below n g e i l)) h)
+    go (inr l) = subst (λ x. R x (getD (below n g) i e)) (sym (getD-past n f d i l)) (subst (R d) (sym (getD-past n g e i l)) z)
 
 pub all-split : {A : Type 0} (Q : A → Type 0) (xs ys : List A) → All Q (xs ++ ys) → All Q xs × All Q ys
 all-split Q [] ys h = (tt, h)
@@ -290,6 +307,27 @@ all-map Q R f [] h = tt
 all-map Q R f (x ∷ xs) h = (f x (h .0), all-map Q R f xs (h .1))
 
 -- ---- loops
+
+-- a test of the persons of a set
+from-same : (k p m : ℕ) (f g : ℕ → Bool) → ((j : ℕ) → has m j ≡ true → f (p + j) ≡ g (p + j)) → allOf f (membersFrom k p m) ≡ allOf g (membersFrom k p m)
+unfolding membersFrom allOf
+from-same zero p m f g h = refl
+from-same (suc k) p m f g h =
+    go (m % 2) refl
+    (from-same k (suc p) (m / 2) f g (λ j e. subst (λ (x : ℕ). f x ≡ g x) (let z : p + suc j ≡ suc p + j = omega arith in z) (h (suc j) (has-suc m j ∙ e))))
+  where
+    rest : List ℕ
+    rest = membersFrom k (suc p) (m / 2)
+
+    go : (d : ℕ) → m % 2 ≡ d → allOf f rest ≡ allOf g rest → allOf f (when (m % 2) p rest) ≡ allOf g (when (m % 2) p rest)
+    go zero e r = subst (λ (x : ℕ). allOf f (when x p rest) ≡ allOf g (when x p rest)) (sym e) r
+    go (suc d) e r =
+        subst (λ (x : ℕ). allOf f (when x p rest) ≡ allOf g (when x p rest)) (sym e)
+        (ap₂ _&&_ (subst (λ (x : ℕ). f x ≡ g x) (let z : p + 0 ≡ p = omega arith in z) (h 0 (has-zero m ∙ ap odd e))) r)
+
+pub members-same : (m : ℕ) (f g : ℕ → Bool) → ((q : ℕ) → has m q ≡ true → f q ≡ g q) → allOf f (members m) ≡ allOf g (members m)
+unfolding members
+members-same m f g h = from-same 64 0 m f g (λ j e. subst (λ (x : ℕ). f x ≡ g x) (let z : j ≡ 0 + j = omega arith in z) (h j e))
 
 pub any-same : (n : ℕ) (f g : ℕ → Bool) → ((i : ℕ) → i < n → f i ≡ g i) → anyBelow n f ≡ anyBelow n g
 unfolding anyBelow
@@ -319,7 +357,7 @@ union-agree C (suc n) f g h = agree-union C (union-agree C n f g (λ i l. h i (o
 pub union-has : (n : ℕ) (f : ℕ → ℕ) (i q : ℕ) → i < n → has (f i) q ≡ true → has (unionBelow n f) q ≡ true
 unfolding unionBelow
 union-has zero f i q l e = absurd (not-suc-le-zero l)
-union-has (suc n) f i q l e = go (Rattle.records.proofs.SetLaws.lt-or-le i n) (union-has n f i q)
+union-has (suc n) f i q l e = go (lt-or-le i n) (union-has n f i q)
   where
     go : (i < n) ⊎ (n ≤ i) → (i < n → has (f i) q ≡ true → has (unionBelow n f) q ≡ true) → has (union (unionBelow n f) (f n)) q ≡ true
     go (inl k) r = in-union-l (unionBelow n f) (f n) .at q (r k e)
