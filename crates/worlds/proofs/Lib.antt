@@ -1,1 +1,3 @@
 pub mod CutsSeen
+pub mod MarksSeen
+pub mod StateSeen
