@@ -1,3 +1,4 @@
 pub mod CutsSeen
 pub mod MarksSeen
 pub mod StateSeen
+pub mod ViewSeen
