@@ -3,15 +3,15 @@ use mathlib.Core.Path.{_≡_, refl, sym, ap, ap₂, _∙_, subst, fun-ext}
 use mathlib.Core.Bool.{Bool, true, false, _&&_, _||_, not, cond, or-true, or-false, and-false, Bool·not-not, true≢false}
 use mathlib.Core.Logic.{_⊎_, inl, inr}
 use mathlib.Core.List.{List, [], _∷_, _++_, map}
-use Prim.Native.Nat.{ℕ, zero, suc, _+_, _/_, _%_, _<_, _≤_}
+use Prim.Native.Nat.{ℕ, zero, suc, _+_, _<_, _≤_}
 use native.Mathlib.Omega.{arith}
 use native.Mathlib.Nat.{not-suc-le-zero, le-of-suc-le-suc}
 use lib.ListN.{length, getD}
 use lib.Dec.{eqb}
 use borrow.Author.Tests.{eqb-true, eqb-false, eq-eqb, not-true}
-use Rattle.records.specs.Sets.{odd, when, members, membersFrom, allOf, has, one, union, meet, minus, disjoint, meets, subset, only, absorb, pass, passes, closeOf, numbers, below, anyBelow, unionBelow, foldBelow, unionOf}
+use Rattle.records.specs.Sets.{has, one, union, meet, minus, disjoint, meets, subset, only, absorb, pass, passes, closeOf, numbers, below, anyBelow, unionBelow, foldBelow, unionOf}
 use Rattle.records.specs.Sound.{All}
-use Rattle.records.proofs.SetLaws.{Within, ext, has-none, has-one, has-union, has-meet, has-minus, of-union, of-minus, in-union-l, in-union-r, disjoint-true, disjoint-false, apart, member, lt-or-le, has-zero, has-suc}
+use Rattle.records.proofs.SetLaws.{Within, ext, has-none, has-one, has-union, has-meet, has-minus, of-union, of-minus, in-union-l, in-union-r, disjoint-true, disjoint-false, apart, member, lt-or-le}
 use Rattle.records.proofs.Closing.{Takes, Closed, passes-next}
 use Rattle.records.proofs.LoopLaws.{getD-below, getD-past, length-below, all-at}
 
@@ -307,27 +307,6 @@ all-map Q R f [] h = tt
 all-map Q R f (x ∷ xs) h = (f x (h .0), all-map Q R f xs (h .1))
 
 -- ---- loops
-
--- a test of the persons of a set
-from-same : (k p m : ℕ) (f g : ℕ → Bool) → ((j : ℕ) → has m j ≡ true → f (p + j) ≡ g (p + j)) → allOf f (membersFrom k p m) ≡ allOf g (membersFrom k p m)
-unfolding membersFrom allOf
-from-same zero p m f g h = refl
-from-same (suc k) p m f g h =
-    go (m % 2) refl
-    (from-same k (suc p) (m / 2) f g (λ j e. subst (λ (x : ℕ). f x ≡ g x) (let z : p + suc j ≡ suc p + j = omega arith in z) (h (suc j) (has-suc m j ∙ e))))
-  where
-    rest : List ℕ
-    rest = membersFrom k (suc p) (m / 2)
-
-    go : (d : ℕ) → m % 2 ≡ d → allOf f rest ≡ allOf g rest → allOf f (when (m % 2) p rest) ≡ allOf g (when (m % 2) p rest)
-    go zero e r = subst (λ (x : ℕ). allOf f (when x p rest) ≡ allOf g (when x p rest)) (sym e) r
-    go (suc d) e r =
-        subst (λ (x : ℕ). allOf f (when x p rest) ≡ allOf g (when x p rest)) (sym e)
-        (ap₂ _&&_ (subst (λ (x : ℕ). f x ≡ g x) (let z : p + 0 ≡ p = omega arith in z) (h 0 (has-zero m ∙ ap odd e))) r)
-
-pub members-same : (m : ℕ) (f g : ℕ → Bool) → ((q : ℕ) → has m q ≡ true → f q ≡ g q) → allOf f (members m) ≡ allOf g (members m)
-unfolding members
-members-same m f g h = from-same 64 0 m f g (λ j e. subst (λ (x : ℕ). f x ≡ g x) (let z : j ≡ 0 + j = omega arith in z) (h j e))
 
 pub any-same : (n : ℕ) (f g : ℕ → Bool) → ((i : ℕ) → i < n → f i ≡ g i) → anyBelow n f ≡ anyBelow n g
 unfolding anyBelow

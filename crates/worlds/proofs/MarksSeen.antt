@@ -8,7 +8,8 @@ use lib.Dec.{eqb, ltb}
 use Rattle.records.specs.Sets.{has, one, union, subset, only, size, members, below, allOf, unionOf, unionBelow, closeOf}
 use Rattle.records.specs.Plan.{Plan}
 use Rattle.records.specs.Sound.{All}
-use Rattle.records.proofs.Local.{which, Inside, Outside, outer, Agree, Twin, near, far, Twins, Weak, weak, weak-only, in-only, in-single, out-only, out-not, agree-refl, agree-twin, agree-same, twin-only, twin-near, twins-below, twins-self, below-all, members-same, union-agree, unionOf-agree, close-in, close-out, close-agree}
+use Rattle.records.proofs.MemberLaws.{members-same}
+use Rattle.records.proofs.Local.{which, Inside, Outside, outer, Agree, Twin, near, far, Twins, Weak, weak, weak-only, in-only, in-single, out-only, out-not, agree-refl, agree-twin, agree-same, twin-only, twin-near, twins-below, twins-self, below-all, union-agree, unionOf-agree, close-in, close-out, close-agree}
 use Rattle.expressions.specs.Rules.{edgeCount, cutCount, edge, cut, pair, ruleSets, chained}
 use Rattle.expressions.specs.Nodes.{on}
 use Rattle.expressions.specs.Variables.{Influence}
