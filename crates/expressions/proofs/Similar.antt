@@ -167,3 +167,7 @@ module _ (F : Frame) (p : ℕ) (bs cs : List Bound) (alike : BoundAlike F p bs c
   pub decisions-twins : Twins C (influence F bs .decisions) (influence F cs .decisions)
   unfolding influence
   decisions-twins = twins-below C (decisionInfluence F) (decisionInfluence F) (decisionCount P) decision-twin
+
+  pub influence-twins : Twins C (influence F bs .facts ++ influence F bs .decisions) (influence F cs .facts ++ influence F cs .decisions)
+  influence-twins =
+      twins-append C (influence F bs .facts) (influence F cs .facts) (influence F bs .decisions) (influence F cs .decisions) facts-twins decisions-twins

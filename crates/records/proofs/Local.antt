@@ -250,9 +250,10 @@ twins-append C (a ∷ us) (b ∷ vs) cs ds h k = (h .0, twins-append C us vs cs 
 twins-numbers : (C : ℕ → Bool) (f g : ℕ → ℕ) (n k : ℕ) → ((i : ℕ) → i < n → Twin C (f (k + i)) (g (k + i))) → Twins C (map f (numbers n k)) (map g (numbers n k))
 unfolding numbers
 twins-numbers C f g zero k h = tt
-twins-numbers C f g (suc n) k h =
-    (subst (λ (i : ℕ). Twin C (f i) (g i)) (let z : k + 0 ≡ k = omega arith in z) (h 0 (omega arith)),
-    twins-numbers C f g n (suc k) (λ i l. subst (λ (j : ℕ). Twin C (f j) (g j)) (let z : k + suc i ≡ suc k + i = omega arith in z) (h (suc i) (omega arith))))
+twins-numbers C f g (suc n) k h = (
+  subst (λ (i : ℕ). Twin C (f i) (g i)) (let z : k + 0 ≡ k = omega arith in z) (h 0 (omega arith)),
+  twins-numbers C f g n (suc k) (λ i l. subst (λ (j : ℕ). Twin C (f j) (g j)) (let z : k + suc i ≡ suc k + i = omega arith in z) (h (suc i) (omega arith))),
+)
 
 pub twins-below : (C : ℕ → Bool) (f g : ℕ → ℕ) (n : ℕ) → ((i : ℕ) → i < n → Twin C (f i) (g i)) → Twins C (below n f) (below n g)
 unfolding below

@@ -1,1 +1,4 @@
 pub mod SameViews
+pub mod LinesAt
+pub mod Answered
+pub mod Privacy
