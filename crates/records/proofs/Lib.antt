@@ -2,4 +2,5 @@ pub mod SetLaws
 pub mod Closing
 pub mod LoopLaws
 pub mod Rising
-pub mod Members
+pub mod MemberLaws
+pub mod Local

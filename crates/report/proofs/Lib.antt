@@ -1,1 +1,5 @@
 pub mod Starred
+pub mod SameViews
+pub mod LinesAt
+pub mod Answered
+pub mod Privacy

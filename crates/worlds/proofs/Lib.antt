@@ -1,1 +1,5 @@
 pub mod MarkLaws
+pub mod CutsSeen
+pub mod MarksSeen
+pub mod StateSeen
+pub mod ViewSeen
