@@ -1,3 +1,9 @@
 pub mod SetLaws
 pub mod Closing
 pub mod LoopLaws
+pub mod Every
+pub mod FieldLaws
+pub mod ReadLaws
+pub mod PlanParts
+pub mod Accepted
+pub mod AcceptedCase
