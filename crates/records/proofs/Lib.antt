@@ -7,3 +7,5 @@ pub mod ReadLaws
 pub mod PlanParts
 pub mod Accepted
 pub mod AcceptedCase
+pub mod Rising
+pub mod Members

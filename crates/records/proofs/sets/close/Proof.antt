@@ -1,0 +1,42 @@
+-- `sets::close`: each pass keeps the closing, and lessens the sets that are not inside. Assumes nothing.
+use mathlib.Core.Path.{_≡_, refl, sym, ap, _∙_}
+use borrow.Author.Needs.{needs}
+use Rattle.records.specs.Sets.{pass, closeOf}
+use Rattle.records.proofs.Closing.{left, left-drop, close-pass, close-same, fixed-closed}
+use Rattle.records.proofs.SetLaws.{along}
+use Rattle.records.proofs.sets.close.Statement.{statement}
+use Rattle.records.proofs.sets.close.Tie as tie
+
+abbrev Inv-loop : tie.InvT-loop
+Inv-loop sets seed m₀ m = closeOf sets m ≡ closeOf sets seed
+
+abbrev μ-loop : tie.MeasureT-loop
+μ-loop sets seed m₀ m = left sets m
+
+loop-holds : tie.Need-loop-holds Inv-loop μ-loop
+loop-holds c = refl
+
+pass-requires : tie.Need-pass-requires Inv-loop μ-loop
+pass-requires c κs = search needs
+
+returns : tie.Need-returns Inv-loop μ-loop
+returns c =
+    let l = c .before .before in
+    let ss = l .before .before .args .sets .now in
+    sym (close-same ss (l .loop .m) (fixed-closed ss (l .loop .m) (sym (c .before .pass .ensures) ∙ c .if1 .taken))) ∙ l .loop .inv
+
+loop-less : tie.Need-loop-less Inv-loop μ-loop
+loop-less c =
+    let l = c .before .before in
+    let ss = l .before .before .args .sets .now in
+    left-drop ss (l .loop .m) (c .before .pass .result) (λ e. c .if1 .left (c .before .pass .ensures ∙ e)) (along (sym (c .before .pass .ensures)))
+
+loop-again : tie.Need-loop-again Inv-loop μ-loop
+loop-again c =
+    let l = c .before .before in
+    let ss = l .before .before .args .sets .now in
+    ap (closeOf ss) (c .before .pass .ensures) ∙ close-pass ss (l .loop .m) ∙ l .loop .inv
+
+pub close-spec : {M : Type 1} → statement M
+close-spec =
+    tie.close (tie.spec Inv-loop μ-loop loop-holds pass-requires returns loop-less loop-again)

@@ -1,0 +1,12 @@
+-- `sets::disjoint`: `a & b == 0`. Assumes nothing.
+use mathlib.Core.Path.{refl}
+use Rattle.records.specs.Sets.{disjoint, meet}
+use Rattle.records.proofs.sets.disjoint.Statement.{statement}
+use Rattle.records.proofs.sets.disjoint.Tie as tie
+
+returns : tie.Need-returns
+unfolding disjoint meet
+returns c = refl
+
+pub disjoint-spec : {M : Type 1} → statement M
+disjoint-spec = tie.close (tie.spec returns)

@@ -1,0 +1,10 @@
+-- `sets::minus`: `a & !b` leaves out what is in b. Assumes nothing.
+use Rattle.records.proofs.SetLaws.{and-not}
+use Rattle.records.proofs.sets.minus.Statement.{statement}
+use Rattle.records.proofs.sets.minus.Tie as tie
+
+returns : tie.Need-returns
+returns c = and-not 64 (c .args .a) (c .args .b) (c .fits .a .fits) (c .fits .b .fits)
+
+pub minus-spec : {M : Type 1} → statement M
+minus-spec = tie.close (tie.spec returns)
