@@ -1,6 +1,7 @@
 pub mod SetLaws
 pub mod Closing
 pub mod LoopLaws
+pub mod BelowLaws
 pub mod Every
 pub mod FieldLaws
 pub mod ReadLaws
