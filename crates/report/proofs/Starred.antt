@@ -8,7 +8,7 @@ use Rattle.records.specs.Sets.{has, one, union, meet, minus, disjoint, meets, s
 use Rattle.records.specs.Fields.{byteAt, bytesAt, repeat, little, fieldAt, fieldsAt, recordAt, readFrom, firstFault}
 use Rattle.records.specs.Plan.{planFormats, nodeOf, electionOf, decisionsOf, addToPlan, planCounts, isBoolean, rises, factsRise, decidedOnce, unresolvedIn, unresolved, judgePlan, planRecords, eachFrom, getFact, nodeSound, edgeSound, electionSound, cutSound, attachmentSound, namingFaults, crosses, crossingsDecided, sameElection, electionFaults, planFaults, checkedPlan}
 use Rattle.records.specs.Case.{caseFormats, observationsOf, addToCase, caseCounts, judgeCase, caseRecords, relationSound, caseNamingFaults, readCase, caseHeading}
-use Rattle.expressions.specs.Rules.{edge, cut, attachment, bar, status, pair, span, ruleSets, chained}
+use Rattle.expressions.specs.Rules.{rulePersons, edge, cut, attachment, bar, status, pair, span, ruleSets, chained}
 use Rattle.expressions.specs.Nodes.{value, valuesFrom, values, uses, usesFrom, nodeUses}
 use Rattle.expressions.specs.Influence.{openIn, openBelow, openDecisions, openDecision, decisionTouch, edgeUses, cutUses, attachmentUses, barUses, statusUses, usersOf, constraintUses, boundFacts, touched, touch, touches, decisionTouches, joins, circle, touchesCircle}
 use Rattle.expressions.specs.Bindings.{evidenceOf, valuesSeen, weighed, elections, defaultOf, boundBoolean, inScope, boundRelation, bindingOf, bindings, tookDefault, familyFaults, booleanFault, booleanFaults, bindable}
@@ -19,7 +19,7 @@ use Rattle.worlds.specs.View.{roleOf, edgeCitations, leads, cutCitations, attac
 use Rattle.worlds.specs.Events.{littleBytes, event, listed, frozenEvents, appliedEvents, blockedEvents, leastOfMerged, overlapEvents, attachmentEvents, barEvents, statusEvents, discretionEvents, eventsOf}
 use Rattle.report.specs.Line.{lineBytes, firstKind, holding, lineOver, lineIn}
 use Rattle.report.specs.EventList.{insert, rising, defaultEvents}
-use Rattle.report.specs.Operations.{Outcome, Told, told, check, rulePersons, mismatched, headingFault, tooMany, counted, bound, opened, written, influences, allWorlds, linesOver, eventsOver, linesOf, answerReady, answer, showFrom, show}
+use Rattle.report.specs.Operations.{Outcome, Told, told, check, mismatched, headingFault, tooMany, counted, bound, opened, written, influences, allWorlds, linesOver, eventsOver, linesOf, answerReady, answer, showFrom, show}
 
 -- ---- records as bytes
 

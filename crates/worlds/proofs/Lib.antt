@@ -3,3 +3,5 @@ pub mod CutsSeen
 pub mod MarksSeen
 pub mod StateSeen
 pub mod ViewSeen
+pub mod FirstBlocks
+pub mod Partition
