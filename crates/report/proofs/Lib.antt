@@ -4,4 +4,8 @@ pub mod Answered
 pub mod LinePrivate
 pub mod Private
 pub mod Privacy
+pub mod Places
 pub mod Starred
+pub mod Weaker
+pub mod Sanity
+pub mod Needed

@@ -57,7 +57,7 @@ case-private P C₁ C₂ h k p r t =
     ∙ ap (λ (F : Frame). lineOf F (bindings P C₂) p) (same-frame P C₁ C₂ h k))
 
 -- the bytes of the i-th roster person in the lines of an answered case
-line-bytes : (plan case : List ℕ) (l e : ℕ) (P : Plan) (C : Case) → checkedPlan plan ≡ fine P → readCase P case ≡ fine C
+pub line-bytes : (plan case : List ℕ) (l e : ℕ) (P : Plan) (C : Case) → checkedPlan plan ≡ fine P → readCase P case ≡ fine C
     → told (answer plan case l e .answer) .refusal ≡ 0 → (i : ℕ) → i < size (caseHeading C .roster)
     → take 29 (drop (29 * i) (answer plan case l e .lines)) ≡ lineBytes (lineFor P C (getD (members (caseHeading C .roster)) i 64))
 line-bytes plan case l e P C accepted read answered i h =
