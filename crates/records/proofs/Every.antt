@@ -4,6 +4,7 @@ use mathlib.Core.Bool.{Bool, true, false, _&&_, cond, false≢true}
 use mathlib.Core.List.{List, [], _∷_, _++_, map}
 use Prim.Native.Nat.{ℕ, zero, suc, _≤_, _<_}
 use native.Mathlib.Omega.{arith}
+use lib.ListN.{getD}
 use lib.Dec.{ltb}
 use borrow.Author.Tests.{ltb-true}
 use Rattle.records.specs.Sets.{allOf}
@@ -33,6 +34,16 @@ all-parts Q (x ∷ xs) ys h =
 pub all-of-map : {A B : Type 0} (f : A → B) (Q : B → Type 0) (xs : List A) → All Q (map f xs) → All (λ x. Q (f x)) xs
 all-of-map f Q [] h = tt
 all-of-map f Q (x ∷ xs) h = (h .0, all-of-map f Q xs (h .1))
+
+pub all-map : {A B : Type 0} (f : A → B) (Q : B → Type 0) → ((x : A) → Q (f x)) → (xs : List A) → All Q (map f xs)
+all-map f Q h [] = tt
+all-map f Q h (x ∷ xs) = (h x, all-map f Q h xs)
+
+-- an entry, or what stands for one past the end
+pub all-getD : {A : Type 0} (Q : A → Type 0) (xs : List A) (d : A) → All Q xs → Q d → (i : ℕ) → Q (getD xs i d)
+all-getD Q [] d h k i = k
+all-getD Q (x ∷ xs) d h k zero = h .0
+all-getD Q (x ∷ xs) d h k (suc i) = all-getD Q xs d (h .1) k i
 
 pub both : (a b : Bool) → (a && b) ≡ true → (a ≡ true) × (b ≡ true)
 both true b e = (refl, e)
