@@ -9,4 +9,5 @@ pub mod PlanParts
 pub mod Accepted
 pub mod AcceptedCase
 pub mod Rising
-pub mod Members
+pub mod MemberLaws
+pub mod Local

@@ -3,3 +3,7 @@ pub mod LineBytes
 pub mod OpenedLaws
 pub mod LineBlocks
 pub mod Blocks
+pub mod SameViews
+pub mod LinesAt
+pub mod Answered
+pub mod Privacy
