@@ -1,27 +1,29 @@
 -- What is read out of a buffer that was filled with lines: the line's own person and block, or nothing past the last. Assumes nothing.
-use mathlib.Core.Path.{_≡_, refl, sym, ap, ap₂, _∙_, subst}
-use mathlib.Core.List.{List, [], _∷_, _++_, map, flatMap, append-assoc}
+use mathlib.Core.Path.{_≡_, refl, sym, ap, _∙_, subst}
+use mathlib.Core.List.{List, [], _∷_, _++_, map}
 use mathlib.Core.Logic.{_⊎_, inl, inr, ⊎-elim}
-use Prim.Native.Nat.{ℕ, zero, suc, _+_, _*_, _-_, _/_, _%_, _^_, _<_, zero-le}
+use Prim.Native.Nat.{ℕ, zero, suc, _+_, _*_, _-_, _/_, _%_, _^_, _≤_, _<_}
 use native.Mathlib.Nat.{pow-suc}
 use native.Mathlib.Omega.{arith}
-use lib.ListN.{length, getD, take, drop, replicate, length-append}
-use lib.Seq.{drop-append-add, take-at}
+use lib.ListN.{length, getD, take, drop, replicate, List·getD-eq-default}
+use lib.Seq.{take-at}
 use Rattle.records.specs.Fields.{little}
 use Rattle.records.specs.Sound.{All}
+use Rattle.records.proofs.SetLaws.{lt-or-le}
 use Rattle.worlds.specs.Events.{littleBytes}
 use Rattle.report.specs.Line.{Line, lineBytes, lineLength, bareLine}
 use Rattle.report.specs.LineAt.{lineAt, personAt, blockAt}
 use Rattle.report.specs.Operations.{filled}
+use Rattle.report.proofs.LinesAt.{run, line-at, past-lines}
 
 -- ---- numbers as bytes
 
-pub length-little : (n m : ℕ) → length (littleBytes n m) ≡ n
+length-little : (n m : ℕ) → length (littleBytes n m) ≡ n
 unfolding littleBytes
 length-little zero m = refl
 length-little (suc n) m = ap suc (length-little n (m / 256))
 
-pub little-bytes : (n m : ℕ) → m < 256 ^ n → little (littleBytes n m) ≡ m
+little-bytes : (n m : ℕ) → m < 256 ^ n → little (littleBytes n m) ≡ m
 unfolding littleBytes little
 little-bytes zero m h = omega arith
 little-bytes (suc n) m h =
@@ -61,44 +63,17 @@ zeros-little (b ∷ bs) h =
 abbrev pub none : Line
 none = bareLine 0 0
 
-pub length-line : (l : Line) → length (lineBytes l) ≡ lineLength
-unfolding lineBytes
-length-line l =
-    let a = littleBytes 8 (l .block) in
-    let b = littleBytes 8 (l .openFacts) in
-    let c = littleBytes 2 (l .openDecisions) in
-    let d = littleBytes 8 (l .citations) in
-    let e = length-append a (b ++ (c ++ d)) in
-    let f = length-append b (c ++ d) in
-    let g = length-append c d in
-    let p = length-little 8 (l .block) in
-    let q = length-little 8 (l .openFacts) in
-    let r = length-little 2 (l .openDecisions) in
-    let t = length-little 8 (l .citations) in
-    ap (λ (n : ℕ). suc (suc (suc n))) (let w : length (a ++ (b ++ (c ++ d))) ≡ 26 = omega arith in w)
-
--- at line k stands its own line, or zeros
-Placed : List Line → List ℕ → ℕ → Type 0
-Placed ls s k = ((rest : List ℕ) × (lineAt s k ≡ lineBytes (getD ls k none) ++ rest)) ⊎ ((getD ls k none ≡ none) × Zeros (lineAt s k))
-
-placed : (ls : List Line) (z : List ℕ) → Zeros z → (k : ℕ) → Placed ls (flatMap (λ p. p) (map lineBytes ls) ++ z) k
-unfolding Placed lineAt flatMap
-placed [] z h k = inr (refl, zeros-drop (lineLength * k) z h)
-placed (l ∷ ls) z h zero = inl (flatMap (λ p. p) (map lineBytes ls) ++ z, append-assoc (lineBytes l) (flatMap (λ p. p) (map lineBytes ls)) z)
-placed (l ∷ ls) z h (suc k) = ⊎-elim (λ r. inl (r .0, there ∙ r .1)) (λ r. inr (r .0, subst Zeros (sym there) (r .1))) (placed ls z h k)
+-- bytes of a line of which nothing is written
+blank : (s : List ℕ) → Zeros s → (getD s 0 0 ≡ 0) × (little (take 8 (drop 3 s)) ≡ 0)
+blank s z = (head s z, zeros-little (take 8 (drop 3 s)) (zeros-take 8 (drop 3 s) (zeros-drop 3 s z)))
   where
-    later : List ℕ
-    later = flatMap (λ p. p) (map lineBytes ls) ++ z
-
-    there : drop (lineLength * suc k) ((lineBytes l ++ flatMap (λ p. p) (map lineBytes ls)) ++ z) ≡ drop (lineLength * k) later
-    there =
-        ap₂ (λ (n : ℕ) (s : List ℕ). drop n s) (let w : lineLength * suc k ≡ lineLength + lineLength * k = omega arith in w ∙ ap (λ (n : ℕ). n + lineLength * k) (sym (length-line l)))
-        (append-assoc (lineBytes l) (flatMap (λ p. p) (map lineBytes ls)) z)
-        ∙ drop-append-add (lineBytes l) later (lineLength * k)
+    head : (s : List ℕ) → Zeros s → getD s 0 0 ≡ 0
+    head [] h = refl
+    head (b ∷ bs) h = h .0
 
 pub zeros-block : (s : List ℕ) (k : ℕ) → Zeros s → blockAt s k ≡ 0
 unfolding blockAt lineAt
-zeros-block s k z = zeros-little (take 8 (drop 3 (drop (lineLength * k) s))) (zeros-take 8 (drop 3 (drop (lineLength * k) s)) (zeros-drop 3 (drop (lineLength * k) s) (zeros-drop (lineLength * k) s z)))
+zeros-block s k z = blank (take lineLength (drop (lineLength * k) s)) (zeros-take lineLength (drop (lineLength * k) s) (zeros-drop (lineLength * k) s z)) .1
 
 module _ (room : ℕ) (ls : List Line) (k : ℕ) where
   abbrev s : List ℕ
@@ -107,30 +82,30 @@ module _ (room : ℕ) (ls : List Line) (k : ℕ) where
   abbrev l : Line
   l = getD ls k none
 
-  at : Placed ls s k
-  at =
-      let left = room - length (flatMap (λ p. p) (map lineBytes ls)) in
-      placed ls (replicate left 0) (zeros left) k
+  -- at line k stands its own line, or nothing
+  placed : (lineAt s k ≡ lineBytes l) ⊎ ((l ≡ none) × Zeros (lineAt s k))
+  unfolding lineAt
+  placed = ⊎-elim (λ h. inl (line-at room ls k none h)) (λ h. inr (List·getD-eq-default ls none h, past h)) (lt-or-le k (length ls))
+    where
+      left : ℕ
+      left = room - length (run ls)
+
+      past : length ls ≤ k → Zeros (take lineLength (drop (lineLength * k) s))
+      past h =
+          let r = past-lines ls (replicate left 0) k h in
+          zeros-take lineLength (drop (lineLength * k) s) (subst Zeros (sym (r .1)) (zeros-drop (r .0) (replicate left 0) (zeros left)))
 
   pub person-read : personAt (filled room (map lineBytes ls)) k ≡ getD ls k none .person
-  unfolding personAt lineBytes Placed
-  person-read = ⊎-elim (λ r. ap (λ (s : List ℕ). getD s 0 0) (r .1)) (λ r. head (lineAt s k) (r .1) ∙ ap (λ (l : Line). l .person) (sym (r .0))) at
-    where
-      head : (s : List ℕ) → Zeros s → getD s 0 0 ≡ 0
-      head [] h = refl
-      head (b ∷ bs) h = h .0
+  unfolding personAt lineBytes
+  person-read =
+      ⊎-elim (λ e. ap (λ (s : List ℕ). getD s 0 0) e) (λ r. blank (lineAt s k) (r .1) .0 ∙ ap (λ (l : Line). l .person) (sym (r .0))) placed
 
   pub block-read : getD ls k none .block < 2 ^ 64 → blockAt (filled room (map lineBytes ls)) k ≡ getD ls k none .block
-  unfolding blockAt lineBytes Placed
-  block-read h = ⊎-elim (λ r. ap (λ (s : List ℕ). little (take 8 (drop 3 s))) (r .1) ∙ own (r .0)) (λ r. nothing (lineAt s k) (r .1) ∙ ap (λ (l : Line). l .block) (sym (r .0))) at
+  unfolding blockAt lineBytes
+  block-read h =
+      ⊎-elim (λ e. ap (λ (s : List ℕ). little (take 8 (drop 3 s))) e ∙ own) (λ r. blank (lineAt s k) (r .1) .1 ∙ ap (λ (l : Line). l .block) (sym (r .0))) placed
     where
-      after : List ℕ
-      after = littleBytes 8 (l .openFacts) ++ (littleBytes 2 (l .openDecisions) ++ littleBytes 8 (l .citations))
-
-      own : (rest : List ℕ) → little (take 8 (drop 3 (lineBytes l ++ rest))) ≡ l .block
-      own rest =
-          ap little (ap (take 8) (append-assoc (littleBytes 8 (l .block)) after rest) ∙ take-at (littleBytes 8 (l .block)) (after ++ rest) 8 (length-little 8 (l .block)))
+      own : little (take 8 (drop 3 (lineBytes l))) ≡ l .block
+      own =
+          ap little (take-at (littleBytes 8 (l .block)) (littleBytes 8 (l .openFacts) ++ (littleBytes 2 (l .openDecisions) ++ littleBytes 8 (l .citations))) 8 (length-little 8 (l .block)))
           ∙ little-bytes 8 (l .block) h
-
-      nothing : (s : List ℕ) → Zeros s → little (take 8 (drop 3 s)) ≡ 0
-      nothing s z = zeros-little (take 8 (drop 3 s)) (zeros-take 8 (drop 3 s) (zeros-drop 3 s z))

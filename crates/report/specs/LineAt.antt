@@ -5,9 +5,9 @@ use lib.ListN.{getD, take, drop}
 use Rattle.records.specs.Fields.{little}
 use Rattle.report.specs.Line.{lineLength}
 
--- the buffer from line k on
+-- the bytes of line k
 unfoldable pub lineAt : List ℕ → ℕ → List ℕ
-lineAt s k = drop (lineLength * k) s
+lineAt s k = take lineLength (drop (lineLength * k) s)
 
 unfoldable pub personAt : List ℕ → ℕ → ℕ
 personAt s k = getD (lineAt s k) 0 0
