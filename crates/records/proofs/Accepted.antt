@@ -1,8 +1,8 @@
 -- An accepted plan is sound. Assumes nothing.
 use mathlib.Core.Path.{_≡_, refl}
 use mathlib.Core.Bool.{Bool, true, false, _&&_, _||_, not, cond}
-use mathlib.Core.List.{List, [], _∷_, _++_}
-use mathlib.Core.Logic.{_⊎_, inl, inr}
+use mathlib.Core.List.{List, []}
+use mathlib.Core.Logic.{inl}
 use Prim.Native.Nat.{ℕ, _+_, _-_, _≤_}
 use native.Mathlib.Omega.{arith}
 use lib.ListN.{length, getD}
@@ -10,12 +10,12 @@ use lib.Dec.{eqb, ltb}
 use borrow.Author.Tests.{ltb-false, eqb-false}
 use Rattle.records.specs.Sets.{allOf}
 use Rattle.records.specs.Fields.{Raw, field, num, formatOf, fine, fault}
-use Rattle.records.specs.Plan.{Plan, Heading, Fact, planFormats, nodeOf, edgeOf, cutOf, attachmentOf, addToPlan, planCounts, factsRise, decidedOnce, unresolved, judgePlan, emptyPlan, planRecords, eachFrom, faults, nodeSound, edgeSound, cutSound, attachmentSound, nodeNumber, namingFaults, crossingsDecided, electionFaults, electionRecords, nodesAt, cutsAt, planFaults, checkedPlan}
+use Rattle.records.specs.Plan.{Plan, Heading, planFormats, nodeOf, edgeOf, cutOf, attachmentOf, addToPlan, planCounts, factsRise, decidedOnce, unresolved, judgePlan, emptyPlan, planRecords, eachFrom, faults, nodeSound, edgeSound, cutSound, attachmentSound, nodeNumber, namingFaults, crossingsDecided, electionFaults, electionRecords, nodesAt, cutsAt, planFaults, checkedPlan}
 use Rattle.records.specs.Sound.{All, SoundEdge, SoundCut, SoundAttachment, SoundBar, SoundStatus, SoundFact, Sound}
 use Rattle.records.proofs.Every.{all-any, exactly-one, all-both, all-parts, all-tested}
 use Rattle.records.proofs.FieldLaws.{InFormat}
 use Rattle.records.proofs.PlanParts.{factFrom, barFrom, statusFrom, nodes-sound, edge-sound, cut-sound, attachment-sound, bar-sound, status-sound, fact-sound}
-use Rattle.records.proofs.ReadLaws.{OnFine, fine-then, of-fine, past-faults, faultless, Judged, Kept, read-keeps, Kind, kind-none, kind-joined, each-sound}
+use Rattle.records.proofs.ReadLaws.{fine-then, of-fine, past-faults, faultless, Judged, Kept, read-keeps, Kind, kind-none, kind-joined, each-sound}
 
 -- ---- what each record keeps
 

@@ -10,7 +10,7 @@ use lib.Dec.{eqb, ltb}
 use borrow.Author.Tests.{ltb-true, ltb-false, eqb-false}
 use Rattle.records.specs.Fields.{Raw, field, num, formatOf, evidence, upTo, list, fine}
 use Rattle.records.specs.Plan.{Plan, booleanFact, faults}
-use Rattle.records.specs.Case.{Case, CaseHeading, Family, Observation, Boolean, Relation, caseFormats, observationsOf, headingOf, addToCase, caseCounts, judgeCase, emptyCase, caseRecords, relationSound, caseNamingFaults, booleansAt, readCase}
+use Rattle.records.specs.Case.{Case, Family, Observation, Boolean, Relation, caseFormats, observationsOf, headingOf, addToCase, caseCounts, judgeCase, emptyCase, caseRecords, relationSound, caseNamingFaults, booleansAt, readCase}
 use Rattle.records.specs.Sound.{All, SoundHeading, SoundObservation, SoundBoolean, SoundRelation, SoundCase}
 use Rattle.records.proofs.Every.{all-any, exactly-one, all-then, all-parts}
 use Rattle.records.proofs.FieldLaws.{InFormat, Held, held, byte-top, byte-numbers, mask-below, most-top, pairs, list-pairs}

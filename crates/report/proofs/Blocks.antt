@@ -3,19 +3,18 @@ use mathlib.Core.Path.{_≡_, refl, sym, ap, _∙_, subst₂}
 use mathlib.Core.Bool.{true, false≢true}
 use mathlib.Core.List.{List, [], _∷_, map}
 use mathlib.Core.Logic.{_⊎_, inl, inr, ⊎-elim}
-use Prim.Native.Nat.{ℕ, zero, suc, _<_, _^_}
+use Prim.Native.Nat.{ℕ, zero, suc}
 use lib.ListN.{length, replicate, drop}
-use Rattle.records.specs.Sets.{has, minus, disjoint, subset, members}
+use Rattle.records.specs.Sets.{has, minus, disjoint, members}
 use Rattle.records.specs.Plan.{Plan}
 use Rattle.records.specs.Case.{Case, caseHeading}
 use Rattle.records.specs.Sound.{All}
-use Rattle.records.proofs.SetLaws.{Within, has-none, apart, of-minus}
+use Rattle.records.proofs.SetLaws.{has-none, apart, of-minus}
 use Rattle.records.proofs.Every.{all-map}
-use Rattle.expressions.specs.Rules.{rulePersons}
 use Rattle.expressions.specs.Bindings.{Bound, frameOf}
 use Rattle.expressions.specs.Variables.{Values, worlds}
 use Rattle.worlds.specs.Active.{active}
-use Rattle.worlds.specs.World.{World, State, Marks, marked, blockOf, marksOf, afterMarks, worldOf}
+use Rattle.worlds.specs.World.{World, Marks, marked, blockOf, marksOf, afterMarks, worldOf}
 use Rattle.worlds.specs.Events.{eventsOf}
 use Rattle.worlds.proofs.FirstBlocks.{Blocks}
 use Rattle.worlds.proofs.Partition.{world-blocks}
