@@ -58,8 +58,11 @@ all-tested f (x ∷ xs) e =
     (t .0, all-tested f xs (t .1))
 
 -- numbers that a test lets through
+pub all-less : (bound : ℕ) (v : List ℕ) → All (λ i. ltb i bound ≡ true) v → All (λ i. i < bound) v
+all-less bound = all-then (λ i. ltb i bound ≡ true) (λ i. i < bound) (λ i t. ltb-true i bound t)
+
 pub named : (most bound top : ℕ) (v : List ℕ) → Numbers most top v → allOf (λ i. ltb i bound) v ≡ true → Numbers most bound v
-named most bound top v n e = (n .0, all-then (λ i. ltb i bound ≡ true) (λ i. i < bound) (λ i t. ltb-true i bound t) v (all-tested (λ i. ltb i bound) v e))
+named most bound top v n e = (n .0, all-less bound v (all-tested (λ i. ltb i bound) v e))
 
 pub exactly-one : (n : ℕ) → n ≤ 1 → (n ≡ 0 → ⊥) → n ≡ 1
 exactly-one n l z = omega arith
