@@ -10,7 +10,9 @@ use Rattle.records.specs.Plan.{Plan, getFact}
 use Rattle.records.specs.Sound.{All}
 use Rattle.records.proofs.SetLaws.{Within, ext, has-union, has-none, in-union-l, in-union-r, thru, within-refl, lt-or-le, meeting}
 use Rattle.records.proofs.Closing.{close-closed, close-within, in-one}
-use Rattle.records.proofs.Local.{Inside, Outside, outer, Side, Weak, in-zero, weak, single-side, side-of, closed-weak, all-below, all-split, union-has, only-has}
+use Rattle.records.proofs.Local.{Inside, Outside, outer, Side, Weak, in-zero, weak, single-side, side-of, closed-weak, all-below}
+use Rattle.records.proofs.Every.{all-parts}
+use Rattle.records.proofs.BelowLaws.{in-below, in-only}
 use Rattle.expressions.specs.Rules.{edgeCount, cutCount, attachmentCount, barCount, statusCount, factCount, edge, cut, attachment, bar, status, pair, span, ruleSets}
 use Rattle.expressions.specs.Influence.{Frame, edgeUses, cutUses, attachmentUses, barUses, statusUses, usersOf, constraintUses, boundFacts, touched, touch, touches, decisionCount, decisionTouch, decisionTouches, joins, circle, touchesCircle}
 
@@ -75,9 +77,9 @@ module _ (C : ℕ → Bool) (P : Plan) where
     split : All (Weak C) edges × (All (Weak C) cuts × (All (Weak C) attachments × All (Weak C) bars))
     unfolding ruleSets
     split =
-        let a = all-split (Weak C) edges (cuts ++ (attachments ++ bars)) K in
-        let b = all-split (Weak C) cuts (attachments ++ bars) (a .1) in
-        let c = all-split (Weak C) attachments bars (b .1) in
+        let a = all-parts (Weak C) edges (cuts ++ (attachments ++ bars)) K in
+        let b = all-parts (Weak C) cuts (attachments ++ bars) (a .1) in
+        let c = all-parts (Weak C) attachments bars (b .1) in
         (a .0, (b .0, (c .0, c .1)))
 
     pub edge-side : (i : ℕ) → Side C (pair P i)
@@ -113,7 +115,7 @@ module _ (F : Frame) where
 
   users-within : (n : ℕ) (uses persons : ℕ → ℕ) (f i : ℕ) → i < n → has (uses i) f ≡ true → Within (persons i) (usersOf n uses persons f)
   unfolding usersOf
-  users-within n uses persons f i l u = record { at = λ q h. union-has n (λ j. only (has (uses j) f) (persons j)) i q l (only-has (has (uses i) f) (persons i) q u h) }
+  users-within n uses persons f i l u = thru (in-only (has (uses i) f) (persons i) u) (in-below n (λ j. only (has (uses j) f) (persons j)) i l)
 
   -- the facts that each kind of rule uses, the constraints first; and whom the fact touches by each, its tuple first
   abbrev used : List ℕ
@@ -139,11 +141,11 @@ module _ (F : Frame) where
   by-rule : (n : ℕ) (uses persons : ℕ → ℕ) (f : ℕ) → Within (unionBelow n uses) (boundFacts F) → Within (usersOf n uses persons f) (touched F f)
       → (i : ℕ) → i < n → has (uses i) f ≡ true → Within (persons i) (touch F f)
   by-rule n uses persons f b t i l u =
-      touch-by f (persons i) (b .at f (union-has n uses i f l u)) (thru (users-within n uses persons f i l u) t)
+      touch-by f (persons i) (b .at f (in-below n uses i l .at f u)) (thru (users-within n uses persons f i l u) t)
 
   pub touch-roster : (f : ℕ) → has (constraintUses F) f ≡ true → Within (F .roster) (touch F f)
   touch-roster f u =
-      touch-by f (F .roster) (part-used 0 .at f u) (record { at = λ q h. part-touched f 1 .at q (only-has (has (constraintUses F) f) (F .roster) q u h) })
+      touch-by f (F .roster) (part-used 0 .at f u) (thru (in-only (has (constraintUses F) f) (F .roster) u) (part-touched f 1))
 
   pub touch-edge : (f i : ℕ) → i < edgeCount P → has (edgeUses P i) f ≡ true → Within (pair P i) (touch F f)
   touch-edge f = by-rule (edgeCount P) (edgeUses P) (pair P) f (part-used 1) (part-touched f 2)
@@ -173,8 +175,8 @@ module _ (F : Frame) where
     sides : All (Weak Circle) (ruleSets P) × (All (Weak Circle) (touches F) × All (Weak Circle) (decisionTouches F))
     unfolding circle joins
     sides =
-        let a = all-split (Weak Circle) (ruleSets P) (touches F ++ decisionTouches F) (closed-weak (joins F) (circle F p) (close-closed (joins F) (one p))) in
-        let b = all-split (Weak Circle) (touches F) (decisionTouches F) (a .1) in
+        let a = all-parts (Weak Circle) (ruleSets P) (touches F ++ decisionTouches F) (closed-weak (joins F) (circle F p) (close-closed (joins F) (one p))) in
+        let b = all-parts (Weak Circle) (touches F) (decisionTouches F) (a .1) in
         (a .0, (b .0, b .1))
 
     pub uncrossed : Uncrossed Circle P

@@ -1,8 +1,8 @@
 -- An accepted plan is sound. Assumes nothing.
 use mathlib.Core.Path.{_≡_, refl}
 use mathlib.Core.Bool.{Bool, true, false, _&&_, _||_, not, cond}
-use mathlib.Core.List.{List, [], _∷_, _++_}
-use mathlib.Core.Logic.{_⊎_, inl, inr}
+use mathlib.Core.List.{List, []}
+use mathlib.Core.Logic.{inl}
 use Prim.Native.Nat.{ℕ, _+_, _-_, _≤_}
 use native.Mathlib.Omega.{arith}
 use lib.ListN.{length, getD}
@@ -10,12 +10,12 @@ use lib.Dec.{eqb, ltb}
 use borrow.Author.Tests.{ltb-false, eqb-false}
 use Rattle.records.specs.Sets.{allOf}
 use Rattle.records.specs.Fields.{Raw, field, num, formatOf, fine, fault}
-use Rattle.records.specs.Plan.{Plan, Heading, Fact, planFormats, nodeOf, edgeOf, cutOf, attachmentOf, addToPlan, planCounts, factsRise, decidedOnce, unresolved, judgePlan, emptyPlan, planRecords, eachFrom, faults, nodeSound, edgeSound, cutSound, attachmentSound, nodeNumber, namingFaults, crossingsDecided, electionFaults, electionRecords, nodesAt, cutsAt, planFaults, checkedPlan}
+use Rattle.records.specs.Plan.{Plan, Heading, Cut, planFormats, nodeOf, edgeOf, cutOf, attachmentOf, addToPlan, planCounts, factsRise, decidedOnce, unresolved, judgePlan, emptyPlan, planRecords, eachFrom, faults, nodeSound, edgeSound, cutSound, attachmentSound, nodeNumber, namingFaults, crossingsDecided, electionFaults, electionRecords, nodesAt, cutsAt, planFaults, checkedPlan}
 use Rattle.records.specs.Sound.{All, SoundEdge, SoundCut, SoundAttachment, SoundBar, SoundStatus, SoundFact, Sound}
 use Rattle.records.proofs.Every.{all-any, exactly-one, all-both, all-parts, all-tested}
 use Rattle.records.proofs.FieldLaws.{InFormat}
 use Rattle.records.proofs.PlanParts.{factFrom, barFrom, statusFrom, nodes-sound, edge-sound, cut-sound, attachment-sound, bar-sound, status-sound, fact-sound}
-use Rattle.records.proofs.ReadLaws.{OnFine, fine-then, of-fine, past-faults, faultless, Judged, Kept, read-keeps, Kind, kind-none, kind-joined, each-sound}
+use Rattle.records.proofs.ReadLaws.{fine-then, of-fine, past-faults, faultless, Judged, Kept, read-keeps, Kind, kind-none, kind-joined, each-sound}
 
 -- ---- what each record keeps
 
@@ -43,8 +43,13 @@ record Passed (r : Raw) (P : Plan) : Type 0 where
 
 passed : (r : Raw) (P : Plan) → judgePlan r P ≡ 0 → Passed r P
 unfolding judgePlan
-passed r P e = pick (ltb top have) (ltb 16 left) (formatOf planFormats (r .kind) .fits (r .bits)) (eqb (length (P .headings)) 0) (factsRise (P .facts)) (allOf (λ c. decidedOnce (c .decisions)) (P .cuts)) refl refl refl refl refl e
+passed r P e =
+    pick (ltb top have) (ltb 16 left) (formatOf planFormats (r .kind) .fits (r .bits)) (eqb (length (P .headings)) 0) (factsRise (P .facts)) once
+    refl refl refl refl refl e
   where
+    once : Bool
+    once = allOf (λ c. decidedOnce (c .decisions)) (P .cuts)
+
     top : ℕ
     top = formatOf planFormats (r .kind) .limit
 
@@ -54,7 +59,7 @@ passed r P e = pick (ltb top have) (ltb 16 left) (formatOf planFormats (r .kind)
     left : ℕ
     left = unresolved (P .cuts)
 
-    pick : (a b c d f g : Bool) → ltb top have ≡ a → ltb 16 left ≡ b → eqb (length (P .headings)) 0 ≡ d → factsRise (P .facts) ≡ f → allOf (λ c. decidedOnce (c .decisions)) (P .cuts) ≡ g
+    pick : (a b c d f g : Bool) → ltb top have ≡ a → ltb 16 left ≡ b → eqb (length (P .headings)) 0 ≡ d → factsRise (P .facts) ≡ f → once ≡ g
         → _≡_ {A = ℕ} (cond (a || b) 2 (cond (not c || d) 3 (cond (f && g) 0 5))) 0 → Passed r P
     pick true b c d f g ea eb ed ef eg e = absurd (omega arith)
     pick false true c d f g ea eb ed ef eg e = absurd (omega arith)
@@ -142,8 +147,9 @@ whole P k j n = record {
   edgeLimit = k .edges .0;
   edges = each-sound planFormats 4 edgeOf (λ e. edgeSound P e ≡ true) (SoundEdge P) (edge-sound P) (P .edges) (k .edges) (n .edges);
   cutLimit = k .cuts .0;
-  cuts = each-sound planFormats 5 cutOf (λ c. (cutSound P c ≡ true) × (decidedOnce (c .decisions) ≡ true)) (SoundCut P) (cut-sound P) (P .cuts) (k .cuts)
-      (all-both (λ c. cutSound P c ≡ true) (λ c. decidedOnce (c .decisions) ≡ true) (λ c. (cutSound P c ≡ true) × (decidedOnce (c .decisions) ≡ true)) (λ c x y. (x, y)) (P .cuts) (n .cuts) (all-tested (λ c. decidedOnce (c .decisions)) (P .cuts) (p .once)));
+  cuts = each-sound planFormats 5 cutOf Tested (SoundCut P) (cut-sound P) (P .cuts) (k .cuts)
+      (all-both (λ c. cutSound P c ≡ true) (λ c. decidedOnce (c .decisions) ≡ true) Tested (λ c x y. (x, y)) (P .cuts) (n .cuts)
+      (all-tested (λ c. decidedOnce (c .decisions)) (P .cuts) (p .once)));
   decisionLimit = p .decisions;
   attachmentLimit = k .attachments .0;
   attachments = each-sound planFormats 6 attachmentOf (λ a. attachmentSound P a ≡ true) (SoundAttachment P) (attachment-sound P) (P .attachments) (k .attachments) (n .attachments);
@@ -153,6 +159,9 @@ whole P k j n = record {
   statuses = each-sound planFormats 8 statusFrom (λ t. nodeNumber P (t .condition) ≡ true) (SoundStatus P) (status-sound P) (P .statuses) (k .statuses) (n .statuses);
 }
   where
+    Tested : Cut → Type 0
+    Tested c = (cutSound P c ≡ true) × (decidedOnce (c .decisions) ≡ true)
+
     p : Passed (j .0) P
     p = passed (j .0) P (j .1)
 

@@ -3,16 +3,16 @@ use mathlib.Core.Path.{_≡_, refl, ap, subst}
 use mathlib.Core.Bool.{Bool, true, false, _&&_, not, cond}
 use mathlib.Core.List.{List, [], _∷_}
 use mathlib.Core.Logic.{inl}
-use Prim.Native.Nat.{ℕ, _+_, _-_, _≤_, _<_, suc-le-suc}
+use Prim.Native.Nat.{ℕ, _+_, _-_, _≤_, suc-le-suc}
 use native.Mathlib.Omega.{arith}
 use lib.ListN.{length, getD}
 use lib.Dec.{eqb, ltb}
-use borrow.Author.Tests.{ltb-true, ltb-false, eqb-false}
+use borrow.Author.Tests.{ltb-false, eqb-false}
 use Rattle.records.specs.Fields.{Raw, field, num, formatOf, evidence, upTo, list, fine}
 use Rattle.records.specs.Plan.{Plan, booleanFact, faults}
-use Rattle.records.specs.Case.{Case, CaseHeading, Family, Observation, Boolean, Relation, caseFormats, observationsOf, headingOf, addToCase, caseCounts, judgeCase, emptyCase, caseRecords, relationSound, caseNamingFaults, booleansAt, readCase}
+use Rattle.records.specs.Case.{Case, Family, Observation, Boolean, Relation, caseFormats, observationsOf, headingOf, addToCase, caseCounts, judgeCase, emptyCase, caseRecords, relationSound, caseNamingFaults, booleansAt, readCase}
 use Rattle.records.specs.Sound.{All, SoundHeading, SoundObservation, SoundBoolean, SoundRelation, SoundCase}
-use Rattle.records.proofs.Every.{all-any, exactly-one, all-then, all-parts}
+use Rattle.records.proofs.Every.{all-any, exactly-one, all-less, all-parts}
 use Rattle.records.proofs.FieldLaws.{InFormat, Held, held, byte-top, byte-numbers, mask-below, most-top, pairs, list-pairs}
 use Rattle.records.proofs.ReadLaws.{fine-then, of-fine, past-faults, faultless, Judged, Kept, read-keeps, OfKind, Kind, kind-none, kind-joined, each-sound}
 
@@ -138,7 +138,7 @@ module _ (P : Plan) where
         relationLimit = k .relations .0;
         relations = each-sound caseFormats 4 relationFrom (λ r. relationSound P C r ≡ true) (SoundRelation P C) (relation-sound C) (C .relations) (k .relations)
             (faultless 3 (relationSound P C) (C .relations) (b .0));
-        constraints = (k .constraints .0, all-then (λ i. ltb i (length (P .nodes)) ≡ true) (λ i. i < length (P .nodes)) (λ i t. ltb-true i (length (P .nodes)) t) (C .constraints) (faultless 3 (λ i. ltb i (length (P .nodes))) (C .constraints) (b .1)));
+        constraints = (k .constraints .0, all-less (length (P .nodes)) (C .constraints) (faultless 3 (λ i. ltb i (length (P .nodes))) (C .constraints) (b .1)));
       }
 
   -- AN ACCEPTED CASE IS SOUND, over whatever plan it was read

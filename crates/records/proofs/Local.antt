@@ -14,6 +14,7 @@ use Rattle.records.specs.Sound.{All}
 use Rattle.records.proofs.SetLaws.{Within, ext, has-none, has-one, has-union, has-meet, has-minus, of-union, of-minus, in-union-l, in-union-r, disjoint-true, disjoint-false, apart, member, lt-or-le}
 use Rattle.records.proofs.Closing.{Takes, Closed, passes-next}
 use Rattle.records.proofs.LoopLaws.{getD-below, getD-past, length-below, all-at}
+use Rattle.records.proofs.Every.{all-then}
 
 -- ---- tests
 
@@ -299,14 +300,6 @@ below-two R n f g d e z i h = go (lt-or-le i n)
     go (inl l) = subst (λ x. R x (getD (below n g) i e)) (sym (getD-below n f d i l)) (subst (R (f i)) (sym (getD-below n g e i l)) h)
     go (inr l) = subst (λ x. R x (getD (below n g) i e)) (sym (getD-past n f d i l)) (subst (R d) (sym (getD-past n g e i l)) z)
 
-pub all-split : {A : Type 0} (Q : A → Type 0) (xs ys : List A) → All Q (xs ++ ys) → All Q xs × All Q ys
-all-split Q [] ys h = (tt, h)
-all-split Q (x ∷ xs) ys h = let r = all-split Q xs ys (h .1) in ((h .0, r .0), r .1)
-
-pub all-map : {A : Type 0} (Q R : A → Type 0) → ((x : A) → Q x → R x) → (xs : List A) → All Q xs → All R xs
-all-map Q R f [] h = tt
-all-map Q R f (x ∷ xs) h = (f x (h .0), all-map Q R f xs (h .1))
-
 -- ---- loops
 
 pub any-same : (n : ℕ) (f g : ℕ → Bool) → ((i : ℕ) → i < n → f i ≡ g i) → anyBelow n f ≡ anyBelow n g
@@ -333,19 +326,6 @@ pub union-agree : (C : ℕ → Bool) (n : ℕ) (f g : ℕ → ℕ) → ((i : ℕ
 unfolding unionBelow
 union-agree C zero f g h = agree-refl C 0
 union-agree C (suc n) f g h = agree-union C (union-agree C n f g (λ i l. h i (omega arith))) (h n (omega arith))
-
-pub union-has : (n : ℕ) (f : ℕ → ℕ) (i q : ℕ) → i < n → has (f i) q ≡ true → has (unionBelow n f) q ≡ true
-unfolding unionBelow
-union-has zero f i q l e = absurd (not-suc-le-zero l)
-union-has (suc n) f i q l e = go (lt-or-le i n) (union-has n f i q)
-  where
-    go : (i < n) ⊎ (n ≤ i) → (i < n → has (f i) q ≡ true → has (unionBelow n f) q ≡ true) → has (union (unionBelow n f) (f n)) q ≡ true
-    go (inl k) r = in-union-l (unionBelow n f) (f n) .at q (r k e)
-    go (inr k) r = in-union-r (unionBelow n f) (f n) .at q (subst (λ (j : ℕ). has (f j) q ≡ true) (let z : i ≡ n = omega arith in z) e)
-
-pub only-has : (b : Bool) (s q : ℕ) → b ≡ true → has s q ≡ true → has (only b s) q ≡ true
-only-has true s q e h = h
-only-has false s q e h = clash e refl
 
 pub fold-two : {A : Type 0} (R : A → A → Type 0) (f g : ℕ → A → A) (n : ℕ) → ((i : ℕ) → i < n → (a b : A) → R a b → R (f i a) (g i b))
     → (a b : A) → R a b → R (foldBelow n f a) (foldBelow n g b)
@@ -428,7 +408,7 @@ module _ (C : ℕ → Bool) where
       subst (λ (k : ℕ). Agree C (passes (length ss) ss a) (passes k ts b)) (twins-length C ss ts w) (passes-agree (length ss) ss ts a b w h)
 
 pub close-out : (C : ℕ → Bool) (ss : List ℕ) (m : ℕ) → All (Weak C) ss → Outside C m → Outside C (closeOf ss m)
-close-out C ss m w h = close-in (outer C) ss m (all-map (Weak C) (Weak (outer C)) (λ s. weak-outer C) ss w) h
+close-out C ss m w h = close-in (outer C) ss m (all-then (Weak C) (Weak (outer C)) (λ s. weak-outer C) ss w) h
 
 -- a set that does not reach across the circle's line is on a side of it: it is empty, or someone is in it
 pub side-of : (C : ℕ → Bool) (s : ℕ) → Weak C s → Side C s

@@ -2,7 +2,7 @@
 use mathlib.Core.Path.{_≡_, refl, sym, ap, subst}
 use mathlib.Core.Bool.{Bool, true, false, _&&_, cond}
 use mathlib.Core.List.{List, [], _∷_}
-use Prim.Native.Nat.{ℕ, zero, suc, _+_, _≤_, _<_, suc-le-suc}
+use Prim.Native.Nat.{ℕ, _+_, _≤_, _<_, suc-le-suc}
 use native.Mathlib.Numerals.{add-one}
 use lib.ListN.{length}
 use lib.Dec.{ltb}
@@ -87,6 +87,12 @@ module _ (P : Plan) where
       let top = byte-top (number ∷ actor ∷ upTo 2 ∷ citation ∷ []) (f ∷ bs) h in
       (record { fact = both (booleanFact P f) true e .0; actor = suc-le-suc (top 1); policy = suc-le-suc (top 2); citation = suc-le-suc (top 3) }, tt)
 
+  decisions-sound : (ds : List Decision) → All (λ d. d .verdict < 4) ds → allOf (λ d. ltb (d .edge) (length (P .edges))) ds ≡ true → All (SoundDecision P) ds
+  decisions-sound ds h e =
+      let n = length (P .edges) in
+      all-both (λ d. d .verdict < 4) (λ d. ltb (d .edge) n ≡ true) (SoundDecision P) (λ d v k. record { edge = ltb-true (d .edge) n k; verdict = v })
+      ds h (all-tested (λ d. ltb (d .edge) n) ds e)
+
   pub cut-sound : (r : Raw) → OfKind planFormats 5 cutOf r → (cutSound P (cutOf r) ≡ true) × (decidedOnce (cutOf r .decisions) ≡ true) → SoundCut P (cutOf r)
   unfolding cutSound planFormats
   cut-sound r h e = record {
@@ -95,7 +101,7 @@ module _ (P : Plan) where
     citation = suc-le-suc (byte-top (citation ∷ []) (field r 2) (held planFormats 5 r h 2) 0);
     election = elections-sound (field r 3) (held planFormats 5 r h 3) (t .1);
     few = d .0;
-    decisions = all-both (λ x. x .verdict < 4) (λ x. ltb (x .edge) (length (P .edges)) ≡ true) (SoundDecision P) (λ x v k. record { edge = ltb-true (x .edge) (length (P .edges)) k; verdict = v }) (decisionsOf (field r 4)) (d .1) (all-tested (λ x. ltb (x .edge) (length (P .edges))) (decisionsOf (field r 4)) (t .2));
+    decisions = decisions-sound (decisionsOf (field r 4)) (d .1) (t .2);
     once = e .1;
     precedes = named 16 (length (P .cuts)) 256 (field r 5) (list-numbers 16 number (field r 5) (held planFormats 5 r h 5)) (t .3);
   }

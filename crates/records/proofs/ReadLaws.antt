@@ -28,6 +28,10 @@ fine-then Q R (refused n m) f h k = tt
 pub of-fine : {A : Type 0} (Q : A → Type 0) (v : Verdict A) (a : A) → OnFine Q v → v ≡ fine a → Q a
 of-fine Q v a h e = subst (OnFine Q) e h
 
+pub to-fine : {A : Type 0} (Q : A → Type 0) (v : Verdict A) → ((a : A) → v ≡ fine a → Q a) → OnFine Q v
+to-fine Q (fine a) h = h a refl
+to-fine Q (refused n k) h = tt
+
 -- no fault in the list, where the answer behind it comes out
 pub past-faults : {A : Type 0} (Q : A → Type 0) (k : ℕ) (ns : List ℕ) (v : Verdict A) → (All (λ n. n ≡ 0) ns → OnFine Q v) → OnFine Q (firstFault k ns v)
 unfolding firstFault

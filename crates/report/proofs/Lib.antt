@@ -1,3 +1,8 @@
+pub mod Starred
+pub mod LineBytes
+pub mod OpenedLaws
+pub mod LineBlocks
+pub mod Blocks
 pub mod SameViews
 pub mod LinesAt
 pub mod Answered

@@ -1,24 +1,21 @@
 -- The blocks of step 6 are a partition of the roster's unmarked persons. Assumes nothing.
-use mathlib.Core.Path.{_≡_, refl, sym, ap, ap₂, _∙_, subst}
+use mathlib.Core.Path.{_≡_, refl, sym, ap, ap₂, _∙_}
 use mathlib.Core.Bool.{Bool, true, false, _&&_, not, cond, true≢false, false≢true}
-use mathlib.Core.List.{List, [], _∷_}
-use mathlib.Core.Logic.{_⊎_, inl, inr, ⊎-elim}
-use Prim.Native.Nat.{ℕ, _≤_, _<_, _^_}
+use mathlib.Core.List.{List}
+use Prim.Native.Nat.{ℕ, _<_, _^_}
 use lib.ListN.{getD}
-use lib.Dec.{eqb}
 use borrow.Author.Tests.{eqb-true, not-true, not-false}
-use Rattle.records.specs.Sets.{has, one, union, minus, only, disjoint, meets, subset, closeOf, below, anyBelow, unionBelow, foldBelow}
+use Rattle.records.specs.Sets.{has, one, minus, only, meets, subset, closeOf, below, anyBelow}
 use Rattle.records.specs.Plan.{Plan}
-use Rattle.records.proofs.SetLaws.{Within, has-none, has-minus, has-high, antisym, thru, in-union-l, in-union-r, of-union, in-minus, of-minus, empty, subset-true, meeting, disjoint-false, minus-lt}
-use Rattle.records.proofs.Closing.{Takes, Closed, close-closed, close-within, close-least, close-sym, in-one, one-within}
+use Rattle.records.proofs.SetLaws.{Within, has-none, has-minus, has-high, antisym, thru, in-minus, of-minus, empty, subset-true, meeting}
+use Rattle.records.proofs.Closing.{Closed, close-closed, close-within, close-least, close-sym, in-one, one-within}
 use Rattle.records.proofs.LoopLaws.{getD-below}
-use Rattle.records.proofs.BelowLaws.{any-false, union-find, in-below, of-only, in-only, flag-set, getD-below-all, fold-keeps, closed-below}
+use Rattle.records.proofs.BelowLaws.{any-false, union-find, in-below, of-only, in-only, flag-set, getD-below-all, closed-below}
 use Rattle.records.proofs.Every.{both}
-use Rattle.expressions.specs.Rules.{edgeCount, cutCount, attachmentCount, barCount, statusCount, cut, attachment, bar, status, pair, span, rulePersons}
+use Rattle.expressions.specs.Rules.{edgeCount, cutCount, cut, pair}
 use Rattle.expressions.specs.Nodes.{on}
-use Rattle.expressions.specs.Variables.{Influence}
 use Rattle.worlds.specs.Active.{Active}
-use Rattle.worlds.specs.World.{World, State, Marks, marked, blockOf, about, sameMembers, standing, overlappingCut, overlappingCuts, keptCuts, blockedCut, appliedCuts, cutMembers, appliedTo, restSets, firstBlock, firstState, move, attach, lastState, marksOf, afterMarks, worldOf}
+use Rattle.worlds.specs.World.{State, blockOf, about, sameMembers, standing, overlappingCut, overlappingCuts, blockedCut, appliedCuts, cutMembers, appliedTo, restSets, firstBlock, firstState}
 
 -- ---- a person's component
 
