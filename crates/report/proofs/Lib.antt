@@ -10,7 +10,6 @@ pub mod LinePrivate
 pub mod Private
 pub mod Privacy
 pub mod Places
-pub mod Starred
 pub mod Weaker
 pub mod Sanity
 pub mod Needed
