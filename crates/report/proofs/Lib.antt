@@ -1,10 +1,10 @@
 pub mod Starred
+pub mod LinesAt
 pub mod LineBytes
 pub mod OpenedLaws
 pub mod LineBlocks
 pub mod Blocks
 pub mod SameViews
-pub mod LinesAt
 pub mod Answered
 pub mod LinePrivate
 pub mod Private

@@ -11,7 +11,7 @@ use Rattle.expressions.specs.Variables.{Values, choice, slots, worlds, influenc
 use Rattle.expressions.proofs.Circles.{Circle, in-circle, uncrossed}
 use Rattle.expressions.proofs.Similar.{Similar, similar-start, BoundAlike, sorted, worlds-near, admissible-same, facts-twins, decisions-twins, influence-twins}
 use Rattle.worlds.specs.Active.{active}
-use Rattle.worlds.specs.World.{World, worldOf, marksOf}
+use Rattle.worlds.specs.World.{World, worldOf}
 use Rattle.worlds.specs.View.{View, view}
 use Rattle.worlds.proofs.CutsSeen.{active-same}
 use Rattle.worlds.proofs.MarksSeen.{marks-agree}

@@ -1,29 +1,26 @@
 -- Every roster person has a place, and the line at it names the person. Assumes nothing.
-use mathlib.Core.Path.{_≡_, refl, sym, ap, _∙_, subst}
+use mathlib.Core.Path.{_≡_, refl, ap, _∙_}
 use mathlib.Core.Bool.{Bool, true, false, not, cond, _&&_}
 use mathlib.Core.List.{List, [], _∷_}
 use mathlib.Core.Logic.{_⊎_, inl, inr}
-use Prim.Native.Nat.{ℕ, _+_, _*_, _^_, _<_, _≤_}
-use native.Mathlib.Omega.{arith}
-use lib.ListN.{getD, take, drop, length}
-use lib.Seq.{getD-take, getD-drop}
+use Prim.Native.Nat.{ℕ, _<_, _≤_}
+use lib.ListN.{getD, length}
 use lib.Dec.{eqb}
 use Rattle.records.specs.Sets.{has, size, members, allOf, unionOf}
 use Rattle.records.specs.Fields.{fine}
 use Rattle.records.specs.Plan.{Plan, checkedPlan}
-use Rattle.records.specs.Case.{Case, CaseHeading, readCase, caseHeading}
-use Rattle.records.specs.Sound.{SoundCase, SoundHeading}
+use Rattle.records.specs.Case.{Case, readCase, caseHeading}
 use Rattle.records.proofs.SetLaws.{lt-or-le, has-high}
-use Rattle.records.proofs.LoopLaws.{all-at}
 use Rattle.records.proofs.MemberLaws.{member-place}
 use Rattle.records.proofs.AcceptedCase.{accepted-case}
 use Rattle.records.proofs.Local.{clash}
-use Rattle.expressions.specs.Influence.{Frame}
-use Rattle.expressions.specs.Bindings.{Bound, bindings, frameOf}
+use Rattle.expressions.specs.Bindings.{bindings, frameOf}
 use Rattle.expressions.specs.Variables.{Influence, influence, worlds}
 use Rattle.worlds.specs.View.{View}
-use Rattle.report.specs.Line.{Line, lineBytes, bareLine, lineBy, lineOver, firstKind}
-use Rattle.report.specs.Operations.{told, Outcome, answer}
+use Rattle.report.specs.Line.{lineBytes, bareLine, lineBy, lineOver, firstKind}
+use Rattle.report.specs.LineAt.{personAt}
+use Rattle.report.specs.Operations.{told, answer}
+use Rattle.report.proofs.OpenedLaws.{roster-fits}
 use Rattle.report.proofs.Answered.{viewsOf, lineOf, lineFor}
 use Rattle.report.proofs.Privacy.{line-bytes}
 
@@ -31,15 +28,9 @@ pub person-place : (P : Plan) (case : List ℕ) (C : Case) → readCase P case �
     → (i : ℕ) × (i < size (caseHeading C .roster)) × (getD (members (caseHeading C .roster)) i 64 ≡ p)
 person-place P case C read p h = member-place (caseHeading C .roster) p 64 (go (lt-or-le p 64)) h
   where
-    S : SoundCase P C
-    S = accepted-case P case C read
-
-    low : caseHeading C .roster < 2 ^ 64
-    low = (unfold caseHeading in all-at SoundHeading (C .headings) _ 0 (S .headings) (subst (λ (n : ℕ). 0 < n) (sym (S .heading)) (omega arith)) .roster)
-
     go : (p < 64) ⊎ (64 ≤ p) → p < 64
     go (inl l) = l
-    go (inr l) = clash h (has-high 64 (caseHeading C .roster) p low l)
+    go (inr l) = clash h (has-high 64 (caseHeading C .roster) p (roster-fits P C (accepted-case P case C read)) l)
 
 -- ---- every line names its person
 
@@ -65,8 +56,8 @@ line-person P C p = go (eqb (length (caseHeading C .complete)) 0)
 
 pub line-names : (plan case : List ℕ) (l e : ℕ) (P : Plan) (C : Case) → checkedPlan plan ≡ fine P → readCase P case ≡ fine C
     → told (answer plan case l e .answer) .refusal ≡ 0 → (i : ℕ) → i < size (caseHeading C .roster)
-    → getD (take 29 (drop (29 * i) (answer plan case l e .lines))) 0 64 ≡ getD (members (caseHeading C .roster)) i 64
-unfolding lineBytes
+    → personAt (answer plan case l e .lines) i ≡ getD (members (caseHeading C .roster)) i 64
+unfolding personAt lineBytes
 line-names plan case l e P C accepted read answered i h =
-    ap (λ (s : List ℕ). getD s 0 64) (line-bytes plan case l e P C accepted read answered i h)
+    ap (λ (s : List ℕ). getD s 0 0) (line-bytes plan case l e P C accepted read answered i h)
     ∙ line-person P C (getD (members (caseHeading C .roster)) i 64)

@@ -4,19 +4,21 @@
 use mathlib.Core.Path.{_≡_}
 use mathlib.Core.Bool.{Bool, true}
 use mathlib.Core.List.{List}
-use Prim.Native.Nat.{ℕ, _*_, _<_}
-use lib.ListN.{getD, take, drop}
+use Prim.Native.Nat.{ℕ, _<_}
+use lib.ListN.{getD}
 use Rattle.records.specs.Sets.{size, members}
 use Rattle.records.specs.Fields.{fine}
 use Rattle.records.specs.Plan.{Plan, checkedPlan}
-use Rattle.records.specs.Case.{Case, CaseHeading, readCase, caseHeading}
+use Rattle.records.specs.Case.{Case, readCase, caseHeading}
 use Rattle.expressions.specs.Rules.{factCount}
 use Rattle.expressions.specs.Influence.{Frame}
 use Rattle.expressions.specs.Bindings.{Bound, bindingOf, frameOf}
-use Rattle.report.specs.Operations.{told, Outcome, answer}
+use Rattle.report.specs.LineAt.{lineAt}
+use Rattle.report.specs.Operations.{told, answer}
 
-abbrev pub Private : (touches : Frame → ℕ → ℕ → Bool) (Alike : Bound → Bound → Type 0) → Type 0
-Private touches Alike =
+-- two cases over one plan give the i-th person of the roster, p, the same line, on a condition
+abbrev pub SameLines : (Condition : Plan → Case → Case → ℕ → Type 0) → Type 0
+SameLines Condition =
     (plan case₁ case₂ : List ℕ) (lines₁ events₁ lines₂ events₂ : ℕ) (P : Plan) (C₁ C₂ : Case)
     -- "A plan is accepted if its check refuses nothing"; two cases are read over it
     → checkedPlan plan ≡ fine P
@@ -28,9 +30,12 @@ Private touches Alike =
     -- "Headings are equal field by field, constraints as lists of nodes"
     → C₁ .headings ≡ C₂ .headings
     → C₁ .constraints ≡ C₂ .constraints
-    -- of the i-th person of the roster, p
     → (i p : ℕ) → i < size (caseHeading C₁ .roster) → getD (members (caseHeading C₁ .roster)) i 64 ≡ p
-    -- each fact that touches the person's circle is bound alike
-    → ((f : ℕ) → f < factCount P → touches (frameOf P C₁) f p ≡ true → Alike (bindingOf P C₁ f) (bindingOf P C₂ f))
-    -- the 29 bytes of the line are the same
-    → take 29 (drop (29 * i) (answer plan case₁ lines₁ events₁ .lines)) ≡ take 29 (drop (29 * i) (answer plan case₂ lines₂ events₂ .lines))
+    → Condition P C₁ C₂ p
+    -- all 29 bytes
+    → lineAt (answer plan case₁ lines₁ events₁ .lines) i ≡ lineAt (answer plan case₂ lines₂ events₂ .lines) i
+
+-- each fact that touches the person's circle is bound alike
+abbrev pub Private : (touches : Frame → ℕ → ℕ → Bool) (Alike : Bound → Bound → Type 0) → Type 0
+Private touches Alike =
+    SameLines (λ P C₁ C₂ p. (f : ℕ) → f < factCount P → touches (frameOf P C₁) f p ≡ true → Alike (bindingOf P C₁ f) (bindingOf P C₂ f))

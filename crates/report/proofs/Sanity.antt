@@ -1,10 +1,10 @@
 -- A table of pairs of cases whose lines differ though no fact that differs touches the circle, once one clause of the circle is left out.
 -- Assumes nothing.
 use mathlib.Core.Path.{_≡_, refl}
-use mathlib.Core.Bool.{Bool, true, false, _&&_, not, Bool·beq}
+use mathlib.Core.Bool.{Bool, true, false, _&&_, not}
 use mathlib.Core.List.{List, [], _∷_, _++_, map, flatMap}
-use Prim.Native.Nat.{ℕ, _*_}
-use lib.ListN.{drop, take, getD}
+use Prim.Native.Nat.{ℕ}
+use lib.ListN.{getD}
 use lib.Count.{onesIn, trailingZeros}
 use lib.Dec.{eqb, ltb}
 use Rattle.records.specs.Sets.{has, one, union, meet, minus, disjoint, meets, subset, setOf, size, lowest, membersFrom, members, lexLess, risingLess, absorb, pass, passes, closeOf, numbers, below, anyBelow, unionBelow, foldBelow, allOf, anyOf, unionOf}
@@ -14,15 +14,16 @@ use Rattle.records.specs.Case.{emptyCase, CaseHeading, Case, caseFormats, obser
 use Rattle.expressions.specs.Rules.{factCount, rulePersons, edge, cut, attachment, bar, status, pair, span, ruleSets, chained}
 use Rattle.expressions.specs.Nodes.{value, valuesFrom, values, uses, usesFrom, nodeUses}
 use Rattle.expressions.specs.Influence.{openIn, openBelow, openDecisions, openDecision, decisionTouch, edgeUses, cutUses, attachmentUses, barUses, statusUses, usersOf, constraintUses, boundFacts, touched, touch, touches, decisionTouches, joins, circle, touchesCircle}
-use Rattle.expressions.specs.Bindings.{frameOf, conflict, unknown, known, unbound, Bound, both, just, Choice, evidenceOf, valuesSeen, weighed, elections, defaultOf, boundBoolean, inScope, boundRelation, bindingOf, bindings, tookDefault, familyFaults, booleanFault, booleanFaults, bindable}
+use Rattle.expressions.specs.Bindings.{frameOf, conflict, unknown, known, unbound, Bound, both, just, evidenceOf, valuesSeen, weighed, elections, defaultOf, boundBoolean, inScope, boundRelation, bindingOf, bindings, tookDefault, familyFaults, booleanFault, booleanFaults, bindable}
 use Rattle.expressions.specs.Variables.{choices, booleanCount, slots, waysOf, worldCount, set, valuations, admissible, worlds, factInfluence, decisionInfluence, influence}
 use Rattle.worlds.specs.Active.{flags, active, blocksEdge}
 use Rattle.worlds.specs.World.{about, baseSet, baseSets, clique, loose, looseComponent, looseComponents, spread, chainStep, preceded, keptCut, keptCuts, overlappingCut, overlappingCuts, blockedBy, blockedCut, appliedCuts, discretionSeed, overlapSeed, marksOf, marked, cutMembers, appliedTo, restSets, firstBlock, firstState, move, attach, lastState, barredBy, excludedBy, afterMarks, worldOf}
 use Rattle.worlds.specs.View.{roleOf, edgeCitations, leads, cutCitations, attachmentCitations, barCitations, statusCitations, citations, view}
 use Rattle.worlds.specs.Events.{littleBytes, event, listed, frozenEvents, appliedEvents, blockedEvents, leastOfMerged, overlapEvents, attachmentEvents, barEvents, statusEvents, discretionEvents, eventsOf}
 use Rattle.report.specs.Line.{lineBytes, firstKind, holding, lineOver, lineIn}
+use Rattle.report.specs.LineAt.{lineAt}
 use Rattle.report.specs.EventList.{insert, rising, defaultEvents}
-use Rattle.report.specs.Operations.{Outcome, Told, told, check, mismatched, headingFault, tooMany, counted, bound, opened, written, influences, allWorlds, linesOver, eventsOver, linesOf, answerReady, answer, showFrom, show}
+use Rattle.report.specs.Operations.{Outcome, told, check, mismatched, headingFault, tooMany, counted, bound, opened, written, influences, allWorlds, linesOver, eventsOver, linesOf, answerReady, answer, showFrom, show}
 use Rattle.report.proofs.Starred.{mask, chain, always, base, roster₀}
 use Rattle.report.proofs.Weaker.{edges, cuts, attachments, anchors, bars, decisions, tuples, strangers, rosters, edgeUsers, defeaters, cutUsers, attachmentUsers, barUsers, statusUsers, none, edgeUsesBut, touchedBut, touchBut, spanBut, joinsBut, touchesBut}
 
@@ -165,7 +166,7 @@ abbrev answerOf : Shown → List ℕ → Outcome
 answerOf x case = answer (x .plan) case 145 360
 
 abbrev byteOf : Shown → List ℕ → ℕ
-byteOf x case = getD (take 29 (drop (29 * 0) (answerOf x case .lines))) (x .byte) 0
+byteOf x case = getD (lineAt (answerOf x case .lines) 0) (x .byte) 0
 
 -- some fact touches the circle and is not alike
 abbrev shows : (Bound → Bound → Bool) → Shown → Bool
@@ -224,40 +225,28 @@ expected x = record {
 
 -- ---- bound alike, as tests
 
-abbrev pub sameChoice : Choice → Choice → Bool
-sameChoice (just a) (just b) = Bool·beq a b
-sameChoice (just a) both = false
-sameChoice both (just b) = false
-sameChoice both both = true
+abbrev pub number : Bound → ℕ
+number unbound = 0
+number unknown = 1
+number (known false) = 2
+number (known true) = 3
+number (conflict (just false)) = 4
+number (conflict (just true)) = 5
+number (conflict both) = 6
 
 abbrev pub sameBound : Bound → Bound → Bool
-sameBound unbound unbound = true
-sameBound unbound (known b) = false
-sameBound unbound unknown = false
-sameBound unbound (conflict c) = false
-sameBound (known a) unbound = false
-sameBound (known a) (known b) = Bool·beq a b
-sameBound (known a) unknown = false
-sameBound (known a) (conflict c) = false
-sameBound unknown unbound = false
-sameBound unknown (known b) = false
-sameBound unknown unknown = true
-sameBound unknown (conflict c) = false
-sameBound (conflict c) unbound = false
-sameBound (conflict c) (known b) = false
-sameBound (conflict c) unknown = false
-sameBound (conflict c) (conflict d) = sameChoice c d
+sameBound x y = eqb (number x) (number y)
 
 -- the same values, of whatever makes them
 abbrev pub sameValues : Bound → Bound → Bool
-sameValues x y = sameChoice (choices x) (choices y)
+sameValues x y = sameBound (conflict (choices x)) (conflict (choices y))
 
 -- ---- THE TABLE HOLDS
 
 pub computed : map (found sameBound) table ≡ map expected table
-unfolding table edgeUsesBut touchedBut touchBut spanBut joinsBut touchesBut flatMap onesIn trailingZeros has one union meet minus disjoint meets subset setOf size lowest membersFrom members lexLess risingLess absorb pass passes closeOf numbers below anyBelow unionBelow foldBelow allOf anyOf unionOf byteAt bytesAt repeat little fieldAt fieldsAt recordAt readFrom firstFault planFormats nodeOf electionOf decisionsOf addToPlan planCounts isBoolean rises factsRise decidedOnce unresolvedIn unresolved judgePlan planRecords eachFrom getFact nodeSound edgeSound electionSound cutSound attachmentSound namingFaults crosses crossingsDecided sameElection electionFaults planFaults checkedPlan caseFormats observationsOf addToCase caseCounts judgeCase caseRecords relationSound caseNamingFaults readCase caseHeading edge cut attachment bar status pair span ruleSets chained value valuesFrom values uses usesFrom nodeUses openIn openBelow openDecisions openDecision decisionTouch edgeUses cutUses attachmentUses barUses statusUses usersOf constraintUses boundFacts touched touch touches decisionTouches joins circle touchesCircle evidenceOf valuesSeen weighed elections defaultOf boundBoolean inScope boundRelation bindingOf bindings tookDefault familyFaults booleanFault booleanFaults bindable booleanCount slots waysOf worldCount set valuations admissible worlds factInfluence decisionInfluence influence flags active blocksEdge about baseSet baseSets clique loose looseComponent looseComponents spread chainStep preceded keptCut keptCuts overlappingCut overlappingCuts blockedBy blockedCut appliedCuts discretionSeed overlapSeed marksOf marked cutMembers appliedTo restSets firstBlock firstState move attach lastState barredBy excludedBy afterMarks worldOf roleOf edgeCitations leads cutCitations attachmentCitations barCitations statusCitations citations view littleBytes event listed frozenEvents appliedEvents blockedEvents leastOfMerged overlapEvents attachmentEvents barEvents statusEvents discretionEvents eventsOf lineBytes firstKind holding lineOver lineIn insert rising defaultEvents check rulePersons mismatched headingFault tooMany counted bound opened written influences allWorlds linesOver eventsOver linesOf answerReady answer showFrom show
+unfolding table edgeUsesBut touchedBut touchBut spanBut joinsBut touchesBut lineAt flatMap onesIn trailingZeros has one union meet minus disjoint meets subset setOf size lowest membersFrom members lexLess risingLess absorb pass passes closeOf numbers below anyBelow unionBelow foldBelow allOf anyOf unionOf byteAt bytesAt repeat little fieldAt fieldsAt recordAt readFrom firstFault planFormats nodeOf electionOf decisionsOf addToPlan planCounts isBoolean rises factsRise decidedOnce unresolvedIn unresolved judgePlan planRecords eachFrom getFact nodeSound edgeSound electionSound cutSound attachmentSound namingFaults crosses crossingsDecided sameElection electionFaults planFaults checkedPlan caseFormats observationsOf addToCase caseCounts judgeCase caseRecords relationSound caseNamingFaults readCase caseHeading edge cut attachment bar status pair span ruleSets chained value valuesFrom values uses usesFrom nodeUses openIn openBelow openDecisions openDecision decisionTouch edgeUses cutUses attachmentUses barUses statusUses usersOf constraintUses boundFacts touched touch touches decisionTouches joins circle touchesCircle evidenceOf valuesSeen weighed elections defaultOf boundBoolean inScope boundRelation bindingOf bindings tookDefault familyFaults booleanFault booleanFaults bindable booleanCount slots waysOf worldCount set valuations admissible worlds factInfluence decisionInfluence influence flags active blocksEdge about baseSet baseSets clique loose looseComponent looseComponents spread chainStep preceded keptCut keptCuts overlappingCut overlappingCuts blockedBy blockedCut appliedCuts discretionSeed overlapSeed marksOf marked cutMembers appliedTo restSets firstBlock firstState move attach lastState barredBy excludedBy afterMarks worldOf roleOf edgeCitations leads cutCitations attachmentCitations barCitations statusCitations citations view littleBytes event listed frozenEvents appliedEvents blockedEvents leastOfMerged overlapEvents attachmentEvents barEvents statusEvents discretionEvents eventsOf lineBytes firstKind holding lineOver lineIn insert rising defaultEvents check rulePersons mismatched headingFault tooMany counted bound opened written influences allWorlds linesOver eventsOver linesOf answerReady answer showFrom show
 computed = refl
 
 pub computed-one : found sameValues oneCandidate ≡ expected oneCandidate
-unfolding oneCandidate edgeUsesBut touchedBut touchBut spanBut joinsBut touchesBut flatMap onesIn trailingZeros has one union meet minus disjoint meets subset setOf size lowest membersFrom members lexLess risingLess absorb pass passes closeOf numbers below anyBelow unionBelow foldBelow allOf anyOf unionOf byteAt bytesAt repeat little fieldAt fieldsAt recordAt readFrom firstFault planFormats nodeOf electionOf decisionsOf addToPlan planCounts isBoolean rises factsRise decidedOnce unresolvedIn unresolved judgePlan planRecords eachFrom getFact nodeSound edgeSound electionSound cutSound attachmentSound namingFaults crosses crossingsDecided sameElection electionFaults planFaults checkedPlan caseFormats observationsOf addToCase caseCounts judgeCase caseRecords relationSound caseNamingFaults readCase caseHeading edge cut attachment bar status pair span ruleSets chained value valuesFrom values uses usesFrom nodeUses openIn openBelow openDecisions openDecision decisionTouch edgeUses cutUses attachmentUses barUses statusUses usersOf constraintUses boundFacts touched touch touches decisionTouches joins circle touchesCircle evidenceOf valuesSeen weighed elections defaultOf boundBoolean inScope boundRelation bindingOf bindings tookDefault familyFaults booleanFault booleanFaults bindable booleanCount slots waysOf worldCount set valuations admissible worlds factInfluence decisionInfluence influence flags active blocksEdge about baseSet baseSets clique loose looseComponent looseComponents spread chainStep preceded keptCut keptCuts overlappingCut overlappingCuts blockedBy blockedCut appliedCuts discretionSeed overlapSeed marksOf marked cutMembers appliedTo restSets firstBlock firstState move attach lastState barredBy excludedBy afterMarks worldOf roleOf edgeCitations leads cutCitations attachmentCitations barCitations statusCitations citations view littleBytes event listed frozenEvents appliedEvents blockedEvents leastOfMerged overlapEvents attachmentEvents barEvents statusEvents discretionEvents eventsOf lineBytes firstKind holding lineOver lineIn insert rising defaultEvents check rulePersons mismatched headingFault tooMany counted bound opened written influences allWorlds linesOver eventsOver linesOf answerReady answer showFrom show
+unfolding oneCandidate edgeUsesBut touchedBut touchBut spanBut joinsBut touchesBut lineAt flatMap onesIn trailingZeros has one union meet minus disjoint meets subset setOf size lowest membersFrom members lexLess risingLess absorb pass passes closeOf numbers below anyBelow unionBelow foldBelow allOf anyOf unionOf byteAt bytesAt repeat little fieldAt fieldsAt recordAt readFrom firstFault planFormats nodeOf electionOf decisionsOf addToPlan planCounts isBoolean rises factsRise decidedOnce unresolvedIn unresolved judgePlan planRecords eachFrom getFact nodeSound edgeSound electionSound cutSound attachmentSound namingFaults crosses crossingsDecided sameElection electionFaults planFaults checkedPlan caseFormats observationsOf addToCase caseCounts judgeCase caseRecords relationSound caseNamingFaults readCase caseHeading edge cut attachment bar status pair span ruleSets chained value valuesFrom values uses usesFrom nodeUses openIn openBelow openDecisions openDecision decisionTouch edgeUses cutUses attachmentUses barUses statusUses usersOf constraintUses boundFacts touched touch touches decisionTouches joins circle touchesCircle evidenceOf valuesSeen weighed elections defaultOf boundBoolean inScope boundRelation bindingOf bindings tookDefault familyFaults booleanFault booleanFaults bindable booleanCount slots waysOf worldCount set valuations admissible worlds factInfluence decisionInfluence influence flags active blocksEdge about baseSet baseSets clique loose looseComponent looseComponents spread chainStep preceded keptCut keptCuts overlappingCut overlappingCuts blockedBy blockedCut appliedCuts discretionSeed overlapSeed marksOf marked cutMembers appliedTo restSets firstBlock firstState move attach lastState barredBy excludedBy afterMarks worldOf roleOf edgeCitations leads cutCitations attachmentCitations barCitations statusCitations citations view littleBytes event listed frozenEvents appliedEvents blockedEvents leastOfMerged overlapEvents attachmentEvents barEvents statusEvents discretionEvents eventsOf lineBytes firstKind holding lineOver lineIn insert rising defaultEvents check rulePersons mismatched headingFault tooMany counted bound opened written influences allWorlds linesOver eventsOver linesOf answerReady answer showFrom show
 computed-one = refl
