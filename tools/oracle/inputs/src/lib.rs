@@ -1,0 +1,4 @@
+//! Inputs for comparison: plans and cases as values, random ones, damaged
+//! ones, smaller ones, and the vector format.
+
+pub mod vectors;

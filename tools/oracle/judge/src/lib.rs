@@ -1,0 +1,3 @@
+//! The Rust and the model on the same bytes, side by side.
+
+pub mod sides;
