@@ -1,4 +1,9 @@
 //! Inputs for comparison: plans and cases as values, random ones, damaged
 //! ones, smaller ones, and the vector format.
 
+pub mod generate;
+
+pub mod random;
+
 pub mod vectors;
+pub mod wire;

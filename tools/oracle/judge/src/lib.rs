@@ -1,3 +1,5 @@
 //! The Rust and the model on the same bytes, side by side.
 
+pub mod compare;
+pub mod rust;
 pub mod sides;
