@@ -70,12 +70,36 @@ pub struct Input {
 
 /// A mixture of sizes, dense ones prevailing.
 pub fn mixed(random: &mut Random) -> Input {
-    let size = match random.below(20) {
-        0..=7 => TINY,
-        8..=18 => DENSE,
+    let size = match random.below(40) {
+        0..=15 => TINY,
+        16..=38 => DENSE,
         _ => LARGE,
     };
-    input(random, size)
+    let mut input = input(random, size);
+    if random.percent(4) {
+        spoil(random, &mut input.case);
+    }
+    input
+}
+
+/// Makes a case that both sides refuse: 5, 8, 9 or 10, or 11 by its limit.
+fn spoil(random: &mut Random, case: &mut Case) {
+    match random.below(9) {
+        0 => case.segment_complete = false,
+        1 => case.relation = case.relation.wrapping_add(1),
+        2 => case.scope = random.percent(50).then_some(0),
+        3 => case.segment = random.percent(50).then_some(0),
+        4 => case.roster &= case.roster - 1,
+        5 => case.families.extend(case.families.first().cloned()),
+        6 => case.booleans.extend(case.booleans.first().cloned()),
+        7 => {
+            if let Some(record) = case.booleans.last_mut() {
+                record.unknown = Some(1);
+                record.observations = Some(vec![(1, 2)]);
+            }
+        }
+        _ => case.most_worlds = random.pick(&[0, 1, 2, 3]),
+    }
 }
 
 pub fn input(random: &mut Random, size: Size) -> Input {

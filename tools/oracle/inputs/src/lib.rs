@@ -2,8 +2,8 @@
 //! ones, smaller ones, and the vector format.
 
 pub mod generate;
-
+pub mod mutate;
 pub mod random;
-
+pub mod shrink;
 pub mod vectors;
 pub mod wire;

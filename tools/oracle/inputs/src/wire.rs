@@ -412,6 +412,60 @@ impl Case {
     }
 }
 
+impl Plan {
+    /// Every number names a record, and a node only lower ones: what a
+    /// translation needs so as not to go astray.
+    pub fn is_closed(&self) -> bool {
+        let node = |&number: &u8| (number as usize) < self.nodes.len();
+        let fact = |number: u8| (number as usize) < self.facts.len();
+        let nodes = self
+            .nodes
+            .iter()
+            .enumerate()
+            .all(|(number, node)| match node {
+                Node::Literal(_) => true,
+                Node::Fact(named) => fact(*named),
+                Node::And(children) | Node::Or(children) => {
+                    children.iter().all(|&child| (child as usize) < number)
+                }
+                Node::Not(child) => (*child as usize) < number,
+            });
+        let edges = self
+            .edges
+            .iter()
+            .all(|edge| node(&edge.condition) && edge.defeaters.iter().flatten().all(node));
+        let cuts = self.cuts.iter().all(|cut| {
+            node(&cut.condition)
+                && cut
+                    .decisions
+                    .iter()
+                    .flatten()
+                    .all(|(edge, _)| (*edge as usize) < self.edges.len())
+                && cut
+                    .precedes
+                    .iter()
+                    .flatten()
+                    .all(|&other| (other as usize) < self.cuts.len())
+        });
+        let attachments = self.attachments.iter().map(|rule| &rule.condition);
+        let bars = self.bars.iter().map(|rule| &rule.condition);
+        let statuses = self.statuses.iter().map(|rule| &rule.condition);
+        nodes && edges && cuts && attachments.chain(bars).chain(statuses).all(node)
+    }
+}
+
+impl Case {
+    pub fn is_closed(&self, plan: &Plan) -> bool {
+        let fact = |number: u8| (number as usize) < plan.facts.len();
+        self.booleans.iter().all(|record| fact(record.fact))
+            && self.relations.iter().all(|record| fact(record.fact))
+            && self
+                .constraints
+                .iter()
+                .all(|&node| (node as usize) < plan.nodes.len())
+    }
+}
+
 /// Bytes and a position; a field whose bit does not stand is none.
 struct Input<'a> {
     bytes: &'a [u8],

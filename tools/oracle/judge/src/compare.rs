@@ -24,12 +24,26 @@ pub enum Verdict {
     },
     /// Both refused the case for the same reason.
     Refused(u8),
-    /// Only document 01 accepts the plan: outside the compared domain.
-    PlanOnlyHere,
-    /// The model refuses the bytes before the Rust could be asked.
-    BytesRefused(u8),
-    /// The Rust would walk shared nodes without end.
-    WouldNotEnd,
+}
+
+/// Lines and events of the Rust's answers, by kind.
+#[derive(Clone, Copy, Debug, Default)]
+pub struct Covered {
+    pub lines: [u64; 7],
+    pub events: [u64; 10],
+}
+
+impl Covered {
+    fn take(&mut self, answer: &Answer) {
+        answer
+            .lines
+            .chunks_exact(LINE)
+            .for_each(|line| self.lines[line[1] as usize] += 1);
+        answer
+            .events
+            .chunks_exact(EVENT)
+            .for_each(|event| self.events[event[0] as usize] += 1);
+    }
 }
 
 #[derive(Clone, Debug)]
@@ -211,47 +225,28 @@ impl Sides<'_> {
     }
 }
 
-/// Compares the two sides on one input.
-pub fn compare(plan: &[u8], case: &[u8]) -> Result<Verdict, Difference> {
+/// Compares the two sides on one input that both accept, or refuse as a case
+/// for a reason that both know.
+pub fn compare(plan: &[u8], case: &[u8], covered: &mut Covered) -> Result<Verdict, Difference> {
     let sides = Sides { plan, case };
-    let bytes = bytes_refusal(plan, case);
-    if bytes != 0 {
-        return Ok(Verdict::BytesRefused(bytes));
-    }
-    let oracle = match Oracle::new(plan, case) {
-        Ok(oracle) => oracle,
-        Err(NoAnswer::Plan(_)) => return Ok(Verdict::PlanOnlyHere),
-        Err(NoAnswer::WouldNotEnd(_)) => return Ok(Verdict::WouldNotEnd),
-        Err(error) => {
-            return Err(difference(
-                "the Rust has no answer",
-                error,
-                "records accepted",
-            ));
-        }
-    };
-    match oracle.answer() {
-        Err(NoAnswer::Case(error)) => sides.check_refusal(&error),
-        Err(error) => Err(difference(
+    let none = |error| {
+        difference(
             "the Rust has no answer",
             error,
-            "a plan and a case",
-        )),
+            model_answers(Citing::ByBlock, &roomy(Op::Answer, plan, case, 0)),
+        )
+    };
+    let oracle = Oracle::new(plan, case).map_err(none)?;
+    match oracle.answer() {
+        Err(NoAnswer::Case(error)) => sides.check_refusal(&error),
+        Err(error) => Err(none(error)),
         Ok(answer) => {
+            covered.take(&answer);
             let citing_differs = sides.check_worlds(&oracle, &answer)?;
             Ok(Verdict::Answered {
                 worlds: answer.worlds,
                 citing_differs,
             })
         }
-    }
-}
-
-/// The refusal of plan or case records, which the Rust has no words for.
-fn bytes_refusal(plan: &[u8], case: &[u8]) -> u8 {
-    use model::records::{Case, Plan};
-    match Plan::read(plan) {
-        Err(refusal) => refusal.number,
-        Ok(plan) => Case::read(case, &plan).map_or_else(|refusal| refusal.number, |_| 0),
     }
 }

@@ -16,7 +16,7 @@ pub const MOST_STEPS: u64 = 20_000_000;
 /// Why there is no answer.
 #[derive(Clone, Debug, PartialEq, Eq)]
 pub enum NoAnswer {
-    /// The bytes are no plan or case at all.
+    /// The bytes are no plan or case, or a number in them names nothing.
     NoRecords,
     /// `compile` refused the plan.
     Plan(UnitDerivationError),
@@ -383,8 +383,11 @@ fn steps(plan: &Plan, case: &Case) -> u64 {
 
 impl Oracle {
     pub fn new(plan: &[u8], case: &[u8]) -> Result<Oracle, NoAnswer> {
-        let plan = Plan::decode(plan).ok_or(NoAnswer::NoRecords)?;
-        let case = Case::decode(case).ok_or(NoAnswer::NoRecords)?;
+        let plan = Plan::decode(plan)
+            .filter(Plan::is_closed)
+            .ok_or(NoAnswer::NoRecords)?;
+        let case = Case::decode(case).filter(|case| case.is_closed(&plan));
+        let case = case.ok_or(NoAnswer::NoRecords)?;
         let steps = steps(&plan, &case);
         if steps > MOST_STEPS {
             return Err(NoAnswer::WouldNotEnd(steps));
@@ -424,7 +427,9 @@ impl Oracle {
 
     /// The plan alone, as `compile` judges it.
     pub fn compile(plan: &[u8]) -> Result<(), NoAnswer> {
-        let plan = Plan::decode(plan).ok_or(NoAnswer::NoRecords)?;
+        let plan = Plan::decode(plan)
+            .filter(Plan::is_closed)
+            .ok_or(NoAnswer::NoRecords)?;
         let steps = walk(&plan, &Case::default());
         if steps > MOST_STEPS {
             return Err(NoAnswer::WouldNotEnd(steps));
@@ -458,9 +463,8 @@ impl Oracle {
         })
     }
 
-    /// All admissible worlds; none for kinds 5 and 6.
+    /// All admissible worlds of a case that was answered; none for kinds 5 and 6.
     pub fn worlds(&self) -> Result<Vec<World>, NoAnswer> {
-        derive_units(&self.compiled, &self.input, &self.config).map_err(NoAnswer::Case)?;
         if self.input.roster.completeness.is_none() {
             return Ok(Vec::new());
         }
@@ -468,6 +472,7 @@ impl Oracle {
     }
 
     pub fn show(&self, world: u64) -> Result<Answer, NoAnswer> {
+        self.answer()?;
         let worlds = self.worlds()?;
         let shown = worlds.get(world as usize).ok_or(NoAnswer::NoWorld)?;
         Ok(self.shown(shown, worlds.len()))
