@@ -136,6 +136,86 @@ fn any_input(random: &mut Random, size: Size) -> Input {
     }
 }
 
+/// Turns a plan into one that document 01 accepts and the Rust refuses, in
+/// one or a few of the ways there are.
+pub fn loosen(random: &mut Random, plan: &mut Plan) {
+    for _ in 0..random.between(1, 3) {
+        match random.below(10) {
+            0 => loosen_edge(random, plan),
+            1..=3 => loosen_cut(random, plan),
+            4..=6 => loosen_attachment(random, plan),
+            7 => loosen_bar(random, plan),
+            _ => loosen_precedence(random, plan),
+        }
+    }
+}
+
+/// A self-edge. A Combination edge stays decided where it crosses no more.
+fn loosen_edge(random: &mut Random, plan: &mut Plan) {
+    let at = random.below(plan.edges.len());
+    if let Some(edge) = plan.edges.get_mut(at) {
+        edge.right = edge.left;
+    }
+}
+
+/// No members, a decision on a Base edge, twins that disagree, or an election
+/// that the condition does not use.
+fn loosen_cut(random: &mut Random, plan: &mut Plan) {
+    let at = random.below(plan.cuts.len());
+    let base = plan.edges.iter().position(|edge| !edge.combination);
+    let election = plan.cuts.iter().filter_map(|cut| cut.election).next_back();
+    let Some(cut) = plan.cuts.get_mut(at) else {
+        return;
+    };
+    match random.below(4) {
+        0 => cut.members = 0,
+        1 => {
+            let list = cut.decisions.get_or_insert_default();
+            let free = base.filter(|base| list.iter().all(|(edge, _)| *edge as usize != *base));
+            list.extend(free.map(|edge| (edge as u8, UNRESOLVED)));
+        }
+        2 => {
+            let decisions = cut.decisions.iter_mut().flatten();
+            decisions.for_each(|(_, decision)| *decision = random.between(1, 2) as u8);
+        }
+        _ => cut.election = election,
+    }
+}
+
+/// No members, the anchor or another's members among them, another actor.
+fn loosen_attachment(random: &mut Random, plan: &mut Plan) {
+    let at = random.below(plan.attachments.len());
+    let other = plan
+        .attachments
+        .last()
+        .map(|rule| rule.members | 1 << rule.anchor);
+    let Some(rule) = plan.attachments.get_mut(at) else {
+        return;
+    };
+    match random.below(4) {
+        0 => rule.members = 0,
+        1 => rule.members |= 1 << rule.anchor,
+        2 => rule.members |= other.unwrap_or(0),
+        _ => rule.actor = random.between(1, 255) as u8,
+    }
+}
+
+fn loosen_bar(random: &mut Random, plan: &mut Plan) {
+    let at = random.below(plan.bars.len());
+    if let Some(bar) = plan.bars.get_mut(at) {
+        bar.members = 0;
+    }
+}
+
+/// Any precedence: to itself, round in circles, twice.
+fn loosen_precedence(random: &mut Random, plan: &mut Plan) {
+    let count = plan.cuts.len();
+    for cut in &mut plan.cuts {
+        let list = (0..random.below(4)).map(|_| random.byte(count)).collect();
+        cut.precedes = Some(list);
+    }
+}
+
 struct Maker<'a> {
     random: &'a mut Random,
     size: Size,

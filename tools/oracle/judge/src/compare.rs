@@ -228,15 +228,31 @@ impl Sides<'_> {
 /// Compares the two sides on one input that both accept, or refuse as a case
 /// for a reason that both know.
 pub fn compare(plan: &[u8], case: &[u8], covered: &mut Covered) -> Result<Verdict, Difference> {
+    compare_with(Oracle::new(plan, case), plan, case, covered)
+}
+
+/// The same for a plan that only document 01 accepts: evaluate.rs is asked
+/// without the judgement of `compile`.
+pub fn compare_unchecked(
+    plan: &[u8],
+    case: &[u8],
+    covered: &mut Covered,
+) -> Result<Verdict, Difference> {
+    compare_with(Oracle::unchecked(plan, case), plan, case, covered)
+}
+
+fn compare_with(
+    oracle: Result<Oracle, NoAnswer>,
+    plan: &[u8],
+    case: &[u8],
+    covered: &mut Covered,
+) -> Result<Verdict, Difference> {
     let sides = Sides { plan, case };
     let none = |error| {
-        difference(
-            "the Rust has no answer",
-            error,
-            model_answers(Citing::ByBlock, &roomy(Op::Answer, plan, case, 0)),
-        )
+        let model = model_answers(Citing::ByBlock, &roomy(Op::Answer, plan, case, 0));
+        difference("the Rust has no answer", error, model)
     };
-    let oracle = Oracle::new(plan, case).map_err(none)?;
+    let oracle = oracle.map_err(none)?;
     match oracle.answer() {
         Err(NoAnswer::Case(error)) => sides.check_refusal(&error),
         Err(error) => Err(none(error)),

@@ -8,6 +8,7 @@ use reference::unit_derivation::compile::{CompiledConstitution, compile};
 use reference::unit_derivation::evaluate::derive_units;
 use reference::unit_derivation::evaluate::reach::{self, World};
 use reference::unit_derivation::types::*;
+use reference::unit_derivation::unchecked::unchecked;
 
 /// The Rust walks a shared node at each use. More steps than this and it
 /// would not end in reasonable time: such inputs are not given to it.
@@ -383,6 +384,20 @@ fn steps(plan: &Plan, case: &Case) -> u64 {
 
 impl Oracle {
     pub fn new(plan: &[u8], case: &[u8]) -> Result<Oracle, NoAnswer> {
+        Oracle::with(plan, case, |plan| compile(plan).map_err(NoAnswer::Plan))
+    }
+
+    /// Steps over the judgement of `compile`, for plans that only document 01
+    /// accepts.
+    pub fn unchecked(plan: &[u8], case: &[u8]) -> Result<Oracle, NoAnswer> {
+        Oracle::with(plan, case, |plan| Ok(unchecked(plan)))
+    }
+
+    fn with(
+        plan: &[u8],
+        case: &[u8],
+        compile: impl Fn(ConstitutionPlan) -> Result<CompiledConstitution, NoAnswer>,
+    ) -> Result<Oracle, NoAnswer> {
         let plan = Plan::decode(plan)
             .filter(Plan::is_closed)
             .ok_or(NoAnswer::NoRecords)?;
@@ -407,7 +422,7 @@ impl Oracle {
             nodes: &plan.nodes,
             facts,
         };
-        let compiled = compile(rust_plan(&plan, &expressions)).map_err(NoAnswer::Plan)?;
+        let compiled = compile(rust_plan(&plan, &expressions))?;
         let input = rust_input(&plan, &case, &expressions);
         let config = UnitDerivationConfig {
             enabled: true,

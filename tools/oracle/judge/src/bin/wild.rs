@@ -4,11 +4,11 @@
 
 use std::collections::BTreeMap;
 
-use inputs::generate::{self, Size};
+use inputs::generate;
 use inputs::mutate;
 use inputs::random::Random;
 use inputs::vectors::to_hex;
-use judge::compare::{Covered, compare};
+use judge::compare::{Covered, Difference, compare, compare_unchecked};
 use judge::rust::{NoAnswer, Oracle};
 use model::records::{Case, Plan};
 
@@ -39,19 +39,61 @@ impl Found {
 }
 
 fn wild(random: &mut Random) -> (Vec<u8>, Vec<u8>) {
-    let size = Size {
-        composites: 3,
-        ..generate::TINY
+    let size = if random.percent(60) {
+        generate::TINY
+    } else {
+        generate::DENSE
     };
-    let input = generate::input(random, size);
+    let mut input = generate::input(random, size);
+    if random.percent(40) {
+        generate::loosen(random, &mut input.plan);
+    }
     let (mut plan, mut case) = (input.plan.encode(), input.case.encode());
-    if random.percent(80) {
+    if random.percent(50) {
         plan = mutate::records(random, &input.plan.records());
     }
     if random.percent(30) {
         case = mutate::records(random, &input.case.records());
     }
     (plan, case)
+}
+
+/// What became of one input.
+enum Fate {
+    /// Refused here; the Rust's word on the plan.
+    Refused(u8, String),
+    /// Not asked: bytes that are no plan, or no case of it.
+    NotAsked,
+    /// Accepted by both and compared.
+    Compared(Option<Difference>),
+    /// Accepted here alone, and compared without the judgement of `compile`.
+    Alone(String, Option<Difference>),
+}
+
+fn word(plan: &[u8]) -> Option<String> {
+    match Oracle::compile(plan) {
+        Ok(()) => None,
+        Err(NoAnswer::Plan(error)) => Some(class(&error.to_string())),
+        Err(error) => Some(format!("{error:?}")),
+    }
+}
+
+fn judge(plan: &[u8], case: &[u8], covered: &mut Covered) -> Fate {
+    let read = match Plan::read(plan) {
+        Ok(read) => read,
+        Err(refusal) if refusal.number <= 4 => return Fate::NotAsked,
+        Err(refusal) => {
+            let word = word(plan).unwrap_or_else(|| "accepted by the Rust".to_string());
+            return Fate::Refused(refusal.number, word);
+        }
+    };
+    let case_reads = Case::read(case, &read).is_ok();
+    match word(plan) {
+        None if case_reads => Fate::Compared(compare(plan, case, covered).err()),
+        None => Fate::NotAsked,
+        Some(word) if case_reads => Fate::Alone(word, compare_unchecked(plan, case, covered).err()),
+        Some(word) => Fate::Alone(word, None),
+    }
 }
 
 fn main() {
@@ -62,41 +104,26 @@ fn main() {
         panic!("wild N SEED");
     };
     let (mut found, mut covered) = (Found::default(), Covered::default());
-    let (mut compared, mut differ) = (0, 0);
+    let (mut compared, mut alone, mut differ) = (0, 0, 0);
     for number in 0..count {
         let (plan, case) = wild(&mut Random::stream(seed, number));
-        let read = match Plan::read(&plan) {
-            Ok(read) => read,
-            Err(refusal) if refusal.number > 4 => {
-                let rust = match Oracle::compile(&plan) {
-                    Ok(()) => "accepted by the Rust".to_string(),
-                    Err(NoAnswer::Plan(error)) => class(&error.to_string()),
-                    Err(error) => format!("{error:?}"),
-                };
-                found.add(format!("refused {} here; {rust}", refusal.number), &plan);
-                continue;
+        let difference = match judge(&plan, &case, &mut covered) {
+            Fate::NotAsked => None,
+            Fate::Refused(number, word) => {
+                found.add(format!("refused {number} here; {word}"), &plan);
+                None
             }
-            Err(_) => continue,
+            Fate::Compared(difference) => {
+                compared += 1;
+                difference
+            }
+            Fate::Alone(word, difference) => {
+                alone += 1;
+                found.add(format!("accepted here; {word}"), &plan);
+                difference
+            }
         };
-        match Oracle::compile(&plan) {
-            Err(NoAnswer::Plan(error)) => {
-                found.add(
-                    format!("accepted here; {}", class(&error.to_string())),
-                    &plan,
-                );
-                continue;
-            }
-            Err(error) => {
-                found.add(format!("{error:?}"), &plan);
-                continue;
-            }
-            Ok(()) => {}
-        }
-        if Case::read(&case, &read).is_err() {
-            continue;
-        }
-        compared += 1;
-        if let Err(difference) = compare(&plan, &case, &mut covered) {
+        if let Some(difference) = difference {
             differ += 1;
             if differ == 1 {
                 println!(
@@ -110,6 +137,7 @@ fn main() {
     for (kind, (times, plan)) in &found.kinds {
         println!("{times} {kind}\n    {}", to_hex(plan));
     }
+    println!("{alone} accepted here alone, compared without the judgement of compile");
     println!("{compared} compared, {differ} differ");
     std::process::exit(i32::from(differ != 0));
 }
