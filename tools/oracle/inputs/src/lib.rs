@@ -1,6 +1,7 @@
 //! Inputs for comparison: plans and cases as values, random ones, damaged
 //! ones, smaller ones, and the vector format.
 
+pub mod build;
 pub mod generate;
 pub mod mutate;
 pub mod random;

@@ -4,6 +4,7 @@ use std::collections::BTreeMap;
 
 use inputs::vectors::{Call, Expected, Op};
 use model::Citing;
+use reference::unit_derivation::evaluate::reach::World;
 use reference::unit_derivation::types::UnitDerivationError;
 
 use crate::rust::{Answer, NoAnswer, Oracle};
@@ -62,7 +63,7 @@ fn difference(what: &str, rust: impl std::fmt::Debug, model: impl std::fmt::Debu
 }
 
 /// Refusals that the Rust, too, gives a case.
-fn refusal_of(error: &UnitDerivationError) -> Expected {
+pub fn refusal_of(error: &UnitDerivationError) -> Expected {
     let plain = |refusal| Expected {
         refusal,
         ..Expected::default()
@@ -133,6 +134,33 @@ fn cite_by_block(answer: &Answer, added: &BTreeMap<u8, u64>) -> Answer {
     answer
 }
 
+/// The Rust's answer, or one world of it, with document 01's citations.
+pub fn by_block(oracle: &Oracle, shown: Option<u64>) -> Result<Expected, NoAnswer> {
+    let answer = oracle.answer()?;
+    let worlds = oracle.worlds()?;
+    let answer = match shown {
+        None => cite_by_block(&answer, &added_by_blocks(oracle, &worlds)),
+        Some(number) => {
+            let world = worlds.get(number as usize).ok_or(NoAnswer::NoWorld)?;
+            cite_by_block(
+                &oracle.shown(world, worlds.len()),
+                &oracle.block_citations(world),
+            )
+        }
+    };
+    Ok(as_expected(&answer))
+}
+
+fn added_by_blocks(oracle: &Oracle, worlds: &[World]) -> BTreeMap<u8, u64> {
+    let mut added = BTreeMap::new();
+    for world in worlds {
+        for (person, citations) in oracle.block_citations(world) {
+            *added.entry(person).or_insert(0) |= citations;
+        }
+    }
+    added
+}
+
 struct Sides<'a> {
     plan: &'a [u8],
     case: &'a [u8],
@@ -173,12 +201,7 @@ impl Sides<'_> {
         if worlds.len() as u64 != answer.worlds {
             return Err(difference("worlds", worlds.len(), answer.worlds));
         }
-        let mut added = BTreeMap::new();
-        for world in &worlds {
-            for (person, citations) in oracle.block_citations(world) {
-                *added.entry(person).or_insert(0) |= citations;
-            }
-        }
+        let added = added_by_blocks(oracle, &worlds);
         let differs = self.check_both(Op::Answer, 0, answer, &added)?;
         if answer.worlds <= MOST_SHOWN {
             for (number, world) in worlds.iter().enumerate() {

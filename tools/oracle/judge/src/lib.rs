@@ -1,5 +1,6 @@
 //! The Rust and the model on the same bytes, side by side.
 
 pub mod compare;
+pub mod listing;
 pub mod rust;
 pub mod sides;
