@@ -8,22 +8,11 @@ pub fn set(persons: &[u8]) -> u64 {
 }
 
 pub fn base(left: u8, right: u8, condition: u8) -> Edge {
-    Edge {
-        left,
-        right,
-        condition,
-        citation: 1,
-        defeaters: None,
-        combination: false,
-    }
+    Edge { left, right, condition, citation: 1, defeaters: None, combination: false }
 }
 
 pub fn combination(left: u8, right: u8, condition: u8) -> Edge {
-    Edge {
-        combination: true,
-        citation: 2,
-        ..base(left, right, condition)
-    }
+    Edge { combination: true, citation: 2, ..base(left, right, condition) }
 }
 
 pub fn cut(members: &[u8], condition: u8) -> Cut {
@@ -38,38 +27,20 @@ pub fn cut(members: &[u8], condition: u8) -> Cut {
 }
 
 pub fn attachment(members: &[u8], anchor: u8, condition: u8) -> Attachment {
-    Attachment {
-        members: set(members),
-        anchor,
-        condition,
-        citation: 4,
-        actor: 1,
-        election: None,
-    }
+    Attachment { members: set(members), anchor, condition, citation: 4, actor: 1, election: None }
 }
 
 pub fn bar(members: &[u8], condition: u8) -> Bar {
-    Bar {
-        members: set(members),
-        condition,
-        citation: 5,
-    }
+    Bar { members: set(members), condition, citation: 5 }
 }
 
 pub fn status(person: u8, condition: u8) -> Status {
-    Status {
-        person,
-        condition,
-        citation: 6,
-    }
+    Status { person, condition, citation: 6 }
 }
 
 /// Node 0 is true.
 pub fn plan() -> Plan {
-    Plan {
-        nodes: vec![Node::Literal(1)],
-        ..Plan::default()
-    }
+    Plan { nodes: vec![Node::Literal(1)], ..Plan::default() }
 }
 
 /// A complete roster under relation 0, scope 1, segment 1.
@@ -86,39 +57,20 @@ pub fn case(roster: u64) -> Case {
 }
 
 pub fn observe(fact: u8, observations: &[(u8, u8)]) -> Boolean {
-    Boolean {
-        fact,
-        unknown: None,
-        observations: Some(observations.to_vec()),
-    }
+    Boolean { fact, unknown: None, observations: Some(observations.to_vec()) }
 }
 
 pub fn unknown(fact: u8, evidence: u8) -> Boolean {
-    Boolean {
-        fact,
-        unknown: Some(evidence),
-        observations: None,
-    }
+    Boolean { fact, unknown: Some(evidence), observations: None }
 }
 
 /// Every kind of record with every field, accepted by both sides.
 pub fn whole_plan() -> Plan {
-    let election = Election {
-        fact: 0,
-        actor: 9,
-        policy: 2,
-        citation: 7,
-    };
+    let election = Election { fact: 0, actor: 9, policy: 2, citation: 7 };
     Plan {
         relation: 5,
         chain: None,
-        facts: vec![
-            None,
-            None,
-            Some((3, vec![])),
-            Some((3, vec![1, 2])),
-            Some((4, vec![40])),
-        ],
+        facts: vec![None, None, Some((3, vec![])), Some((3, vec![1, 2])), Some((4, vec![40]))],
         nodes: vec![
             Node::Literal(1),
             Node::Fact(0),
@@ -130,15 +82,8 @@ pub fn whole_plan() -> Plan {
             Node::Fact(1),
         ],
         edges: vec![
-            Edge {
-                defeaters: Some(vec![6, 7]),
-                ..base(0, 1, 0)
-            },
-            Edge {
-                defeaters: Some(vec![]),
-                citation: 63,
-                ..combination(1, 2, 5)
-            },
+            Edge { defeaters: Some(vec![6, 7]), ..base(0, 1, 0) },
+            Edge { defeaters: Some(vec![]), citation: 63, ..combination(1, 2, 5) },
             base(2, 63, 3),
         ],
         cuts: vec![
@@ -148,11 +93,7 @@ pub fn whole_plan() -> Plan {
                 precedes: Some(vec![1]),
                 ..cut(&[0, 1], 1)
             },
-            Cut {
-                decisions: Some(vec![(1, BLOCKED)]),
-                citation: 8,
-                ..cut(&[1], 4)
-            },
+            Cut { decisions: Some(vec![(1, BLOCKED)]), citation: 8, ..cut(&[1], 4) },
         ],
         attachments: vec![Attachment {
             actor: 9,
@@ -169,34 +110,14 @@ pub fn whole_case() -> Case {
         relation: 5,
         most_worlds: 64,
         families: vec![
-            Family {
-                number: 3,
-                scope: Some(1),
-                complete: Some(2),
-            },
-            Family {
-                number: 4,
-                scope: Some(7),
-                complete: None,
-            },
+            Family { number: 3, scope: Some(1), complete: Some(2) },
+            Family { number: 4, scope: Some(7), complete: None },
         ],
         booleans: vec![unknown(1, 4), observe(0, &[(1, 3), (1, 5)])],
         relations: vec![
-            Relation {
-                fact: 3,
-                value: 1,
-                evidence: 1,
-            },
-            Relation {
-                fact: 4,
-                value: 0,
-                evidence: 1,
-            },
-            Relation {
-                fact: 3,
-                value: 0,
-                evidence: 2,
-            },
+            Relation { fact: 3, value: 1, evidence: 1 },
+            Relation { fact: 4, value: 0, evidence: 1 },
+            Relation { fact: 3, value: 0, evidence: 2 },
         ],
         constraints: vec![0, 5],
         ..case(set(&[0, 1, 2, 63]))

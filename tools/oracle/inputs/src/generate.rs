@@ -105,16 +105,8 @@ fn spoil(random: &mut Random, case: &mut Case) {
 pub fn input(random: &mut Random, size: Size) -> Input {
     loop {
         let input = any_input(random, size);
-        let decisions = input
-            .plan
-            .cuts
-            .iter()
-            .flat_map(|cut| cut.decisions.iter().flatten());
-        if decisions
-            .filter(|(_, decision)| *decision == UNRESOLVED)
-            .count()
-            <= 16
-        {
+        let decisions = input.plan.cuts.iter().flat_map(|cut| cut.decisions.iter().flatten());
+        if decisions.filter(|(_, decision)| *decision == UNRESOLVED).count() <= 16 {
             return input;
         }
     }
@@ -130,10 +122,7 @@ fn any_input(random: &mut Random, size: Size) -> Input {
     maker.bars();
     maker.statuses();
     let case = maker.case();
-    Input {
-        plan: maker.plan,
-        case,
-    }
+    Input { plan: maker.plan, case }
 }
 
 /// Turns a plan into one that document 01 accepts and the Rust refuses, in
@@ -185,10 +174,7 @@ fn loosen_cut(random: &mut Random, plan: &mut Plan) {
 /// No members, the anchor or another's members among them, another actor.
 fn loosen_attachment(random: &mut Random, plan: &mut Plan) {
     let at = random.below(plan.attachments.len());
-    let other = plan
-        .attachments
-        .last()
-        .map(|rule| rule.members | 1 << rule.anchor);
+    let other = plan.attachments.last().map(|rule| rule.members | 1 << rule.anchor);
     let Some(rule) = plan.attachments.get_mut(at) else {
         return;
     };
@@ -235,20 +221,8 @@ impl<'a> Maker<'a> {
         let persons = choose_persons(random, size.persons);
         let citations = if random.percent(25) { 4 } else { 64 };
         let chain = random.percent(35).then(|| random.byte(64));
-        let plan = Plan {
-            relation: random.byte(256),
-            chain,
-            ..Plan::default()
-        };
-        Maker {
-            random,
-            size,
-            persons,
-            elections: Vec::new(),
-            uses: Vec::new(),
-            citations,
-            plan,
-        }
+        let plan = Plan { relation: random.byte(256), chain, ..Plan::default() };
+        Maker { random, size, persons, elections: Vec::new(), uses: Vec::new(), citations, plan }
     }
 
     fn count(&mut self, most: usize) -> usize {
@@ -265,11 +239,7 @@ impl<'a> Maker<'a> {
 
     /// One person in seven of a tuple is anybody, on the roster or off it.
     fn tuple_person(&mut self) -> u8 {
-        if self.random.percent(15) {
-            self.random.byte(64)
-        } else {
-            self.person()
-        }
+        if self.random.percent(15) { self.random.byte(64) } else { self.person() }
     }
 
     fn some_persons(&mut self) -> u64 {
@@ -290,11 +260,7 @@ impl<'a> Maker<'a> {
             };
             self.elections.push(election);
         }
-        let pool = [
-            self.random.byte(256),
-            self.random.byte(256),
-            self.random.byte(256),
-        ];
+        let pool = [self.random.byte(256), self.random.byte(256), self.random.byte(256)];
         let mut relations: Vec<(u8, Vec<u8>)> = Vec::new();
         for _ in 0..self.count(self.size.relations) {
             let length = self.random.below(5);
@@ -310,9 +276,9 @@ impl<'a> Maker<'a> {
         let used = match &node {
             Node::Literal(_) => 0,
             Node::Fact(fact) => 1 << fact,
-            Node::And(children) | Node::Or(children) => children
-                .iter()
-                .fold(0, |all, &child| all | self.uses[child as usize]),
+            Node::And(children) | Node::Or(children) => {
+                children.iter().fold(0, |all, &child| all | self.uses[child as usize])
+            }
             Node::Not(child) => self.uses[*child as usize],
         };
         self.uses.push(used);
@@ -348,11 +314,7 @@ impl<'a> Maker<'a> {
 
     /// Node 0 is true: rules that always act make worlds dense.
     fn condition(&mut self) -> u8 {
-        if self.random.percent(35) {
-            0
-        } else {
-            self.random.byte(self.plan.nodes.len())
-        }
+        if self.random.percent(35) { 0 } else { self.random.byte(self.plan.nodes.len()) }
     }
 
     fn nodes_list(&mut self, chance: usize) -> List<u8> {
@@ -360,11 +322,7 @@ impl<'a> Maker<'a> {
             return None;
         }
         let count = self.random.below(3);
-        Some(
-            (0..count)
-                .map(|_| self.random.byte(self.plan.nodes.len()))
-                .collect(),
-        )
+        Some((0..count).map(|_| self.random.byte(self.plan.nodes.len())).collect())
     }
 
     fn edges(&mut self) {
@@ -392,12 +350,8 @@ impl<'a> Maker<'a> {
     /// An election on a boolean fact that the condition uses.
     fn election(&mut self, condition: u8) -> Option<Election> {
         let used = self.uses[condition as usize];
-        let fitting: Vec<Election> = self
-            .elections
-            .iter()
-            .filter(|e| used >> e.fact & 1 == 1)
-            .copied()
-            .collect();
+        let fitting: Vec<Election> =
+            self.elections.iter().filter(|e| used >> e.fact & 1 == 1).copied().collect();
         if fitting.is_empty() || self.random.percent(30) {
             return None;
         }
@@ -447,11 +401,7 @@ impl<'a> Maker<'a> {
             }
         }
         self.random.shuffle(&mut list);
-        if list.is_empty() && self.random.percent(70) {
-            None
-        } else {
-            Some(list)
-        }
+        if list.is_empty() && self.random.percent(70) { None } else { Some(list) }
     }
 
     /// Every crossing Combination edge is decided, others now and then. Cuts
@@ -482,11 +432,7 @@ impl<'a> Maker<'a> {
             list.push((edge, decision));
         }
         self.random.shuffle(&mut list);
-        if list.is_empty() && self.random.percent(70) {
-            None
-        } else {
-            Some(list)
-        }
+        if list.is_empty() && self.random.percent(70) { None } else { Some(list) }
     }
 
     /// Attachments share no members and move no anchor.
@@ -503,9 +449,7 @@ impl<'a> Maker<'a> {
                 return;
             }
             let taken = self.random.between(1, free.len().min(3));
-            let members = free
-                .drain(..taken)
-                .fold(0, |set, person| set | 1u64 << person);
+            let members = free.drain(..taken).fold(0, |set, person| set | 1u64 << person);
             let condition = self.condition();
             let election = self.election(condition);
             let actor = election.map_or_else(|| self.random.between(1, 255) as u8, |e| e.actor);
@@ -529,11 +473,7 @@ impl<'a> Maker<'a> {
                 Some(members) if self.random.percent(30) => members,
                 _ => self.some_persons(),
             };
-            let bar = Bar {
-                members,
-                condition: self.condition(),
-                citation: self.citation(),
-            };
+            let bar = Bar { members, condition: self.condition(), citation: self.citation() };
             self.plan.bars.push(bar);
         }
     }
@@ -542,11 +482,7 @@ impl<'a> Maker<'a> {
         for _ in 0..self.count(self.size.statuses) {
             let (person, condition) = (self.person(), self.condition());
             let citation = self.citation();
-            self.plan.statuses.push(Status {
-                person,
-                condition,
-                citation,
-            });
+            self.plan.statuses.push(Status { person, condition, citation });
         }
     }
 
@@ -557,10 +493,7 @@ impl<'a> Maker<'a> {
             scope: Some(scope),
             segment: Some(self.random.between(1, 255) as u8),
             segment_complete: true,
-            roster: self
-                .persons
-                .iter()
-                .fold(0, |set, &person| set | 1u64 << person),
+            roster: self.persons.iter().fold(0, |set, &person| set | 1u64 << person),
             complete: self.random.percent(98).then(|| self.random.byte(64)),
             most_worlds: self.most_worlds(),
             ..Case::default()
@@ -570,29 +503,19 @@ impl<'a> Maker<'a> {
         self.relations(&mut case);
         if self.random.percent(30) {
             for _ in 0..self.random.between(1, 3) {
-                case.constraints
-                    .push(self.random.byte(self.plan.nodes.len()));
+                case.constraints.push(self.random.byte(self.plan.nodes.len()));
             }
         }
         case
     }
 
     fn most_worlds(&mut self) -> u16 {
-        if self.random.percent(92) {
-            4096
-        } else {
-            self.random.below(65) as u16
-        }
+        if self.random.percent(92) { 4096 } else { self.random.below(65) as u16 }
     }
 
     fn families(&mut self, case: &mut Case, scope: u8) {
-        let mut numbers: Vec<u8> = self
-            .plan
-            .facts
-            .iter()
-            .flatten()
-            .map(|(family, _)| *family)
-            .collect();
+        let mut numbers: Vec<u8> =
+            self.plan.facts.iter().flatten().map(|(family, _)| *family).collect();
         numbers.dedup();
         if self.random.percent(10) {
             let other = self.random.byte(256);
@@ -612,11 +535,7 @@ impl<'a> Maker<'a> {
                 _ => Some(scope),
             };
             let complete = self.random.percent(60).then(|| self.random.byte(64));
-            case.families.push(Family {
-                number,
-                scope: family_scope,
-                complete,
-            });
+            case.families.push(Family { number, scope: family_scope, complete });
         }
     }
 
@@ -628,19 +547,9 @@ impl<'a> Maker<'a> {
                 self.open_boolean(case, fact);
                 continue;
             }
-            let count = if self.random.percent(75) {
-                1
-            } else {
-                self.random.between(2, 4)
-            };
-            let list = (0..count)
-                .map(|_| (self.random.byte(2), self.random.byte(6)))
-                .collect();
-            case.booleans.push(Boolean {
-                fact,
-                unknown: None,
-                observations: Some(list),
-            });
+            let count = if self.random.percent(75) { 1 } else { self.random.between(2, 4) };
+            let list = (0..count).map(|_| (self.random.byte(2), self.random.byte(6))).collect();
+            case.booleans.push(Boolean { fact, unknown: None, observations: Some(list) });
         }
     }
 
@@ -649,36 +558,21 @@ impl<'a> Maker<'a> {
         let unknown = self.random.percent(50).then(|| self.random.byte(64));
         let observations = self.random.percent(20).then(Vec::new);
         if unknown.is_some() || self.random.percent(20) {
-            case.booleans.push(Boolean {
-                fact,
-                unknown,
-                observations,
-            });
+            case.booleans.push(Boolean { fact, unknown, observations });
         }
     }
 
     fn relations(&mut self, case: &mut Case) {
         for fact in self.elections.len()..self.plan.facts.len() {
             let family = self.plan.facts[fact].as_ref().map(|(family, _)| *family);
-            let recorded = case
-                .families
-                .iter()
-                .any(|record| Some(record.number) == family);
+            let recorded = case.families.iter().any(|record| Some(record.number) == family);
             if !recorded || self.random.percent(self.size.open) {
                 continue;
             }
-            let count = if self.random.percent(80) {
-                1
-            } else {
-                self.random.between(2, 3)
-            };
+            let count = if self.random.percent(80) { 1 } else { self.random.between(2, 3) };
             for _ in 0..count {
                 let (value, evidence) = (self.random.byte(2), self.random.byte(6));
-                case.relations.push(Relation {
-                    fact: fact as u8,
-                    value,
-                    evidence,
-                });
+                case.relations.push(Relation { fact: fact as u8, value, evidence });
             }
         }
         self.random.shuffle(&mut case.relations);

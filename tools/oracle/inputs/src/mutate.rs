@@ -3,9 +3,7 @@
 use crate::random::Random;
 
 /// Values around the limits of document 01.
-const EDGES: [u8; 18] = [
-    0, 1, 2, 3, 4, 5, 6, 8, 9, 15, 16, 17, 31, 32, 63, 64, 65, 255,
-];
+const EDGES: [u8; 18] = [0, 1, 2, 3, 4, 5, 6, 8, 9, 15, 16, 17, 31, 32, 63, 64, 65, 255];
 
 /// Damages bytes in one to four places, blindly.
 pub fn bytes(random: &mut Random, good: &[u8]) -> Vec<u8> {

@@ -8,9 +8,7 @@ pub fn shrink(start: Input, mut shows: impl FnMut(&Input) -> bool) -> Input {
     let mut best = start;
     loop {
         let size = weight(&best);
-        let smaller = neighbours(&best)
-            .into_iter()
-            .find(|next| weight(next) < size && shows(next));
+        let smaller = neighbours(&best).into_iter().find(|next| weight(next) < size && shows(next));
         match smaller {
             Some(next) => best = next,
             None => return best,
@@ -100,11 +98,7 @@ fn drop_fact(next: &mut Input, at: u8, value: u8) {
         }
     }
     let cuts = next.plan.cuts.iter_mut().map(|rule| &mut rule.election);
-    let attachments = next
-        .plan
-        .attachments
-        .iter_mut()
-        .map(|rule| &mut rule.election);
+    let attachments = next.plan.attachments.iter_mut().map(|rule| &mut rule.election);
     for election in cuts.chain(attachments) {
         match election {
             Some(held) if held.fact == at => *election = None,
@@ -113,15 +107,9 @@ fn drop_fact(next: &mut Input, at: u8, value: u8) {
         }
     }
     next.case.booleans.retain(|record| record.fact != at);
-    next.case
-        .booleans
-        .iter_mut()
-        .for_each(|record| fall(&mut record.fact, at));
+    next.case.booleans.iter_mut().for_each(|record| fall(&mut record.fact, at));
     next.case.relations.retain(|record| record.fact != at);
-    next.case
-        .relations
-        .iter_mut()
-        .for_each(|record| fall(&mut record.fact, at));
+    next.case.relations.iter_mut().for_each(|record| fall(&mut record.fact, at));
 }
 
 fn each_node_number(next: &mut Input, mut change: impl FnMut(&mut u8)) {
@@ -136,22 +124,10 @@ fn each_node_number(next: &mut Input, mut change: impl FnMut(&mut u8)) {
         change(&mut edge.condition);
         edge.defeaters.iter_mut().flatten().for_each(&mut change);
     }
-    next.plan
-        .cuts
-        .iter_mut()
-        .for_each(|rule| change(&mut rule.condition));
-    next.plan
-        .attachments
-        .iter_mut()
-        .for_each(|rule| change(&mut rule.condition));
-    next.plan
-        .bars
-        .iter_mut()
-        .for_each(|rule| change(&mut rule.condition));
-    next.plan
-        .statuses
-        .iter_mut()
-        .for_each(|rule| change(&mut rule.condition));
+    next.plan.cuts.iter_mut().for_each(|rule| change(&mut rule.condition));
+    next.plan.attachments.iter_mut().for_each(|rule| change(&mut rule.condition));
+    next.plan.bars.iter_mut().for_each(|rule| change(&mut rule.condition));
+    next.plan.statuses.iter_mut().for_each(|rule| change(&mut rule.condition));
     next.case.constraints.iter_mut().for_each(change);
 }
 
@@ -171,9 +147,7 @@ fn drop_nodes(input: &Input, found: &mut Vec<Input>) {
             });
         }
         for value in 0..2 {
-            with(input, found, |next| {
-                next.plan.nodes[at] = Node::Literal(value)
-            });
+            with(input, found, |next| next.plan.nodes[at] = Node::Literal(value));
         }
     }
 }
@@ -182,12 +156,7 @@ fn drop_edges(input: &Input, found: &mut Vec<Input>) {
     for at in 0..input.plan.edges.len() {
         with(input, found, |next| {
             next.plan.edges.remove(at);
-            for list in next
-                .plan
-                .cuts
-                .iter_mut()
-                .filter_map(|cut| cut.decisions.as_mut())
-            {
+            for list in next.plan.cuts.iter_mut().filter_map(|cut| cut.decisions.as_mut()) {
                 list.retain(|(edge, _)| *edge as usize != at);
                 list.iter_mut().for_each(|(edge, _)| fall(edge, at as u8));
             }
@@ -199,12 +168,7 @@ fn drop_cuts(input: &Input, found: &mut Vec<Input>) {
     for at in 0..input.plan.cuts.len() {
         with(input, found, |next| {
             next.plan.cuts.remove(at);
-            for list in next
-                .plan
-                .cuts
-                .iter_mut()
-                .filter_map(|cut| cut.precedes.as_mut())
-            {
+            for list in next.plan.cuts.iter_mut().filter_map(|cut| cut.precedes.as_mut()) {
                 list.retain(|cut| *cut as usize != at);
                 list.iter_mut().for_each(|cut| fall(cut, at as u8));
             }
@@ -213,18 +177,9 @@ fn drop_cuts(input: &Input, found: &mut Vec<Input>) {
 }
 
 fn each_mask(next: &mut Input, mut change: impl FnMut(&mut u64)) {
-    next.plan
-        .cuts
-        .iter_mut()
-        .for_each(|rule| change(&mut rule.members));
-    next.plan
-        .attachments
-        .iter_mut()
-        .for_each(|rule| change(&mut rule.members));
-    next.plan
-        .bars
-        .iter_mut()
-        .for_each(|rule| change(&mut rule.members));
+    next.plan.cuts.iter_mut().for_each(|rule| change(&mut rule.members));
+    next.plan.attachments.iter_mut().for_each(|rule| change(&mut rule.members));
+    next.plan.bars.iter_mut().for_each(|rule| change(&mut rule.members));
     change(&mut next.case.roster);
 }
 
@@ -233,14 +188,8 @@ fn each_person(next: &mut Input, mut change: impl FnMut(&mut u8)) {
         change(&mut edge.left);
         change(&mut edge.right);
     }
-    next.plan
-        .attachments
-        .iter_mut()
-        .for_each(|rule| change(&mut rule.anchor));
-    next.plan
-        .statuses
-        .iter_mut()
-        .for_each(|rule| change(&mut rule.person));
+    next.plan.attachments.iter_mut().for_each(|rule| change(&mut rule.anchor));
+    next.plan.statuses.iter_mut().for_each(|rule| change(&mut rule.person));
     for (_, tuple) in next.plan.facts.iter_mut().flatten() {
         tuple.iter_mut().for_each(&mut change);
     }
@@ -250,38 +199,27 @@ fn each_person(next: &mut Input, mut change: impl FnMut(&mut u8)) {
 /// clears single bits.
 fn drop_persons(input: &Input, found: &mut Vec<Input>) {
     for person in (0..64).filter(|person| input.case.roster >> person & 1 == 1) {
-        with(input, found, |next| {
-            each_mask(next, |mask| *mask &= !(1 << person))
-        });
+        with(input, found, |next| each_mask(next, |mask| *mask &= !(1 << person)));
         let free = (0..person).find(|lower| input.case.roster >> lower & 1 == 0);
         if let Some(free) = free {
             with(input, found, |next| rename(next, person, free));
         }
     }
     for (at, cut) in input.plan.cuts.iter().enumerate() {
-        each_bit(cut.members, |bit| {
-            with(input, found, |next| next.plan.cuts[at].members &= !bit)
-        });
+        each_bit(cut.members, |bit| with(input, found, |next| next.plan.cuts[at].members &= !bit));
     }
     for (at, rule) in input.plan.attachments.iter().enumerate() {
         each_bit(rule.members, |bit| {
-            with(input, found, |next| {
-                next.plan.attachments[at].members &= !bit
-            })
+            with(input, found, |next| next.plan.attachments[at].members &= !bit)
         });
     }
     for (at, bar) in input.plan.bars.iter().enumerate() {
-        each_bit(bar.members, |bit| {
-            with(input, found, |next| next.plan.bars[at].members &= !bit)
-        });
+        each_bit(bar.members, |bit| with(input, found, |next| next.plan.bars[at].members &= !bit));
     }
 }
 
 fn each_bit(mask: u64, mut act: impl FnMut(u64)) {
-    (0..64)
-        .map(|bit| 1u64 << bit)
-        .filter(|bit| mask & bit != 0)
-        .for_each(&mut act);
+    (0..64).map(|bit| 1u64 << bit).filter(|bit| mask & bit != 0).for_each(&mut act);
 }
 
 fn rename(next: &mut Input, from: u8, to: u8) {
@@ -328,16 +266,12 @@ fn drop_fields(input: &Input, found: &mut Vec<Input>) {
         });
     }
     for at in 0..input.plan.attachments.len() {
-        with(input, found, |next| {
-            next.plan.attachments[at].election = None
-        });
+        with(input, found, |next| next.plan.attachments[at].election = None);
     }
     for (at, record) in input.case.booleans.iter().enumerate() {
         with(input, found, |next| next.case.booleans[at].unknown = None);
         shorter(&record.observations, |list| {
-            with(input, found, |next| {
-                next.case.booleans[at].observations = list
-            });
+            with(input, found, |next| next.case.booleans[at].observations = list);
         });
     }
     for at in 0..input.case.families.len() {
@@ -366,18 +300,12 @@ fn lower_values(input: &Input, found: &mut Vec<Input>) {
     });
     with(input, found, |next| {
         let scope = next.case.scope;
-        let families = next
-            .case
-            .families
-            .iter_mut()
-            .filter(|family| family.scope == scope);
+        let families = next.case.families.iter_mut().filter(|family| family.scope == scope);
         families.for_each(|family| family.scope = Some(1));
         next.case.scope = Some(1);
     });
     with(input, found, |next| next.case.segment = Some(1));
-    with(input, found, |next| {
-        next.case.complete = next.case.complete.map(|_| 0)
-    });
+    with(input, found, |next| next.case.complete = next.case.complete.map(|_| 0));
     let plan = &input.plan;
     for at in 0..plan.edges.len() {
         with(input, found, |next| next.plan.edges[at].citation = 0);

@@ -60,10 +60,7 @@ pub fn from_hex(text: &str) -> Option<Vec<u8>> {
         return None;
     }
     let digit = |byte: u8| (byte as char).to_digit(16).map(|value| value as u8);
-    digits
-        .chunks(2)
-        .map(|pair| Some(digit(pair[0])? << 4 | digit(pair[1])?))
-        .collect()
+    digits.chunks(2).map(|pair| Some(digit(pair[0])? << 4 | digit(pair[1])?)).collect()
 }
 
 impl Op {
@@ -76,9 +73,7 @@ impl Op {
     }
 
     fn parse(text: &str) -> Option<Op> {
-        [Op::Check, Op::Answer, Op::Show]
-            .into_iter()
-            .find(|op| op.name() == text)
+        [Op::Check, Op::Answer, Op::Show].into_iter().find(|op| op.name() == text)
     }
 }
 
@@ -89,17 +84,8 @@ impl Vector {
         else {
             return None;
         };
-        let &[
-            refusal,
-            record,
-            count,
-            maximum,
-            lines,
-            events,
-            worlds,
-            line_bytes,
-            event_bytes,
-        ] = rest
+        let &[refusal, record, count, maximum, lines, events, worlds, line_bytes, event_bytes] =
+            rest
         else {
             return None;
         };

@@ -129,9 +129,7 @@ struct Record {
 
 impl Record {
     fn new(kind: u8) -> Record {
-        Record {
-            bytes: vec![kind, 0],
-        }
+        Record { bytes: vec![kind, 0] }
     }
 
     fn bit(mut self, bit: u8) -> Record {
@@ -202,21 +200,13 @@ fn edge_record(edge: &Edge) -> Record {
         .put(2, &[edge.condition])
         .put(3, &[edge.citation])
         .list(4, &edge.defeaters);
-    if edge.combination {
-        record.bit(5)
-    } else {
-        record
-    }
+    if edge.combination { record.bit(5) } else { record }
 }
 
 impl Plan {
     /// The plan's records in order, each as its bytes.
     pub fn records(&self) -> Vec<Vec<u8>> {
-        let mut records = vec![
-            Record::new(1)
-                .put(0, &[self.relation])
-                .option(1, self.chain),
-        ];
+        let mut records = vec![Record::new(1).put(0, &[self.relation]).option(1, self.chain)];
         records.extend(self.facts.iter().map(|fact| match fact {
             None => Record::new(2),
             Some((family, tuple)) => Record::new(2).put(0, &[*family]).put(1, &counted(tuple)),
@@ -242,10 +232,7 @@ impl Plan {
                 .election(5, rule.election)
         }));
         records.extend(self.bars.iter().map(|bar| {
-            Record::new(7)
-                .mask(0, bar.members)
-                .put(1, &[bar.condition])
-                .put(2, &[bar.citation])
+            Record::new(7).mask(0, bar.members).put(1, &[bar.condition]).put(2, &[bar.citation])
         }));
         records.extend(self.statuses.iter().map(|status| {
             Record::new(8)
@@ -327,10 +314,8 @@ impl Plan {
 
 impl Case {
     pub fn records(&self) -> Vec<Vec<u8>> {
-        let mut heading = Record::new(1)
-            .put(0, &[self.relation])
-            .option(1, self.scope)
-            .option(2, self.segment);
+        let mut heading =
+            Record::new(1).put(0, &[self.relation]).option(1, self.scope).option(2, self.segment);
         if self.segment_complete {
             heading = heading.bit(3);
         }
@@ -357,11 +342,7 @@ impl Case {
                 .put(1, &[relation.value])
                 .put(2, &[relation.evidence])
         }));
-        records.extend(
-            self.constraints
-                .iter()
-                .map(|&node| Record::new(5).put(0, &[node])),
-        );
+        records.extend(self.constraints.iter().map(|&node| Record::new(5).put(0, &[node])));
         records.into_iter().map(|record| record.bytes).collect()
     }
 
@@ -418,18 +399,14 @@ impl Plan {
     pub fn is_closed(&self) -> bool {
         let node = |&number: &u8| (number as usize) < self.nodes.len();
         let fact = |number: u8| (number as usize) < self.facts.len();
-        let nodes = self
-            .nodes
-            .iter()
-            .enumerate()
-            .all(|(number, node)| match node {
-                Node::Literal(_) => true,
-                Node::Fact(named) => fact(*named),
-                Node::And(children) | Node::Or(children) => {
-                    children.iter().all(|&child| (child as usize) < number)
-                }
-                Node::Not(child) => (*child as usize) < number,
-            });
+        let nodes = self.nodes.iter().enumerate().all(|(number, node)| match node {
+            Node::Literal(_) => true,
+            Node::Fact(named) => fact(*named),
+            Node::And(children) | Node::Or(children) => {
+                children.iter().all(|&child| (child as usize) < number)
+            }
+            Node::Not(child) => (*child as usize) < number,
+        });
         let edges = self
             .edges
             .iter()
@@ -441,11 +418,7 @@ impl Plan {
                     .iter()
                     .flatten()
                     .all(|(edge, _)| (*edge as usize) < self.edges.len())
-                && cut
-                    .precedes
-                    .iter()
-                    .flatten()
-                    .all(|&other| (other as usize) < self.cuts.len())
+                && cut.precedes.iter().flatten().all(|&other| (other as usize) < self.cuts.len())
         });
         let attachments = self.attachments.iter().map(|rule| &rule.condition);
         let bars = self.bars.iter().map(|rule| &rule.condition);
@@ -459,10 +432,7 @@ impl Case {
         let fact = |number: u8| (number as usize) < plan.facts.len();
         self.booleans.iter().all(|record| fact(record.fact))
             && self.relations.iter().all(|record| fact(record.fact))
-            && self
-                .constraints
-                .iter()
-                .all(|&node| (node as usize) < plan.nodes.len())
+            && self.constraints.iter().all(|&node| (node as usize) < plan.nodes.len())
     }
 }
 
@@ -480,17 +450,11 @@ impl Input<'_> {
     }
 
     fn option(&mut self, bits: u8, bit: u8) -> Option<Option<u8>> {
-        Some(if bits >> bit & 1 == 1 {
-            Some(self.byte()?)
-        } else {
-            None
-        })
+        Some(if bits >> bit & 1 == 1 { Some(self.byte()?) } else { None })
     }
 
     fn mask(&mut self) -> Option<u64> {
-        (0..8).try_fold(0u64, |mask, at| {
-            Some(mask | u64::from(self.byte()?) << (8 * at))
-        })
+        (0..8).try_fold(0u64, |mask, at| Some(mask | u64::from(self.byte()?) << (8 * at)))
     }
 
     fn list(&mut self) -> Option<Vec<u8>> {
@@ -499,11 +463,7 @@ impl Input<'_> {
     }
 
     fn optional_list(&mut self, bits: u8, bit: u8) -> Option<List<u8>> {
-        Some(if bits >> bit & 1 == 1 {
-            Some(self.list()?)
-        } else {
-            None
-        })
+        Some(if bits >> bit & 1 == 1 { Some(self.list()?) } else { None })
     }
 
     fn pairs(&mut self, bits: u8, bit: u8) -> Option<List<(u8, u8)>> {

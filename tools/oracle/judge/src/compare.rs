@@ -36,14 +36,8 @@ pub struct Covered {
 
 impl Covered {
     fn take(&mut self, answer: &Answer) {
-        answer
-            .lines
-            .chunks_exact(LINE)
-            .for_each(|line| self.lines[line[1] as usize] += 1);
-        answer
-            .events
-            .chunks_exact(EVENT)
-            .for_each(|event| self.events[event[0] as usize] += 1);
+        answer.lines.chunks_exact(LINE).for_each(|line| self.lines[line[1] as usize] += 1);
+        answer.events.chunks_exact(EVENT).for_each(|event| self.events[event[0] as usize] += 1);
     }
 }
 
@@ -55,27 +49,18 @@ pub struct Difference {
 }
 
 fn difference(what: &str, rust: impl std::fmt::Debug, model: impl std::fmt::Debug) -> Difference {
-    Difference {
-        what: what.to_string(),
-        rust: format!("{rust:?}"),
-        model: format!("{model:?}"),
-    }
+    Difference { what: what.to_string(), rust: format!("{rust:?}"), model: format!("{model:?}") }
 }
 
 /// Refusals that the Rust, too, gives a case.
 pub fn refusal_of(error: &UnitDerivationError) -> Expected {
-    let plain = |refusal| Expected {
-        refusal,
-        ..Expected::default()
-    };
+    let plain = |refusal| Expected { refusal, ..Expected::default() };
     match error {
         UnitDerivationError::RequiresSegmentation => plain(8),
         UnitDerivationError::DuplicateNamespace { .. } => plain(5),
-        UnitDerivationError::UncheckableWorldSpace { worlds, maximum } => Expected {
-            count: *worlds as u64,
-            maximum: *maximum as u64,
-            ..plain(11)
-        },
+        UnitDerivationError::UncheckableWorldSpace { worlds, maximum } => {
+            Expected { count: *worlds as u64, maximum: *maximum as u64, ..plain(11) }
+        }
         UnitDerivationError::InvalidPlan(text) if text.contains("both explicit Unknown") => {
             plain(10)
         }
@@ -125,10 +110,7 @@ fn cite_by_block(answer: &Answer, added: &BTreeMap<u8, u64>) -> Answer {
     for line in answer.lines.chunks_exact_mut(LINE) {
         if line[3..11].iter().any(|&byte| byte != 0) {
             let bytes = added[&line[0]].to_le_bytes();
-            line[21..29]
-                .iter_mut()
-                .zip(bytes)
-                .for_each(|(byte, more)| *byte |= more);
+            line[21..29].iter_mut().zip(bytes).for_each(|(byte, more)| *byte |= more);
         }
     }
     answer
@@ -142,10 +124,7 @@ pub fn by_block(oracle: &Oracle, shown: Option<u64>) -> Result<Expected, NoAnswe
         None => cite_by_block(&answer, &added_by_blocks(oracle, &worlds)),
         Some(number) => {
             let world = worlds.get(number as usize).ok_or(NoAnswer::NoWorld)?;
-            cite_by_block(
-                &oracle.shown(world, worlds.len()),
-                &oracle.block_citations(world),
-            )
+            cite_by_block(&oracle.shown(world, worlds.len()), &oracle.block_citations(world))
         }
     };
     Ok(as_expected(&answer))
@@ -173,11 +152,7 @@ impl Sides<'_> {
         if rust == model {
             return Ok(());
         }
-        Err(difference(
-            &format!("{op:?} {world} {citing:?}"),
-            rust,
-            model,
-        ))
+        Err(difference(&format!("{op:?} {world} {citing:?}"), rust, model))
     }
 
     /// Both citing rules against the Rust; true if they differ.
@@ -195,9 +170,7 @@ impl Sides<'_> {
     }
 
     fn check_worlds(&self, oracle: &Oracle, answer: &Answer) -> Result<bool, Difference> {
-        let worlds = oracle
-            .worlds()
-            .map_err(|error| difference("worlds", error, answer))?;
+        let worlds = oracle.worlds().map_err(|error| difference("worlds", error, answer))?;
         if worlds.len() as u64 != answer.worlds {
             return Err(difference("worlds", worlds.len(), answer.worlds));
         }
@@ -206,12 +179,7 @@ impl Sides<'_> {
         if answer.worlds <= MOST_SHOWN {
             for (number, world) in worlds.iter().enumerate() {
                 let shown = oracle.shown(world, worlds.len());
-                self.check_both(
-                    Op::Show,
-                    number as u64,
-                    &shown,
-                    &oracle.block_citations(world),
-                )?;
+                self.check_both(Op::Show, number as u64, &shown, &oracle.block_citations(world))?;
             }
         }
         self.check_beyond(answer.worlds)?;
@@ -220,19 +188,9 @@ impl Sides<'_> {
 
     /// One world past the last is refused.
     fn check_beyond(&self, worlds: u64) -> Result<(), Difference> {
-        let found = model_answers(
-            Citing::ByBlock,
-            &roomy(Op::Show, self.plan, self.case, worlds),
-        );
-        let wanted = Expected {
-            refusal: 14,
-            ..Expected::default()
-        };
-        if found == wanted {
-            Ok(())
-        } else {
-            Err(difference("show past the last", wanted, found))
-        }
+        let found = model_answers(Citing::ByBlock, &roomy(Op::Show, self.plan, self.case, worlds));
+        let wanted = Expected { refusal: 14, ..Expected::default() };
+        if found == wanted { Ok(()) } else { Err(difference("show past the last", wanted, found)) }
     }
 
     fn check_refusal(&self, error: &UnitDerivationError) -> Result<Verdict, Difference> {
@@ -282,10 +240,7 @@ fn compare_with(
         Ok(answer) => {
             covered.take(&answer);
             let citing_differs = sides.check_worlds(&oracle, &answer)?;
-            Ok(Verdict::Answered {
-                worlds: answer.worlds,
-                citing_differs,
-            })
+            Ok(Verdict::Answered { worlds: answer.worlds, citing_differs })
         }
     }
 }

@@ -27,14 +27,8 @@ pub fn model_answers(citing: Citing, call: &Call) -> Expected {
 pub fn expected(outcome: Outcome, mut lines: Vec<u8>, mut events: Vec<u8>) -> Expected {
     let line_bytes = outcome.lines as usize * model::report::LINE;
     let event_bytes = outcome.events as usize * model::report::EVENT;
-    assert!(
-        lines[line_bytes..].iter().all(|&byte| byte == 0),
-        "line buffer past the lines"
-    );
-    assert!(
-        events[event_bytes..].iter().all(|&byte| byte == 0),
-        "event buffer past the events"
-    );
+    assert!(lines[line_bytes..].iter().all(|&byte| byte == 0), "line buffer past the lines");
+    assert!(events[event_bytes..].iter().all(|&byte| byte == 0), "event buffer past the events");
     lines.truncate(line_bytes);
     events.truncate(event_bytes);
     Expected {

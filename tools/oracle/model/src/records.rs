@@ -225,11 +225,7 @@ fn has(bits: u8, bit: u8) -> bool {
 /// type's empty value, and refusal 3 has the last word on it.
 macro_rules! field {
     ($bits:expr, $bit:expr, $read:expr) => {
-        if has($bits, $bit) {
-            $read?
-        } else {
-            Default::default()
-        }
+        if has($bits, $bit) { $read? } else { Default::default() }
     };
 }
 
@@ -258,9 +254,7 @@ const MOST_UNRESOLVED: usize = 16;
 fn read_fact(reader: &mut Reader, bits: u8) -> Option<Fact> {
     let family = optional!(bits, 0, reader.byte());
     let tuple = optional!(bits, 1, reader.list(4, Reader::person));
-    Some(Fact {
-        relation: family.zip(tuple),
-    })
+    Some(Fact { relation: family.zip(tuple) })
 }
 
 /// Reads every field whose bit stands and keeps the last: a node of several
@@ -361,17 +355,12 @@ fn plan_bits_stand(kind: u8, bits: u8) -> bool {
 }
 
 fn unresolved_in(cut: &Cut) -> usize {
-    cut.decisions
-        .iter()
-        .filter(|(_, decision)| *decision == Decision::Unresolved)
-        .count()
+    cut.decisions.iter().filter(|(_, decision)| *decision == Decision::Unresolved).count()
 }
 
 fn decides_twice(cut: &Cut) -> bool {
     let mut seen = [false; 256];
-    cut.decisions
-        .iter()
-        .any(|&(edge, _)| std::mem::replace(&mut seen[edge as usize], true))
+    cut.decisions.iter().any(|&(edge, _)| std::mem::replace(&mut seen[edge as usize], true))
 }
 
 /// A boolean fact may follow only booleans; a relation must rise.
@@ -477,9 +466,7 @@ impl Plan {
     }
 
     pub fn is_boolean(&self, fact: u8) -> bool {
-        self.facts
-            .get(fact as usize)
-            .is_some_and(|fact| fact.relation.is_none())
+        self.facts.get(fact as usize).is_some_and(|fact| fact.relation.is_none())
     }
 
     fn is_node(&self, node: u8) -> bool {
@@ -498,24 +485,14 @@ impl Plan {
 
     fn cut_names(&self, cut: &Cut) -> bool {
         self.is_node(cut.condition)
-            && cut
-                .election
-                .is_none_or(|election| self.is_boolean(election.fact))
-            && cut
-                .decisions
-                .iter()
-                .all(|&(edge, _)| (edge as usize) < self.edges.len())
-            && cut
-                .precedes
-                .iter()
-                .all(|&other| (other as usize) < self.cuts.len())
+            && cut.election.is_none_or(|election| self.is_boolean(election.fact))
+            && cut.decisions.iter().all(|&(edge, _)| (edge as usize) < self.edges.len())
+            && cut.precedes.iter().all(|&other| (other as usize) < self.cuts.len())
     }
 
     fn attachment_names(&self, rule: &Attachment) -> bool {
         self.is_node(rule.condition)
-            && rule
-                .election
-                .is_none_or(|election| self.is_boolean(election.fact))
+            && rule.election.is_none_or(|election| self.is_boolean(election.fact))
     }
 
     /// Refusal 4: the first record with a number that names nothing.
@@ -525,42 +502,27 @@ impl Plan {
             first: usize,
             holds: impl Fn(usize, &T) -> bool,
         ) -> Result<(), Refusal> {
-            match rules
-                .iter()
-                .enumerate()
-                .position(|(number, rule)| !holds(number, rule))
-            {
+            match rules.iter().enumerate().position(|(number, rule)| !holds(number, rule)) {
                 Some(number) => refuse(4, first + number),
                 None => Ok(()),
             }
         }
-        each(&self.nodes, self.first_node(), |number, node| {
-            self.node_names(number, node)
-        })?;
+        each(&self.nodes, self.first_node(), |number, node| self.node_names(number, node))?;
         each(&self.edges, self.first_edge(), |_, edge| {
             self.is_node(edge.condition) && edge.defeaters.iter().all(|&node| self.is_node(node))
         })?;
         each(&self.cuts, self.first_cut(), |_, cut| self.cut_names(cut))?;
-        each(&self.attachments, self.first_attachment(), |_, rule| {
-            self.attachment_names(rule)
-        })?;
-        each(&self.bars, self.first_bar(), |_, bar| {
-            self.is_node(bar.condition)
-        })?;
-        each(&self.statuses, self.first_status(), |_, status| {
-            self.is_node(status.condition)
-        })
+        each(&self.attachments, self.first_attachment(), |_, rule| self.attachment_names(rule))?;
+        each(&self.bars, self.first_bar(), |_, bar| self.is_node(bar.condition))?;
+        each(&self.statuses, self.first_status(), |_, status| self.is_node(status.condition))
     }
 
     /// Refusal 6: the first cut, then edge, that cross without a decision.
     fn check_crossings(&self) -> Result<(), Refusal> {
         for (number, cut) in self.cuts.iter().enumerate() {
             for (edge_number, edge) in self.edges.iter().enumerate() {
-                let decided = || {
-                    cut.decisions
-                        .iter()
-                        .any(|&(edge, _)| edge as usize == edge_number)
-                };
+                let decided =
+                    || cut.decisions.iter().any(|&(edge, _)| edge as usize == edge_number);
                 if edge.combination && edge.crosses(cut.members) && !decided() {
                     return refuse(6, self.first_cut() + number);
                 }
@@ -574,10 +536,11 @@ impl Plan {
         let cuts = self.cuts.iter().enumerate();
         let attachments = self.attachments.iter().enumerate();
         let (first_cut, first_attachment) = (self.first_cut(), self.first_attachment());
-        cuts.filter_map(move |(number, cut)| cut.election.map(|e| (first_cut + number, e)))
-            .chain(attachments.filter_map(move |(number, rule)| {
+        cuts.filter_map(move |(number, cut)| cut.election.map(|e| (first_cut + number, e))).chain(
+            attachments.filter_map(move |(number, rule)| {
                 rule.election.map(|e| (first_attachment + number, e))
-            }))
+            }),
+        )
     }
 
     /// The election that speaks for a fact: all are equal once 7 is past.
@@ -748,25 +711,13 @@ impl Case {
     fn check_numbers(&self, plan: &Plan) -> Result<(), Refusal> {
         let first_relation = self.first_boolean() + self.booleans.len();
         let first_constraint = first_relation + self.relations.len();
-        if let Some(at) = self
-            .booleans
-            .iter()
-            .position(|item| !plan.is_boolean(item.fact))
-        {
+        if let Some(at) = self.booleans.iter().position(|item| !plan.is_boolean(item.fact)) {
             return refuse(4, self.first_boolean() + at);
         }
-        if let Some(at) = self
-            .relations
-            .iter()
-            .position(|item| !self.relation_named(plan, item))
-        {
+        if let Some(at) = self.relations.iter().position(|item| !self.relation_named(plan, item)) {
             return refuse(4, first_relation + at);
         }
-        if let Some(at) = self
-            .constraints
-            .iter()
-            .position(|&node| !plan.is_node(node))
-        {
+        if let Some(at) = self.constraints.iter().position(|&node| !plan.is_node(node)) {
             return refuse(4, first_constraint + at);
         }
         Ok(())

@@ -43,12 +43,8 @@ impl<'a> Setting<'a> {
         let evidence = |election: Option<crate::records::Election>| {
             election.map_or(0, |election| bound.evidence[election.fact as usize])
         };
-        let request = |cut: &Cut| {
-            (
-                cut.election.map_or(0, |election| election.actor),
-                evidence(cut.election),
-            )
-        };
+        let request =
+            |cut: &Cut| (cut.election.map_or(0, |election| election.actor), evidence(cut.election));
         Setting {
             plan,
             bound,
@@ -91,10 +87,7 @@ fn precedence(plan: &Plan) -> [u16; 16] {
 fn blockers(plan: &Plan) -> [u64; 16] {
     let mut edges = [0; 16];
     for (number, cut) in plan.cuts.iter().enumerate() {
-        let blocked = cut
-            .decisions
-            .iter()
-            .filter(|(_, decision)| *decision == Decision::Blocked);
+        let blocked = cut.decisions.iter().filter(|(_, decision)| *decision == Decision::Blocked);
         edges[number] = blocked.fold(0, |all, &(edge, _)| all | 1 << edge);
     }
     edges
@@ -128,11 +121,7 @@ fn list_order(left: u64, right: u64) -> Ordering {
     // other one has ended there.
     let ended = beyond >> first == 0;
     let holder_is_left = left >> first & 1 == 1;
-    if holder_is_left != ended {
-        Ordering::Less
-    } else {
-        Ordering::Greater
-    }
+    if holder_is_left != ended { Ordering::Less } else { Ordering::Greater }
 }
 
 /// A set of cuts with equal members.
@@ -193,8 +182,7 @@ impl World {
             let defeated = edge.defeaters.iter().any(|&node| values[node as usize]);
             if values[edge.condition as usize] && !defeated {
                 self.frozen |= 1 << number;
-                self.events
-                    .push(event(1, number as u8, edge.left, edge.right, 0));
+                self.events.push(event(1, number as u8, edge.left, edge.right, 0));
             }
         }
         self
@@ -246,8 +234,7 @@ impl World {
                     overlapping[earlier] = true;
                     overlapping[later] = true;
                     let lowest = |set: &Merged| set.cuts.trailing_zeros() as u8;
-                    self.events
-                        .push(event(4, lowest(left), lowest(right), 0, 0));
+                    self.events.push(event(4, lowest(left), lowest(right), 0, 0));
                     self.overlap |= setting.spread(left.members | right.members);
                 }
             }
@@ -269,8 +256,7 @@ impl World {
             let (actor, evidence) = setting.cut_request[cut];
             for edge in numbers(says & crossing) {
                 blocked = true;
-                self.events
-                    .push(event(3, cut as u8, edge as u8, actor, evidence));
+                self.events.push(event(3, cut as u8, edge as u8, actor, evidence));
             }
         }
         blocked
@@ -307,11 +293,7 @@ impl World {
                 self.blocks[at] = groups[at];
                 self.roles[at] = MEMBER;
             } else {
-                self.kinds[at] = if holds(self.overlap, person) {
-                    OVERLAP
-                } else {
-                    DISCRETION
-                };
+                self.kinds[at] = if holds(self.overlap, person) { OVERLAP } else { DISCRETION };
             }
         }
         self
@@ -323,8 +305,7 @@ impl World {
             if values[rule.condition as usize] && target != 0 {
                 self.move_to(target, rule.members & setting.roster & !self.marked());
                 let evidence = setting.attachment_evidence[number];
-                self.events
-                    .push(event(5, number as u8, rule.anchor, rule.actor, evidence));
+                self.events.push(event(5, number as u8, rule.anchor, rule.actor, evidence));
             }
         }
         self
@@ -372,9 +353,7 @@ impl World {
     }
 
     fn holding(&self, block: u64, role: u8) -> u64 {
-        persons_of(block)
-            .filter(|&p| self.roles[p as usize] == role)
-            .fold(0, |all, p| all | one(p))
+        persons_of(block).filter(|&p| self.roles[p as usize] == role).fold(0, |all, p| all | one(p))
     }
 
     /// What all members of the block cite; cuts that hold only some of them
@@ -391,39 +370,23 @@ impl World {
             beyond |= if right { one(edge.left) } else { 0 };
         }
         for cut in numbers(u64::from(self.applied)).map(|number| &plan.cuts[number]) {
-            cited |= if cut.members & beyond != 0 {
-                one(cut.citation)
-            } else {
-                0
-            };
+            cited |= if cut.members & beyond != 0 { one(cut.citation) } else { 0 };
         }
         let within = |rule: &&Attachment| holds(block, rule.anchor) && rule.members & block != 0;
-        plan.attachments
-            .iter()
-            .filter(within)
-            .fold(cited, |all, rule| all | one(rule.citation))
+        plan.attachments.iter().filter(within).fold(cited, |all, rule| all | one(rule.citation))
     }
 
     /// Applied cuts that hold the person.
     pub fn own_citations(&self, setting: &Setting, person: u8) -> u64 {
         let cuts = numbers(u64::from(self.applied)).map(|number| &setting.plan.cuts[number]);
-        cuts.filter(|cut| holds(cut.members, person))
-            .fold(0, |all, cut| all | one(cut.citation))
+        cuts.filter(|cut| holds(cut.members, person)).fold(0, |all, cut| all | one(cut.citation))
     }
 
     /// Bars naming a barred one, and statuses naming an excluded one, of the set.
     pub fn role_citations(&self, setting: &Setting, set: u64) -> u64 {
         let (barred, excluded) = (self.holding(set, BARRED), self.holding(set, EXCLUDED));
-        let bars = setting
-            .plan
-            .bars
-            .iter()
-            .filter(|bar| bar.members & barred != 0);
-        let statuses = setting
-            .plan
-            .statuses
-            .iter()
-            .filter(|status| holds(excluded, status.person));
+        let bars = setting.plan.bars.iter().filter(|bar| bar.members & barred != 0);
+        let statuses = setting.plan.statuses.iter().filter(|status| holds(excluded, status.person));
         bars.map(|bar| bar.citation)
             .chain(statuses.map(|status| status.citation))
             .fold(0, |all, citation| all | one(citation))
@@ -431,11 +394,7 @@ impl World {
 }
 
 fn active_cuts(plan: &Plan, values: &[bool; 256]) -> u16 {
-    let active = plan
-        .cuts
-        .iter()
-        .enumerate()
-        .filter(|(_, cut)| values[cut.condition as usize]);
+    let active = plan.cuts.iter().enumerate().filter(|(_, cut)| values[cut.condition as usize]);
     active.fold(0, |all, (number, _)| all | 1 << number)
 }
 
@@ -451,9 +410,7 @@ fn drop_preceded(setting: &Setting, active: u16) -> u16 {
                 && !precedes(cut, other)
         })
     };
-    numbers(u64::from(active))
-        .filter(|&cut| !drops(cut))
-        .fold(0, |all, cut| all | 1 << cut)
+    numbers(u64::from(active)).filter(|&cut| !drops(cut)).fold(0, |all, cut| all | 1 << cut)
 }
 
 fn merge(plan: &Plan, kept: u16) -> Vec<Merged> {
@@ -462,10 +419,7 @@ fn merge(plan: &Plan, kept: u16) -> Vec<Merged> {
         let members = plan.cuts[cut].members;
         match merged.iter_mut().find(|set| set.members == members) {
             Some(set) => set.cuts |= 1 << cut,
-            None => merged.push(Merged {
-                members,
-                cuts: 1 << cut,
-            }),
+            None => merged.push(Merged { members, cuts: 1 << cut }),
         }
     }
     merged.sort_by(|left, right| list_order(left.members, right.members));
@@ -481,11 +435,7 @@ mod tests {
         let list = |set: u64| persons_of(set).collect::<Vec<_>>();
         for left in 0..256 {
             for right in 0..256 {
-                assert_eq!(
-                    list_order(left, right),
-                    list(left).cmp(&list(right)),
-                    "{left} {right}"
-                );
+                assert_eq!(list_order(left, right), list(left).cmp(&list(right)), "{left} {right}");
             }
         }
     }

@@ -22,10 +22,7 @@ pub fn derive_error(input: TokenStream) -> TokenStream {
 
 fn enum_of(input: TokenStream) -> (String, TokenStream) {
     let mut tokens = input.into_iter();
-    tokens
-        .by_ref()
-        .find(|token| token.to_string() == "enum")
-        .expect("an enum");
+    tokens.by_ref().find(|token| token.to_string() == "enum").expect("an enum");
     let name = tokens.next().expect("a name").to_string();
     match tokens.next() {
         Some(TokenTree::Group(group)) => (name, group.stream()),

@@ -52,9 +52,7 @@ fn call(op: Op, plan: &[u8], case: &[u8], random: &mut Random) -> Call {
 }
 
 fn main() {
-    let mut arguments = std::env::args()
-        .skip(1)
-        .map(|text| text.parse::<u64>().expect("a number"));
+    let mut arguments = std::env::args().skip(1).map(|text| text.parse::<u64>().expect("a number"));
     let (Some(count), Some(seed)) = (arguments.next(), arguments.next()) else {
         panic!("damage N SEED");
     };

@@ -22,10 +22,7 @@ struct Tally {
 impl Tally {
     fn take(&mut self, verdict: Verdict) {
         let name = match verdict {
-            Verdict::Answered {
-                citing_differs,
-                worlds,
-            } => {
+            Verdict::Answered { citing_differs, worlds } => {
                 self.citing += u64::from(citing_differs);
                 self.shown += if worlds <= MOST_SHOWN { worlds } else { 0 };
                 "answered".to_string()
@@ -42,21 +39,13 @@ impl Tally {
         println!("lines by kind {:?}", self.covered.lines);
         println!("events by kind {:?}", &self.covered.events[1..]);
         println!("{} worlds shown", self.shown);
-        println!(
-            "{} inputs whose lines differ between the citing rules",
-            self.citing
-        );
+        println!("{} inputs whose lines differ between the citing rules", self.citing);
         println!("{count} compared, {} differ", self.differ);
     }
 }
 
 fn differs(input: &Input) -> Option<Difference> {
-    compare(
-        &input.plan.encode(),
-        &input.case.encode(),
-        &mut Covered::default(),
-    )
-    .err()
+    compare(&input.plan.encode(), &input.case.encode(), &mut Covered::default()).err()
 }
 
 fn report(input: Input) {
@@ -69,16 +58,11 @@ fn report(input: Input) {
 /// Values that decode from their own bytes are what the shrinker works on.
 fn decoded(plan: &[u8], case: &[u8]) -> Input {
     let plan = Plan::decode(plan).expect("a plan");
-    Input {
-        plan,
-        case: Case::decode(case).expect("a case"),
-    }
+    Input { plan, case: Case::decode(case).expect("a case") }
 }
 
 fn main() {
-    let mut arguments = std::env::args()
-        .skip(1)
-        .map(|text| text.parse::<u64>().expect("a number"));
+    let mut arguments = std::env::args().skip(1).map(|text| text.parse::<u64>().expect("a number"));
     let (Some(count), Some(seed)) = (arguments.next(), arguments.next()) else {
         panic!("differential N SEED");
     };

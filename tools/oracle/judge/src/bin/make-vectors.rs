@@ -43,17 +43,11 @@ fn sections(list: &List) -> String {
 }
 
 fn readme(fixed: &List, sample: &List) -> String {
-    let rust = lines_where(fixed, |refusal, source| {
-        refusal == 0 && source == Source::Rust
-    });
+    let rust = lines_where(fixed, |refusal, source| refusal == 0 && source == Source::Rust);
     let evaluate = lines_where(fixed, |_, source| source == Source::Evaluate);
-    let alone = lines_where(fixed, |refusal, source| {
-        refusal == 0 && source == Source::Model
-    });
+    let alone = lines_where(fixed, |refusal, source| refusal == 0 && source == Source::Model);
     let refused = lines_where(fixed, |_, source| source == Source::RustRefusal);
-    let refusals = lines_where(fixed, |refusal, source| {
-        refusal != 0 && source == Source::Model
-    });
+    let refusals = lines_where(fixed, |refusal, source| refusal != 0 && source == Source::Model);
     format!(
         include_str!("vectors-readme.txt"),
         seed = SEED,

@@ -11,26 +11,14 @@ fn main() {
     for (number, line) in text.lines().enumerate() {
         let vector =
             Vector::parse(line).unwrap_or_else(|| panic!("line {} is no vector", number + 1));
-        assert_eq!(
-            vector.print(),
-            line,
-            "line {} is not in the printed form",
-            number + 1
-        );
+        assert_eq!(vector.print(), line, "line {} is not in the printed form", number + 1);
         let found = model_answers(Citing::ByBlock, &vector.call);
         if found == vector.expected {
             agree += 1;
         } else {
             differ += 1;
             println!("line {}: {line}", number + 1);
-            println!(
-                "found {}",
-                Vector {
-                    expected: found,
-                    ..vector
-                }
-                .print()
-            );
+            println!("found {}", Vector { expected: found, ..vector }.print());
         }
     }
     println!("{agree} agree, {differ} differ");

@@ -15,12 +15,7 @@ use model::records::{Case, Plan};
 /// The words of a refusal without the ids in it.
 fn class(text: &str) -> String {
     let parts: Vec<&str> = text.split('`').collect();
-    parts
-        .iter()
-        .step_by(2)
-        .copied()
-        .collect::<Vec<_>>()
-        .join("`")
+    parts.iter().step_by(2).copied().collect::<Vec<_>>().join("`")
 }
 
 #[derive(Default)]
@@ -39,11 +34,7 @@ impl Found {
 }
 
 fn wild(random: &mut Random) -> (Vec<u8>, Vec<u8>) {
-    let size = if random.percent(60) {
-        generate::TINY
-    } else {
-        generate::DENSE
-    };
+    let size = if random.percent(60) { generate::TINY } else { generate::DENSE };
     let mut input = generate::input(random, size);
     if random.percent(40) {
         generate::loosen(random, &mut input.plan);
@@ -97,9 +88,7 @@ fn judge(plan: &[u8], case: &[u8], covered: &mut Covered) -> Fate {
 }
 
 fn main() {
-    let mut arguments = std::env::args()
-        .skip(1)
-        .map(|text| text.parse::<u64>().expect("a number"));
+    let mut arguments = std::env::args().skip(1).map(|text| text.parse::<u64>().expect("a number"));
     let (Some(count), Some(seed)) = (arguments.next(), arguments.next()) else {
         panic!("wild N SEED");
     };
@@ -126,11 +115,7 @@ fn main() {
         if let Some(difference) = difference {
             differ += 1;
             if differ == 1 {
-                println!(
-                    "{difference:#?}\nplan {}\ncase {}",
-                    to_hex(&plan),
-                    to_hex(&case)
-                );
+                println!("{difference:#?}\nplan {}\ncase {}", to_hex(&plan), to_hex(&case));
             }
         }
     }

@@ -45,10 +45,7 @@ impl List {
     /// Adds a call unless the list has it already.
     fn add(&mut self, call: Call) -> Expected {
         let expected = model_answers(Citing::ByBlock, &call);
-        let vector = Vector {
-            call,
-            expected: expected.clone(),
-        };
+        let vector = Vector { call, expected: expected.clone() };
         if self.seen.insert(vector.print()) {
             let source = source(&vector);
             self.vectors.push((vector, source));
@@ -97,19 +94,12 @@ impl List {
             (lines + 29, events + 12),
         ];
         for (lines_len, events_len) in pairs {
-            self.add(Call {
-                lines_len,
-                events_len,
-                ..exact.clone()
-            });
+            self.add(Call { lines_len, events_len, ..exact.clone() });
         }
     }
 
     pub fn text(&self) -> String {
-        self.vectors
-            .iter()
-            .map(|(vector, _)| vector.print() + "\n")
-            .collect()
+        self.vectors.iter().map(|(vector, _)| vector.print() + "\n").collect()
     }
 }
 
@@ -122,11 +112,7 @@ fn fit(call: Call) -> Call {
         5 | 10 | 11 | 14 => (call.lines_len, 24),
         _ => (64, 24),
     };
-    Call {
-        lines_len,
-        events_len,
-        ..call
-    }
+    Call { lines_len, events_len, ..call }
 }
 
 /// Who vouches; panics where the Rust says otherwise.
@@ -172,10 +158,7 @@ fn refused_source(vector: &Vector) -> Source {
     let Err(NoAnswer::Case(error)) = oracle.answer() else {
         panic!("the Rust answers {}", vector.print());
     };
-    let rust = Expected {
-        record: expected.record,
-        ..refusal_of(&error)
-    };
+    let rust = Expected { record: expected.record, ..refusal_of(&error) };
     assert_eq!(rust, *expected, "{}", vector.print());
     Source::RustRefusal
 }

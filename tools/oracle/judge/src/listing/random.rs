@@ -44,11 +44,7 @@ pub fn add_lengths(list: &mut List, seed: u64) {
     for number in 0..14 {
         let random = &mut Random::stream(seed ^ 2, number);
         let (plan, case) = bytes(&generate::input(random, TINY));
-        let op = if number % 3 == 0 {
-            Op::Show
-        } else {
-            Op::Answer
-        };
+        let op = if number % 3 == 0 { Op::Show } else { Op::Answer };
         list.lengths(roomy(op, &plan, &case, 0));
     }
 }
@@ -80,19 +76,8 @@ pub fn add_damaged(list: &mut List, seed: u64) {
         list.check(&plan);
         let lines_len = random.pick(&[0, 58, 116, 300]);
         let events_len = random.pick(&[0, 24, 240]);
-        let op = if number % 5 == 0 {
-            Op::Show
-        } else {
-            Op::Answer
-        };
-        list.add(Call {
-            op,
-            plan,
-            case,
-            world: 0,
-            lines_len,
-            events_len,
-        });
+        let op = if number % 5 == 0 { Op::Show } else { Op::Answer };
+        list.add(Call { op, plan, case, world: 0, lines_len, events_len });
     }
 }
 
@@ -107,27 +92,15 @@ impl Seen {
     const ENOUGH: u32 = 25;
 
     fn is_new(&self, expected: &inputs::vectors::Expected) -> bool {
-        let mut lines = expected
-            .line_bytes
-            .chunks_exact(29)
-            .map(|line| line[1] as usize);
-        let mut events = expected
-            .event_bytes
-            .chunks_exact(12)
-            .map(|event| event[0] as usize);
+        let mut lines = expected.line_bytes.chunks_exact(29).map(|line| line[1] as usize);
+        let mut events = expected.event_bytes.chunks_exact(12).map(|event| event[0] as usize);
         lines.any(|kind| self.lines[kind] < Seen::ENOUGH)
             || events.any(|kind| self.events[kind] < Seen::ENOUGH)
     }
 
     fn take(&mut self, expected: &inputs::vectors::Expected) {
-        expected
-            .line_bytes
-            .chunks_exact(29)
-            .for_each(|line| self.lines[line[1] as usize] += 1);
-        expected
-            .event_bytes
-            .chunks_exact(12)
-            .for_each(|event| self.events[event[0] as usize] += 1);
+        expected.line_bytes.chunks_exact(29).for_each(|line| self.lines[line[1] as usize] += 1);
+        expected.event_bytes.chunks_exact(12).for_each(|event| self.events[event[0] as usize] += 1);
     }
 }
 
@@ -149,11 +122,7 @@ pub fn add_tiny(list: &mut List, seed: u64) {
         let (more_lines, more_events) = random.pick(&[(0, 0), (0, 0), (1, 5), (29, 12)]);
         let lines_len = found.line_bytes.len() + more_lines;
         let events_len = found.event_bytes.len() + more_events;
-        list.add(Call {
-            lines_len,
-            events_len,
-            ..call
-        });
+        list.add(Call { lines_len, events_len, ..call });
         if found.worlds > 0 && random.percent(25) {
             list.show(&plan, &case, random.below(found.worlds as usize) as u64);
         }

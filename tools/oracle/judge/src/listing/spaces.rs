@@ -10,9 +10,7 @@ use crate::compare::roomy;
 /// A status on every free fact, and unresolved decisions beside them.
 fn free(facts: usize, decisions: usize) -> Plan {
     let edges: Vec<Edge> = (0..decisions).map(|_| combination(0, 1, 0)).collect();
-    let decided = (0..decisions)
-        .map(|edge| (edge as u8, UNRESOLVED))
-        .collect();
+    let decided = (0..decisions).map(|edge| (edge as u8, UNRESOLVED)).collect();
     let mut nodes = vec![Node::Literal(1)];
     nodes.extend((0..facts).map(|fact| Node::Fact(fact as u8)));
     let groups: Vec<Node> = (1..=facts as u8)
@@ -20,26 +18,14 @@ fn free(facts: usize, decisions: usize) -> Plan {
         .chunks(16)
         .map(|group| Node::Or(group.to_vec()))
         .collect();
-    let statuses = (0..groups.len())
-        .map(|group| status(0, (nodes.len() + group) as u8))
-        .collect();
+    let statuses = (0..groups.len()).map(|group| status(0, (nodes.len() + group) as u8)).collect();
     nodes.extend(groups);
     let cuts = if decisions == 0 {
         vec![]
     } else {
-        vec![Cut {
-            decisions: Some(decided),
-            ..cut(&[0], 0)
-        }]
+        vec![Cut { decisions: Some(decided), ..cut(&[0], 0) }]
     };
-    Plan {
-        facts: vec![None; facts],
-        nodes,
-        edges,
-        cuts,
-        statuses,
-        ..Plan::default()
-    }
+    Plan { facts: vec![None; facts], nodes, edges, cuts, statuses, ..Plan::default() }
 }
 
 pub fn add(list: &mut List) {
@@ -72,11 +58,7 @@ fn add_counts(list: &mut List) {
         (64, 16, 4096),
     ] {
         let plan = free(facts, decisions).encode();
-        let case = Case {
-            most_worlds: most,
-            ..case(3)
-        }
-        .encode();
+        let case = Case { most_worlds: most, ..case(3) }.encode();
         list.check(&plan);
         let worlds = list.answer(&plan, &case).worlds;
         for world in [0, 1, worlds.saturating_sub(1), worlds, u64::MAX] {
@@ -90,18 +72,10 @@ fn add_counts(list: &mut List) {
 fn add_conflicts(list: &mut List) {
     let plan = free(14, 0).encode();
     for agreeing in [1, 2, 3] {
-        let booleans = (0..agreeing)
-            .map(|fact| observe(fact, &[(1, 1), (1, 2)]))
-            .collect();
-        let case = Case {
-            booleans,
-            ..case(3)
-        };
+        let booleans = (0..agreeing).map(|fact| observe(fact, &[(1, 1), (1, 2)])).collect();
+        let case = Case { booleans, ..case(3) };
         list.answer(&plan, &case.encode());
-        let constrained = Case {
-            constraints: vec![1, 2, 3, 4, 5, 6, 7, 8, 9, 10],
-            ..case
-        };
+        let constrained = Case { constraints: vec![1, 2, 3, 4, 5, 6, 7, 8, 9, 10], ..case };
         list.answer(&plan, &constrained.encode());
     }
 }
@@ -110,28 +84,11 @@ fn add_rosters(list: &mut List) {
     let chain: Vec<Edge> = (0..63).map(|person| base(person, person + 1, 0)).collect();
     let plans = [
         plan(),
-        Plan {
-            edges: chain.clone(),
-            ..plan()
-        },
-        Plan {
-            edges: chain,
-            chain: Some(63),
-            ..plan()
-        },
-        Plan {
-            bars: vec![bar(&[0, 63], 0)],
-            statuses: vec![status(63, 0)],
-            ..plan()
-        },
-        Plan {
-            attachments: vec![attachment(&[0], 63, 0)],
-            ..plan()
-        },
-        Plan {
-            cuts: vec![cut(&[63], 0), cut(&[0, 63], 0)],
-            ..plan()
-        },
+        Plan { edges: chain.clone(), ..plan() },
+        Plan { edges: chain, chain: Some(63), ..plan() },
+        Plan { bars: vec![bar(&[0, 63], 0)], statuses: vec![status(63, 0)], ..plan() },
+        Plan { attachments: vec![attachment(&[0], 63, 0)], ..plan() },
+        Plan { cuts: vec![cut(&[63], 0), cut(&[0, 63], 0)], ..plan() },
     ];
     for plan in plans {
         for roster in [u64::MAX, 1 << 63 | 1, 1 << 63, 1, 0] {
@@ -139,11 +96,6 @@ fn add_rosters(list: &mut List) {
             list.answer(&plan, &case);
             list.show(&plan, &case, 0);
         }
-        list.lengths(roomy(
-            Op::Answer,
-            &plan.encode(),
-            &case(1 << 63 | 1).encode(),
-            0,
-        ));
+        list.lengths(roomy(Op::Answer, &plan.encode(), &case(1 << 63 | 1).encode(), 0));
     }
 }

@@ -25,10 +25,7 @@ impl EntityRegistry {
     }
 
     fn insert(&mut self, incoming: String, id: String) -> Result<(), UnitDerivationError> {
-        let existing = self
-            .types
-            .entry(id.clone())
-            .or_insert_with(|| incoming.clone());
+        let existing = self.types.entry(id.clone()).or_insert_with(|| incoming.clone());
         if *existing == incoming {
             return Ok(());
         }

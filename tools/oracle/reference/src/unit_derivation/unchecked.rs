@@ -7,10 +7,7 @@ use super::compile::CompiledConstitution;
 use super::types::ConstitutionPlan;
 
 fn by_id<T: Clone>(rules: &[T], id: impl Fn(&T) -> &String) -> BTreeMap<String, T> {
-    rules
-        .iter()
-        .map(|rule| (id(rule).clone(), rule.clone()))
-        .collect()
+    rules.iter().map(|rule| (id(rule).clone(), rule.clone())).collect()
 }
 
 pub fn unchecked(plan: ConstitutionPlan) -> CompiledConstitution {
