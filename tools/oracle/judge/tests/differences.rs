@@ -20,6 +20,19 @@ fn cited_by_block(entry: &Entry) {
     assert!(matches!(verdict, Verdict::Answered { citing_differs: true, .. }), "{}", entry.id);
 }
 
+/// A1 and A2: the citations of the two lines, here and in the Rust.
+#[test]
+fn the_citing_rules_by_their_masks() {
+    for entry in &ENTRIES[..2] {
+        let (plan, case) = (entry.plan_bytes(), entry.case_bytes());
+        let here = model_on(entry, Op::Answer).line_bytes;
+        let rust = Oracle::new(&plan, &case).and_then(|oracle| oracle.answer());
+        let rust = rust.expect("an answer").lines;
+        assert_eq!((here[21], here[29 + 21]), (3, 3), "{}", entry.id);
+        assert_eq!((rust[21], rust[29 + 21]), (3, 1), "{}", entry.id);
+    }
+}
+
 fn alike(entry: &Entry) {
     let verdict = compare(&entry.plan_bytes(), &entry.case_bytes(), &mut Covered::default());
     let verdict = verdict.expect("alike");

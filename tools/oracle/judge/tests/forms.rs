@@ -4,7 +4,7 @@
 use std::collections::BTreeSet;
 
 use inputs::build;
-use inputs::wire::{self, Case, Node, Plan};
+use inputs::wire::{Case, Node, Plan};
 use judge::translate::{Translated, translate};
 use reference::unit_derivation::compile::compile;
 use reference::unit_derivation::evaluate::derive_units;
@@ -185,19 +185,4 @@ fn e4_supplied_entities_change_no_answer() {
     let (left, right) = (run(&given).unwrap(), run(&other).unwrap());
     assert_eq!(memberships(&left), memberships(&right));
     assert_eq!(left.indeterminate, right.indeterminate);
-}
-
-/// Shared nodes are walked at each use: twice the steps for each level.
-#[test]
-fn f1_a_shared_node_is_walked_at_each_use() {
-    let size = |levels: u8| {
-        let mut nodes = vec![Node::Literal(1)];
-        nodes.extend((0..levels).map(|below| Node::And(vec![below, below])));
-        let statuses = vec![wire::Status { person: 0, condition: levels, citation: 0 }];
-        let given = translate(&Plan { nodes, statuses, ..Plan::default() }, &build::case(1));
-        assert!(run(&given).is_ok());
-        format!("{:?}", given.plan).len()
-    };
-    // Derived names keep the text short; two inlined levels still double it.
-    assert!(size(12) > size(10));
 }

@@ -2,9 +2,7 @@
 
 use std::path::Path;
 
-use judge::listing::{List, Source, fixed, sample};
-
-const SEED: u64 = 20261115;
+use judge::listing::{List, SEED, Source, fixed, sample};
 
 fn write(directory: &Path, name: &str, text: &str) {
     std::fs::write(directory.join(name), text).unwrap_or_else(|error| panic!("{name}: {error}"));

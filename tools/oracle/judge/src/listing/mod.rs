@@ -15,6 +15,9 @@ use crate::compare::{by_block, refusal_of, roomy};
 use crate::rust::{NoAnswer, Oracle};
 use crate::sides::model_answers;
 
+/// The seed of the committed lists.
+pub const SEED: u64 = 20261115;
+
 /// Who vouches for an expected value beside the model.
 #[derive(Clone, Copy, Debug, PartialEq, Eq)]
 pub enum Source {
