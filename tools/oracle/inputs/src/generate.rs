@@ -3,7 +3,7 @@
 use crate::random::Random;
 use crate::wire::*;
 
-/// How much of everything: `most` bounds counts, `worlds` the free variables.
+/// The most of each thing that an input may have.
 #[derive(Clone, Copy, Debug)]
 pub struct Size {
     pub persons: usize,
@@ -62,6 +62,33 @@ pub const LARGE: Size = Size {
     open: 15,
 };
 
+/// Many unresolved decisions, few facts.
+pub const UNDECIDED: Size = Size {
+    booleans: 2,
+    relations: 1,
+    edges: 12,
+    unresolved: 9,
+    attachments: 1,
+    bars: 1,
+    statuses: 1,
+    ..DENSE
+};
+
+/// Rosters up to all 64 persons and most kinds of rules up to their limits.
+pub const WIDE: Size = Size {
+    persons: 64,
+    booleans: 4,
+    relations: 4,
+    composites: 20,
+    edges: 64,
+    cuts: 16,
+    attachments: 32,
+    bars: 32,
+    statuses: 32,
+    unresolved: 2,
+    open: 15,
+};
+
 #[derive(Clone, Debug, PartialEq, Eq)]
 pub struct Input {
     pub plan: Plan,
@@ -70,10 +97,12 @@ pub struct Input {
 
 /// A mixture of sizes, dense ones prevailing.
 pub fn mixed(random: &mut Random) -> Input {
-    let size = match random.below(40) {
-        0..=15 => TINY,
-        16..=38 => DENSE,
-        _ => LARGE,
+    let size = match random.below(400) {
+        0..=149 => TINY,
+        150..=374 => DENSE,
+        375..=387 => UNDECIDED,
+        388..=396 => LARGE,
+        _ => WIDE,
     };
     let mut input = input(random, size);
     if random.percent(4) {

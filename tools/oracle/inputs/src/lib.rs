@@ -2,6 +2,7 @@
 //! ones, smaller ones, and the vector format.
 
 pub mod build;
+pub mod calls;
 pub mod generate;
 pub mod mutate;
 pub mod random;
