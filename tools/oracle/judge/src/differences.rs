@@ -9,6 +9,8 @@
 pub enum Claim {
     /// Both answer; the lines differ in citations of bars and statuses alone.
     CitedByBlock,
+    /// Both give this kind; the Rust names this reason where the port has zeros.
+    KindAlone(u8, &'static str),
     /// Both answer alike, whatever one might expect.
     Alike,
     /// Document 01 accepts the plan; compile refuses it with these words.
@@ -87,6 +89,20 @@ pub const ENTRIES: &[Entry] = &[
         "010100 030101 040f00010000 0707 0100000000000000 0001",
         "017f000101 0300000000000000 00 0100",
         Claim::CitedByBlock,
+    ),
+    entry(
+        "A3",
+        "kind 5, roster not complete: `roster_not_asserted_complete`",
+        "010100",
+        "015f000101 0100000000000000 0010",
+        Claim::KindAlone(5, "roster_not_asserted_complete"),
+    ),
+    entry(
+        "A4",
+        "kind 6, no admissible world: every bound fact, Known ones too",
+        "010100 0200 030200",
+        "017f000101 0100000000000000 00 0010 0305000100 00 050100",
+        Claim::KindAlone(6, "bool:f000"),
     ),
     here("B1", "a self-edge", "010100 030101 040f00000000", "is a self-edge"),
     here(

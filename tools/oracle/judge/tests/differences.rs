@@ -1,11 +1,17 @@
 //! Runs every input of docs/DIFFERENCES.md on both sides.
 
+use std::collections::BTreeSet;
+
 use inputs::vectors::{Expected, Op};
+use inputs::wire::{Case, Plan};
 use judge::compare::{Covered, Verdict, compare, compare_unchecked, roomy};
 use judge::differences::{Claim, ENTRIES, Entry, PLAIN_CASE};
 use judge::rust::{NoAnswer, Oracle};
 use judge::sides::model_answers;
+use judge::translate::translate;
 use model::Citing;
+use reference::unit_derivation::compile::compile;
+use reference::unit_derivation::evaluate::derive_units;
 
 const DOCUMENT: &str = include_str!("../../../../docs/DIFFERENCES.md");
 
@@ -31,6 +37,21 @@ fn the_citing_rules_by_their_masks() {
         assert_eq!((here[21], here[29 + 21]), (3, 3), "{}", entry.id);
         assert_eq!((rust[21], rust[29 + 21]), (3, 1), "{}", entry.id);
     }
+}
+
+/// A3 and A4: one line, alike but for what the Rust calls unresolved.
+fn kind_alone(entry: &Entry, kind: u8, reason: &str) {
+    alike(entry);
+    let line = model_on(entry, Op::Answer).line_bytes;
+    assert_eq!(line[..2], [0, kind], "{}", entry.id);
+    assert!(line[2..].iter().all(|&byte| byte == 0), "{}", entry.id);
+    let plan = Plan::decode(&entry.plan_bytes()).expect("a plan");
+    let case = Case::decode(&entry.case_bytes()).expect("a case");
+    let given = translate(&plan, &case);
+    let compiled = compile(given.plan).expect("accepted");
+    let result = derive_units(&compiled, &given.input, &given.config).expect("answered");
+    let reasons = BTreeSet::from([reason.to_string()]);
+    assert_eq!(result.indeterminate[0].unresolved_facts, reasons, "{}", entry.id);
 }
 
 fn alike(entry: &Entry) {
@@ -79,6 +100,7 @@ fn every_claim_holds() {
     for entry in ENTRIES {
         match entry.claim {
             Claim::CitedByBlock => cited_by_block(entry),
+            Claim::KindAlone(kind, reason) => kind_alone(entry, kind, reason),
             Claim::Alike => alike(entry),
             Claim::OnlyHere(words) => only_here(entry, words),
             Claim::OnlyRustPlan(number, record) => only_rust_plan(entry, number, record),

@@ -37,25 +37,6 @@ fn memberships(
 }
 
 #[test]
-fn a3_kind_5_names_a_reason() {
-    let case = Case { complete: None, ..build::case(1) };
-    let result = run(&translate(&build::plan(), &case)).unwrap();
-    let reasons = BTreeSet::from(["roster_not_asserted_complete".to_string()]);
-    assert_eq!(result.indeterminate[0].unresolved_facts, reasons);
-}
-
-#[test]
-fn a4_kind_6_names_all_bound_facts_known_ones_too() {
-    let nodes = vec![Node::Fact(0), Node::Literal(0)];
-    let plan = Plan { nodes, ..one_fact() };
-    let booleans = vec![build::observe(0, &[(1, 1)])];
-    let case = Case { booleans, constraints: vec![1], ..build::case(3) };
-    let result = run(&translate(&plan, &case)).unwrap();
-    let reasons = BTreeSet::from(["bool:f000".to_string()]);
-    assert_eq!(result.indeterminate[0].unresolved_facts, reasons);
-}
-
-#[test]
 fn c24_records_for_facts_of_no_plan_are_ignored() {
     let mut given = translate(&build::plan(), &build::case(1));
     let observation = ObservedBool {
@@ -74,6 +55,10 @@ fn c24_records_for_facts_of_no_plan_are_ignored() {
         facts: vec![RelationFact { tuple: vec!["p200".to_string()], observation }],
     });
     assert!(run(&given).is_ok());
+    // Here a record must name a fact of the plan.
+    let case = Case { booleans: vec![build::observe(200, &[])], ..build::case(1) };
+    let found = model::answer(&build::plan().encode(), &case.encode(), &mut [0; 29], &mut []);
+    assert_eq!((found.refusal, found.record), (4, 1));
 }
 
 #[test]
