@@ -8,7 +8,7 @@ use inputs::generate;
 use inputs::mutate;
 use inputs::random::Random;
 use inputs::vectors::to_hex;
-use judge::compare::{Covered, Difference, compare, compare_unchecked};
+use judge::compare::{Covered, Difference, Verdict, compare, compare_unchecked};
 use judge::rust::{NoAnswer, Oracle};
 use model::records::{Case, Plan};
 
@@ -57,8 +57,9 @@ enum Fate {
     NotAsked,
     /// Accepted by both and compared.
     Compared(Option<Difference>),
-    /// Accepted here alone, and compared without the judgement of `compile`.
-    Alone(String, Option<Difference>),
+    /// Accepted here alone, and compared without the judgement of `compile`
+    /// if the case is one of the plan.
+    Alone(String, Option<Result<Verdict, Difference>>),
 }
 
 fn word(plan: &[u8]) -> Option<String> {
@@ -82,7 +83,7 @@ fn judge(plan: &[u8], case: &[u8], covered: &mut Covered) -> Fate {
     match word(plan) {
         None if case_reads => Fate::Compared(compare(plan, case, covered).err()),
         None => Fate::NotAsked,
-        Some(word) if case_reads => Fate::Alone(word, compare_unchecked(plan, case, covered).err()),
+        Some(word) if case_reads => Fate::Alone(word, Some(compare_unchecked(plan, case, covered))),
         Some(word) => Fate::Alone(word, None),
     }
 }
@@ -106,10 +107,10 @@ fn main() {
                 compared += 1;
                 difference
             }
-            Fate::Alone(word, difference) => {
-                alone += 1;
+            Fate::Alone(word, verdict) => {
+                alone += u64::from(verdict.is_some());
                 found.add(format!("accepted here; {word}"), &plan);
-                difference
+                verdict.and_then(Result::err)
             }
         };
         if let Some(difference) = difference {
