@@ -8,3 +8,13 @@ pub mod Members
 pub mod ElectionLaws
 pub mod CrossingLaws
 pub mod CheckLaws
+pub mod BelowLaws
+pub mod Every
+pub mod FieldLaws
+pub mod ReadLaws
+pub mod PlanParts
+pub mod Accepted
+pub mod AcceptedCase
+pub mod Rising
+pub mod MemberLaws
+pub mod Local
