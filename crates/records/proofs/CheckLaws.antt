@@ -2,8 +2,12 @@
 use mathlib.Core.Path.{_≡_, refl, sym, ap, _∙_}
 use mathlib.Core.List.{List, [], _∷_}
 use Prim.Native.Nat.{ℕ, zero, suc, _+_}
+use native.Mathlib.Omega.{arith}
 use Rattle.records.specs.Fields.{Verdict, fine, refused, onFine, firstFault}
+use Rattle.records.specs.Plan.{Plan, planFaults, namingFaults, nodesAt, cutsAt}
 use Rattle.records.specs.Check.{checkedOf}
+use Rattle.records.specs.Crossings.{crossingFaults}
+use Rattle.records.specs.Elections.{agreement}
 use Rattle.records.specs.declared.checked.Checked.{Checked}
 use Rattle.records.specs.declared.checked.Checked.the-variants.{Accepted, Refused}
 
@@ -22,3 +26,36 @@ refused-stands r next e = rw e
 
 pub accepted-passes : (r next : Checked) → r ≡ Accepted → next ≡ orElse r next
 accepted-passes r next e = rw e
+
+-- ---- back from the answer to the verdict
+
+pub refused-is : {A : Type 0} (v : Verdict A) {n k : ℕ} → Refused n k ≡ checkedOf v → v ≡ refused n k
+unfolding checkedOf
+refused-is (fine a) e = let z : _≡_ {A = ℕ} 0 1 = cc in absurd (omega arith)
+refused-is (refused m j) e = cc
+
+accepted-is : {A : Type 0} (k : ℕ) (fs : List ℕ) (v : Verdict A) → Accepted ≡ checkedOf (firstFault k fs v) → firstFault k fs v ≡ v
+unfolding checkedOf firstFault
+accepted-is k [] v e = refl
+accepted-is k (zero ∷ fs) v e = accepted-is (k + 1) fs v e
+accepted-is k (suc n ∷ fs) v e = let z : _≡_ {A = ℕ} 0 1 = cc in absurd (omega arith)
+
+pub faults-accepted : (P : Plan) → Accepted ≡ checkedOf (planFaults P) → planFaults P ≡ fine P
+unfolding planFaults
+faults-accepted P e =
+    let a = accepted-is (nodesAt P) (namingFaults P) _ e in
+    let b = accepted-is (cutsAt P) (crossingFaults P) _ (e ∙ ap checkedOf a) in
+    a ∙ b ∙ accepted-is (cutsAt P) (agreement P) (fine P) (e ∙ ap checkedOf (a ∙ b))
+
+-- no refusal has the number 0
+no-zero : {A : Type 0} (k : ℕ) (fs : List ℕ) (v : Verdict A) {j : ℕ} → Refused 0 j ≡ checkedOf (firstFault k fs v) → Refused 0 j ≡ checkedOf v
+unfolding checkedOf firstFault
+no-zero k [] v e = e
+no-zero k (zero ∷ fs) v e = no-zero (k + 1) fs v e
+no-zero k (suc n ∷ fs) v e = let z : 0 ≡ suc n = cc in absurd (omega arith)
+
+pub faults-number : (P : Plan) {n j : ℕ} → Refused n j ≡ checkedOf (planFaults P) → n ≡ 0 → ⊥
+unfolding planFaults checkedOf
+faults-number P {n} {j} e h =
+    let f = no-zero (cutsAt P) (agreement P) (fine P) (no-zero (cutsAt P) (crossingFaults P) _ (no-zero (nodesAt P) (namingFaults P) _ (ap (λ (m : ℕ). Refused m j) (sym h) ∙ e))) in
+    let z : _≡_ {A = ℕ} 0 1 = cc in omega arith

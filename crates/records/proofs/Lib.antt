@@ -4,7 +4,6 @@ pub mod LoopLaws
 pub mod ListLaws
 pub mod NamingLaws
 pub mod Rising
-pub mod Members
 pub mod ElectionLaws
 pub mod CrossingLaws
 pub mod CheckLaws
@@ -15,6 +14,5 @@ pub mod ReadLaws
 pub mod PlanParts
 pub mod Accepted
 pub mod AcceptedCase
-pub mod Rising
 pub mod MemberLaws
 pub mod Local

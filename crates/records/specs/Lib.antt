@@ -8,3 +8,4 @@ pub mod Check
 pub mod Named
 pub mod Crossings
 pub mod Elections
+pub mod PlanRead

@@ -1,13 +1,16 @@
-// The checks of a plan after all its records, in order: 4, 6, 7.
+// Check a plan: its records, and then 4, 6 and 7 in order.
 use crate::checked::Checked;
 use crate::crossing::crossings;
 use crate::elections::elections;
 use crate::naming::naming;
 use crate::plan::Plan;
+use crate::read_plan::PlanRead;
 ghost use mathlib.Core.Path.{_≡_};
-ghost use Rattle.records.specs.Plan.{planFaults};
+ghost use Rattle.records.specs.Fields.{onFine};
+ghost use Rattle.records.specs.Plan.{planFaults, checkedPlan};
 ghost use Rattle.records.specs.Decoded.{planOf};
 ghost use Rattle.records.specs.Check.{checkedOf};
+ghost use Rattle.records.specs.PlanRead.{planReadOf};
 
 pub fn plan_faults(plan: Plan) -> Checked
     ensures { λ r. ⌜ r ≡ checkedOf (planFaults (planOf plan)) ⌝ }
@@ -21,4 +24,35 @@ pub fn plan_faults(plan: Plan) -> Checked
         return crossed;
     };
     elections(plan)
+}
+
+// A plan that was read, or its refusal: with the checks after all records.
+pub fn after_records(read: PlanRead) -> PlanRead
+    ensures { λ r. ⌜ planReadOf r ≡ onFine (planReadOf read) planFaults ⌝ }
+{
+    if read.number != 0 {
+        return read;
+    }
+    let plan = read.plan;
+    let found = plan_faults(plan);
+    match found {
+        Checked::Accepted => read,
+        Checked::Refused { number, record } => PlanRead {
+            number: number,
+            record: record,
+            plan: plan,
+        },
+    }
+}
+
+pub fn answer(read: PlanRead) -> Checked
+    ensures { λ r. ⌜ r ≡ checkedOf (planReadOf read) ⌝ }
+{
+    if read.number == 0 {
+        return Checked::Accepted;
+    }
+    Checked::Refused {
+        number: read.number,
+        record: read.record,
+    }
 }

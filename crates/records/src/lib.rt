@@ -7,4 +7,5 @@ pub mod crossing;
 pub mod elections;
 pub mod naming;
 pub mod plan;
+pub mod read_plan;
 pub mod sets;
