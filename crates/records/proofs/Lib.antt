@@ -1,3 +1,4 @@
 pub mod SetLaws
 pub mod Closing
 pub mod LoopLaws
+pub mod Reading
