@@ -4,4 +4,5 @@ pub mod Plan
 pub mod Case
 pub mod Decoded
 pub mod Readers
+pub mod Passes
 pub mod Sound

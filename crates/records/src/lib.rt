@@ -1,5 +1,8 @@
 // Bytes to plan and case, and the sets of persons that everything above uses.
 pub mod case;
 pub mod fields;
+pub mod judge;
+pub mod lists;
 pub mod plan;
+pub mod read_edges;
 pub mod sets;

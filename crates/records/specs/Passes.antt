@@ -1,0 +1,69 @@
+-- Reading a plan kind by kind: what each kind's reader and its pass stand for. Contracts of src/read_*.rt cite it.
+use mathlib.Core.Path.{_≡_}
+use mathlib.Core.Bool.{Bool, true, false, not, cond}
+use mathlib.Core.List.{List, [], _∷_, map}
+use Prim.Native.Nat.{ℕ, zero, suc, _+_, _-_, _*_, _≤_}
+use lib.ListN.{length, getD, take}
+use lib.Dec.{eqb, ltb, leb}
+use Rattle.records.specs.Sets.{has, allOf}
+use Rattle.records.specs.Fields.{number, Read, got, bad, andThen, byteAt, fieldsAt, Raw, formatOf, Verdict, refused, readFrom}
+use Rattle.records.specs.Plan.{Plan, Edge, planFormats, addToPlan, judgePlan, factsRise, decidedOnce, unresolved, edgeOf}
+use Rattle.records.specs.Decoded as decoded
+use Rattle.records.specs.Readers.{span}
+use Rattle.records.specs.declared.plan.Edges.{Edges}
+use Rattle.records.specs.declared.read_edges.EdgeSeen.{EdgeSeen}
+use Rattle.records.specs.declared.read_edges.EdgeSeen.the-variants as edge
+
+-- a record of this kind, from its bit map on
+abbrev pub rawAt : ℕ → List ℕ → ℕ → Read Raw
+rawAt kind s at =
+    andThen (byteAt s at number) (λ bits q.
+    andThen (fieldsAt s q bits (formatOf planFormats kind .fields)) (λ values r. got (record { kind = kind; bits = bits; fields = values }) r))
+
+-- a record with its bits
+pub record Seen (A : Type 0) : Type 0 where
+  pub bits : ℕ
+  pub item : A
+
+abbrev pub seenBy : {A : Type 0} → (Raw → A) → Raw → Seen A
+seenBy make w = record { bits = w .bits; item = make w }
+
+-- reading on, when k records were read
+abbrev pub readOn : List ℕ → ℕ → ℕ → Plan → ℕ → Verdict Plan
+readOn s at kind P k = readFrom planFormats addToPlan judgePlan (suc (length s - k)) s at kind P k
+
+-- a pass ends with a refusal, or reading goes on
+abbrev pub after : List ℕ → ℕ → ℕ → ℕ → ℕ → Plan → Verdict Plan
+after s kind n k at P = cond (eqb n 0) (readOn s at kind P k) (refused n k)
+
+-- nothing is wrong with what was read, and there is a heading or none
+pub record Clean (headed : Bool) (P : Plan) : Type 0 where
+  pub heads : eqb (length (P .headings)) 0 ≡ not headed
+  pub rise : factsRise (P .facts) ≡ true
+  pub few : ltb 16 (unresolved (P .cuts)) ≡ false
+  pub once : allOf (λ c. decidedOnce (c .decisions)) (P .cuts) ≡ true
+
+-- the pass over a kind: with whatever else was read, reading from its start is what it says
+abbrev pub Passed : {A : Type 0} → (Plan → List A → Plan) → ℕ → List ℕ → Bool → ℕ → ℕ → ℕ → ℕ → ℕ → List A → Type 0
+Passed put kind s headed start before n k at xs = (P : Plan) → Clean headed P → readOn s start kind (put P []) before ≡ after s (suc kind) n k at (put P xs)
+
+-- "2 past a limit", when n of the kind came before; 3 if the record does not fit
+abbrev pub judgement : ℕ → ℕ → Bool → ℕ
+judgement n limit ok = cond (leb limit n) 2 (cond ok 0 3)
+
+-- ---- edges
+
+abbrev pub withEdges : Plan → List Edge → Plan
+withEdges P es = record { headings = P .headings; facts = P .facts; nodes = P .nodes; edges = es; cuts = P .cuts; attachments = P .attachments; bars = P .bars; statuses = P .statuses }
+
+abbrev pub edgesOf : Edges → List Edge
+edgesOf x = map decoded.edgeOf (take (x .count) (x .items))
+
+abbrev pub edgeRead : List ℕ → EdgeSeen → Read (Seen Edge)
+edgeRead s (edge.Got bits left right condition citation at k n) =
+    got (record { bits = bits; item = record { left = left; right = right; condition = condition; citation = citation; defeaters = span s at k; combination = has bits 5 } }) n
+edgeRead s edge.Bad = bad
+
+abbrev pub edgeFits : List ℕ → EdgeSeen → Type 0
+edgeFits s (edge.Got bits left right condition citation at k n) = (k ≤ 16) × (at + k ≤ length s)
+edgeFits s edge.Bad = Unit {0}
