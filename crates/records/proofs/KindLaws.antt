@@ -15,7 +15,7 @@ use Rattle.records.specs.Sets.{odd, has, subset}
 use Rattle.records.specs.Fields.{Raw, formatOf, needs}
 use Rattle.records.specs.Plan as paper
 use Rattle.records.specs.Plan.{Plan, planFormats, addToPlan, planCounts, judgePlan}
-use Rattle.records.specs.Passes.{Clean, judgement, withEdges}
+use Rattle.records.specs.Passes.{Clean, judgement, withEdges, withAttachments, withBars, withStatuses, barFrom, statusFrom}
 use Rattle.records.proofs.SetLaws.{Within, antisym, of-meet, in-meet, subset-true, within-subset}
 use Rattle.records.proofs.Chain.{raw}
 use Rattle.records.proofs.Passing.{Kind}
@@ -63,21 +63,21 @@ made-more f xs n x h = ap (λ (k : ℕ). map f (take k (set xs n x))) (add-one n
 past : (limit n : ℕ) → ltb limit (suc n) ≡ leb limit n
 past limit n = lib.Dec.leb·suc-suc limit n
 
-plain : (t f h : Bool) → _≡_ {A = ℕ} (cond (t || false) 2 (cond (not f || not h) 3 (cond (true && true) 0 5))) (cond t 2 (cond (f && h) 0 3))
-plain true f h = refl
-plain false true true = refl
-plain false true false = refl
-plain false false h = refl
+plain : (t f h : Bool) (z : ℕ) → cond t 2 (cond (not f || not h) 3 z) ≡ cond t 2 (cond (f && h) z 3)
+plain true f h z = refl
+plain false true true z = refl
+plain false true false z = refl
+plain false false h z = refl
 
 pub edge-adds : (P : Plan) (xs : List paper.Edge) (b : ℕ) (vs : List (List ℕ)) → addToPlan (raw 4 b vs) (withEdges P xs) ≡ withEdges P (xs ++ (paper.edgeOf (raw 4 b vs) ∷ []))
 unfolding addToPlan
 edge-adds P xs b vs = refl
 
 pub edge-judges : (headed : Bool) (P : Plan) (xs : List paper.Edge) (b : ℕ) (vs : List (List ℕ)) → Clean headed P → Unit {0}
-    → judgePlan (raw 4 b vs) (withEdges P (xs ++ (paper.edgeOf (raw 4 b vs) ∷ []))) ≡ judgement (length xs) 64 (needs 15 b && headed)
+    → judgePlan (raw 4 b vs) (withEdges P (xs ++ (paper.edgeOf (raw 4 b vs) ∷ []))) ≡ judgement (length xs) 64 false (needs 15 b && headed) true
 unfolding judgePlan planFormats planCounts
 edge-judges headed P xs b vs c u =
-    rw (length-more xs (paper.edgeOf (raw 4 b vs)), past 64 (length xs), c .few, c .heads, c .rise, c .once) (plain (leb 64 (length xs)) (needs 15 b) headed)
+    rw (length-more xs (paper.edgeOf (raw 4 b vs)), past 64 (length xs), c .few, c .heads, c .rise, c .once) (plain (leb 64 (length xs) || false) (needs 15 b) headed 0)
 
 abbrev pub edgeKind : Kind paper.Edge
 edgeKind = record {
@@ -86,13 +86,82 @@ edgeKind = record {
   top = omega arith;
   put = withEdges;
   make = paper.edgeOf;
-  judge = λ headed xs b x. judgement (length xs) 64 (needs 15 b && headed);
+  judge = λ headed xs b x. judgement (length xs) 64 false (needs 15 b && headed) true;
   Fine = λ xs. Unit {0};
   adds = edge-adds;
   judges = edge-judges;
 }
 
+pub bar-adds : (P : Plan) (xs : List paper.Bar) (b : ℕ) (vs : List (List ℕ)) → addToPlan (raw 7 b vs) (withBars P xs) ≡ withBars P (xs ++ (barFrom (raw 7 b vs) ∷ []))
+unfolding addToPlan
+bar-adds P xs b vs = refl
+
+pub bar-judges : (headed : Bool) (P : Plan) (xs : List paper.Bar) (b : ℕ) (vs : List (List ℕ)) → Clean headed P → Unit {0}
+    → judgePlan (raw 7 b vs) (withBars P (xs ++ (barFrom (raw 7 b vs) ∷ []))) ≡ judgement (length xs) 32 false (needs 7 b && headed) true
+unfolding judgePlan planFormats planCounts
+bar-judges headed P xs b vs c u =
+    rw (length-more xs (barFrom (raw 7 b vs)), past 32 (length xs), c .few, c .heads, c .rise, c .once) (plain (leb 32 (length xs) || false) (needs 7 b) headed 0)
+
+abbrev pub barKind : Kind paper.Bar
+barKind = record {
+  K = 7;
+  low = omega arith;
+  top = omega arith;
+  put = withBars;
+  make = barFrom;
+  judge = λ headed xs b x. judgement (length xs) 32 false (needs 7 b && headed) true;
+  Fine = λ xs. Unit {0};
+  adds = bar-adds;
+  judges = bar-judges;
+}
+
+pub status-adds : (P : Plan) (xs : List paper.Status) (b : ℕ) (vs : List (List ℕ)) → addToPlan (raw 8 b vs) (withStatuses P xs) ≡ withStatuses P (xs ++ (statusFrom (raw 8 b vs) ∷ []))
+unfolding addToPlan
+status-adds P xs b vs = refl
+
+pub status-judges : (headed : Bool) (P : Plan) (xs : List paper.Status) (b : ℕ) (vs : List (List ℕ)) → Clean headed P → Unit {0}
+    → judgePlan (raw 8 b vs) (withStatuses P (xs ++ (statusFrom (raw 8 b vs) ∷ []))) ≡ judgement (length xs) 32 false (needs 7 b && headed) true
+unfolding judgePlan planFormats planCounts
+status-judges headed P xs b vs c u =
+    rw (length-more xs (statusFrom (raw 8 b vs)), past 32 (length xs), c .few, c .heads, c .rise, c .once) (plain (leb 32 (length xs) || false) (needs 7 b) headed 0)
+
+abbrev pub statusKind : Kind paper.Status
+statusKind = record {
+  K = 8;
+  low = omega arith;
+  top = omega arith;
+  put = withStatuses;
+  make = statusFrom;
+  judge = λ headed xs b x. judgement (length xs) 32 false (needs 7 b && headed) true;
+  Fine = λ xs. Unit {0};
+  adds = status-adds;
+  judges = status-judges;
+}
+
+pub attachment-adds : (P : Plan) (xs : List paper.Attachment) (b : ℕ) (vs : List (List ℕ)) → addToPlan (raw 6 b vs) (withAttachments P xs) ≡ withAttachments P (xs ++ (paper.attachmentOf (raw 6 b vs) ∷ []))
+unfolding addToPlan
+attachment-adds P xs b vs = refl
+
+pub attachment-judges : (headed : Bool) (P : Plan) (xs : List paper.Attachment) (b : ℕ) (vs : List (List ℕ)) → Clean headed P → Unit {0}
+    → judgePlan (raw 6 b vs) (withAttachments P (xs ++ (paper.attachmentOf (raw 6 b vs) ∷ []))) ≡ judgement (length xs) 32 false (needs 31 b && headed) true
+unfolding judgePlan planFormats planCounts
+attachment-judges headed P xs b vs c u =
+    rw (length-more xs (paper.attachmentOf (raw 6 b vs)), past 32 (length xs), c .few, c .heads, c .rise, c .once) (plain (leb 32 (length xs) || false) (needs 31 b) headed 0)
+
+abbrev pub attachmentKind : Kind paper.Attachment
+attachmentKind = record {
+  K = 6;
+  low = omega arith;
+  top = omega arith;
+  put = withAttachments;
+  make = paper.attachmentOf;
+  judge = λ headed xs b x. judgement (length xs) 32 false (needs 31 b && headed) true;
+  Fine = λ xs. Unit {0};
+  adds = attachment-adds;
+  judges = attachment-judges;
+}
+
 -- ---- what `judged` says
 
-pub judge-same : (limit n m : ℕ) (f g h : Bool) {r : ℕ} → r ≡ judgement n limit (f && h) → m ≡ n → f ≡ g → r ≡ judgement m limit (g && h)
-judge-same limit n m f g h e a b = e ∙ ap₂ (λ (x : ℕ) (y : Bool). judgement x limit (y && h)) (sym a) b
+pub judge-same : (limit n m : ℕ) (o o′ f g h d d′ : Bool) {r : ℕ} → r ≡ judgement n limit o (f && h) d → m ≡ n → o ≡ o′ → f ≡ g → d ≡ d′ → r ≡ judgement m limit o′ (g && h) d′
+judge-same limit n m o o′ f g h d d′ e a b q z = e ∙ ap₂ (λ (x : ℕ) (y : Bool). judgement x limit y (f && h) d) (sym a) b ∙ ap₂ (λ (x y : Bool). judgement m limit o′ (x && h) y) q z

@@ -1,18 +1,28 @@
 -- Reading a plan kind by kind: what each kind's reader and its pass stand for. Contracts of src/read_*.rt cite it.
 use mathlib.Core.Path.{_≡_}
-use mathlib.Core.Bool.{Bool, true, false, not, cond}
+use mathlib.Core.Bool.{Bool, true, false, _||_, not, cond}
 use mathlib.Core.List.{List, [], _∷_, map}
 use Prim.Native.Nat.{ℕ, zero, suc, _+_, _-_, _*_, _≤_}
 use lib.ListN.{length, getD, take}
 use lib.Dec.{eqb, ltb, leb}
 use Rattle.records.specs.Sets.{has, allOf}
-use Rattle.records.specs.Fields.{number, Read, got, bad, andThen, byteAt, fieldsAt, Raw, formatOf, Verdict, refused, readFrom}
-use Rattle.records.specs.Plan.{Plan, Edge, planFormats, addToPlan, judgePlan, factsRise, decidedOnce, unresolved, edgeOf}
+use Rattle.records.specs.Fields.{number, field, num, wide, Read, got, bad, andThen, byteAt, fieldsAt, Raw, formatOf, Verdict, refused, readFrom}
+use Rattle.records.specs.Plan.{Plan, Edge, Attachment, Bar, Status, planFormats, addToPlan, judgePlan, factsRise, decidedOnce, unresolved, edgeOf}
 use Rattle.records.specs.Decoded as decoded
+use Rattle.records.specs.Decoded.{given}
 use Rattle.records.specs.Readers.{span}
 use Rattle.records.specs.declared.plan.Edges.{Edges}
 use Rattle.records.specs.declared.read_edges.EdgeSeen.{EdgeSeen}
 use Rattle.records.specs.declared.read_edges.EdgeSeen.the-variants as edge
+use Rattle.records.specs.declared.plan.Bars.{Bars}
+use Rattle.records.specs.declared.read_bars.BarSeen.{BarSeen}
+use Rattle.records.specs.declared.read_bars.BarSeen.the-variants as bar
+use Rattle.records.specs.declared.plan.Statuses.{Statuses}
+use Rattle.records.specs.declared.read_statuses.StatusSeen.{StatusSeen}
+use Rattle.records.specs.declared.read_statuses.StatusSeen.the-variants as status
+use Rattle.records.specs.declared.plan.Attachments.{Attachments}
+use Rattle.records.specs.declared.read_attachments.AttachmentSeen.{AttachmentSeen}
+use Rattle.records.specs.declared.read_attachments.AttachmentSeen.the-variants as attachment
 
 -- a record of this kind, from its bit map on
 abbrev pub rawAt : ℕ → List ℕ → ℕ → Read Raw
@@ -47,9 +57,9 @@ pub record Clean (headed : Bool) (P : Plan) : Type 0 where
 abbrev pub Passed : {A : Type 0} → (Plan → List A → Plan) → ℕ → List ℕ → Bool → ℕ → ℕ → ℕ → ℕ → ℕ → List A → Type 0
 Passed put kind s headed start before n k at xs = (P : Plan) → Clean headed P → readOn s start kind (put P []) before ≡ after s (suc kind) n k at (put P xs)
 
--- "2 past a limit", when n of the kind came before; 3 if the record does not fit
-abbrev pub judgement : ℕ → ℕ → Bool → ℕ
-judgement n limit ok = cond (leb limit n) 2 (cond ok 0 3)
+-- "2 past a limit", when n of the kind came before, or past the plan's other limit; 3 if the record does not fit; 5 if it is not sound
+abbrev pub judgement : ℕ → ℕ → Bool → Bool → Bool → ℕ
+judgement n limit over fits sound = cond (leb limit n || over) 2 (cond fits (cond sound 0 5) 3)
 
 -- ---- edges
 
@@ -67,3 +77,45 @@ edgeRead s edge.Bad = bad
 abbrev pub edgeFits : List ℕ → EdgeSeen → Type 0
 edgeFits s (edge.Got bits left right condition citation at k n) = (k ≤ 16) × (at + k ≤ length s)
 edgeFits s edge.Bad = Unit {0}
+
+-- ---- bars
+
+abbrev pub withBars : Plan → List Bar → Plan
+withBars P xs = record { headings = P .headings; facts = P .facts; nodes = P .nodes; edges = P .edges; cuts = P .cuts; attachments = P .attachments; bars = xs; statuses = P .statuses }
+
+abbrev pub barsOf : Bars → List Bar
+barsOf x = map decoded.barOf (take (x .count) (x .items))
+
+abbrev pub barFrom : Raw → Bar
+barFrom r = record { members = wide r 0; condition = num r 1; citation = num r 2 }
+
+abbrev pub barRead : BarSeen → Read (Seen Bar)
+barRead (bar.Got bits members condition citation n) = got (record { bits = bits; item = record { members = members; condition = condition; citation = citation } }) n
+barRead bar.Bad = bad
+
+-- ---- statuses
+
+abbrev pub withStatuses : Plan → List Status → Plan
+withStatuses P xs = record { headings = P .headings; facts = P .facts; nodes = P .nodes; edges = P .edges; cuts = P .cuts; attachments = P .attachments; bars = P .bars; statuses = xs }
+
+abbrev pub statusesOf : Statuses → List Status
+statusesOf x = map decoded.statusOf (take (x .count) (x .items))
+
+abbrev pub statusFrom : Raw → Status
+statusFrom r = record { person = num r 0; condition = num r 1; citation = num r 2 }
+
+abbrev pub statusRead : StatusSeen → Read (Seen Status)
+statusRead (status.Got bits person condition citation n) = got (record { bits = bits; item = record { person = person; condition = condition; citation = citation } }) n
+statusRead status.Bad = bad
+
+-- ---- attachments
+
+abbrev pub withAttachments : Plan → List Attachment → Plan
+withAttachments P xs = record { headings = P .headings; facts = P .facts; nodes = P .nodes; edges = P .edges; cuts = P .cuts; attachments = xs; bars = P .bars; statuses = P .statuses }
+
+abbrev pub attachmentsOf : Attachments → List Attachment
+attachmentsOf x = map decoded.attachmentOf (take (x .count) (x .items))
+
+abbrev pub attachmentRead : AttachmentSeen → Read (Seen Attachment)
+attachmentRead (attachment.Got bits members anchor condition citation actor g f e q c n) = got (record { bits = bits; item = record { members = members; anchor = anchor; condition = condition; citation = citation; actor = actor; election = given g (record { fact = f; actor = e; policy = q; citation = c }) } }) n
+attachmentRead attachment.Bad = bad

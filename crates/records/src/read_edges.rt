@@ -149,7 +149,7 @@ pub fn read_edges(s: &[u8], start: usize, before: usize, headed: bool) -> EdgesR
             };
         };
         let n = edges.count;
-        let number = judged(n, 64, bits & 15 == 15, headed);
+        let number = judged(n, 64, false, bits & 15 == 15, headed, true);
         if number != 0 {
             return EdgesRead {
                 number: number,

@@ -1,5 +1,6 @@
 -- The pass over the edges. Assumes nothing.
 use mathlib.Core.Path.{_≡_, refl, sym, _∙_, ap}
+use mathlib.Core.Bool.{true, false}
 use Prim.Native.Nat.{ℕ, _+_, _-_, _≤_}
 use native.Mathlib.Omega.{arith}
 use denote.Ref.{now}
@@ -75,7 +76,7 @@ returns-2 : tie.Need-returns-2 Inv-loop μ-loop
 returns-2 c =
     let i = c .before .before .before .before .before .before .before .before .before .loop .inv in
     let l = c .before .before .before .before .before .before .before .before .before .loop .edges in
-    let j = judge-same 64 (l .count) (length (edgesOf l)) _ (fields.needs 15 (c .before .before .before .bits .given .0 .0)) (c .before .before .before .before .before .before .before .before .before .before .before .before .args .headed) (c .before .judged .ensures .0) (length-made edgeOf (l .items) (l .count) (omega (arith, i .1, i .2))) (needs-test (c .before .before .before .bits .given .0 .0) 15) in
+    let j = judge-same 64 (l .count) (length (edgesOf l)) false false _ (fields.needs 15 (c .before .before .before .bits .given .0 .0)) (c .before .before .before .before .before .before .before .before .before .before .before .before .args .headed) true true (c .before .judged .ensures .0) (length-made edgeOf (l .items) (l .count) (omega (arith, i .1, i .2))) refl (needs-test (c .before .before .before .bits .given .0 .0) 15) refl in
     (refused-judged edgeKind _ _ _ _ (i .3) (i .0) (c .before .before .before .before .before .before .before .before .loop-test .taken) (c .before .before .before .before .before .before .if1 .left) tt (seen (edgeRead (now (c .before .before .before .before .before .before .before .before .before .before .before .before .args .s))) (c .before .before .before .before .before .edge-at .ensures .0) (c .before .before .before .bits .given .1)) _ j (c .if2 .taken), i .0)
 
 -- src/read_edges.rt:101:13
@@ -115,7 +116,7 @@ loop-again c =
     let f = seen (edgeRead (now (c .before .before .before .before .before .before .before .before .before .before .before .before .before .args .s))) (c .before .before .before .before .before .before .edge-at .ensures .0) (c .before .before .before .before .bits .given .1) in
     let z = goes-later edgeKind _ _ _ _ (i .3) (i .0) (c .before .before .before .before .before .before .before .before .before .loop-test .taken) (c .before .before .before .before .before .before .before .if1 .left) tt f in
     let h = c .before .before .judged .ensures .1 (c .before .if2 .left) in
-    let j = judge-same 64 (l .count) (length (edgesOf l)) _ (fields.needs 15 b) (c .before .before .before .before .before .before .before .before .before .before .before .before .before .args .headed) (c .before .before .judged .ensures .0) (length-made edgeOf (l .items) (l .count) (omega (arith, i .1, i .2))) (needs-test b 15) in (
+    let j = judge-same 64 (l .count) (length (edgesOf l)) false false _ (fields.needs 15 b) (c .before .before .before .before .before .before .before .before .before .before .before .before .before .args .headed) true true (c .before .before .judged .ensures .0) (length-made edgeOf (l .items) (l .count) (omega (arith, i .1, i .2))) refl (needs-test b 15) refl in (
       omega (arith, z),
       omega (arith, h),
       rw length-set (i .2),
