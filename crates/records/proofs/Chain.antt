@@ -11,7 +11,8 @@ use borrow.Author.Tests.{eq-eqb, ne-eqb}
 use Rattle.records.specs.Sets.{odd}
 use Rattle.records.specs.Fields.{Shape, bytes, list, most, number, Read, got, bad, andThen, Raw, Range, byteAt, bytesAt, fieldAt, fieldsAt, formatOf, repeat, little}
 use Rattle.records.specs.Plan.{planFormats}
-use Rattle.records.specs.Readers.{fieldIf}
+use Rattle.records.specs.Readers.{fieldIf, first, span}
+use Rattle.records.specs.Decoded.{given}
 use Rattle.records.specs.Passes.{rawAt}
 use Rattle.records.proofs.Reading.{byte-next, bytes-got, bad-got, got-inj}
 
@@ -129,3 +130,18 @@ raw-parts kind s at {w = w} {p = p} = outer (byteAt s at number) refl
     outer : (x : Read ℕ) → byteAt s at number ≡ x → andThen x (λ b q. andThen (fieldsAt s q b fs) (λ vs r. got (raw kind b vs) r)) ≡ got w p → Parts kind s at w p
     outer (got b q) h e = let i = byte-next s at number h in inner b q (omega (arith, i .1)) (fieldsAt s q b fs) refl e
     outer bad h e = bad-got e
+
+-- ---- what an optional field's bytes are
+
+pub one-given : (s : List ℕ) (at : ℕ) (b : Bool) (r : Range) {bs : List ℕ} {n v : ℕ} → fieldIf b s at (bytes (r ∷ [])) ≡ got bs n → first bs ≡ v → bs ≡ given b v
+unfolding fieldAt span
+one-given s at true r e f = let h = bytes-got s at (r ∷ []) e .0 in h ∙ ap (λ (x : ℕ). x ∷ []) (sym (ap first h) ∙ f)
+one-given s at false r e f = sym (got-inj e .0)
+
+pub list-absent : (s : List ℕ) (at p k : ℕ) (b : Bool) (f : Shape) {n : ℕ} → got (span s p k) n ≡ fieldIf b s at f → b ≡ false → k ≡ 0
+unfolding span
+list-absent s at p k b f e q = pick k (got-inj (e ∙ ap (λ (t : Bool). fieldIf t s at f) q) .0)
+  where
+    pick : (k : ℕ) → span s p k ≡ [] → k ≡ 0
+    pick zero h = refl
+    pick (suc k) h = let z = ap length h in absurd (omega (arith, z))

@@ -6,3 +6,6 @@ pub mod Listing
 pub mod Chain
 pub mod Passing
 pub mod KindLaws
+pub mod FactLaws
+pub mod DecisionLaws
+pub mod PlanLaws

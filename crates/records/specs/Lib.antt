@@ -5,4 +5,5 @@ pub mod Case
 pub mod Decoded
 pub mod Readers
 pub mod Passes
+pub mod PlanRead
 pub mod Sound

@@ -42,7 +42,7 @@ pub fn tuple_from(s: &[u8], first: usize, count: u8) -> [u8; 4]
 
 pub fn decisions_from(s: &[u8], first: usize, count: u8) -> Decisions
     requires { ⌜ (count ≤ 64) × (first + count * 2 ≤ length (now s)) ⌝ }
-    ensures { λ r. ⌜ decisionsOf r ≡ paper.decisionsOf (span (now (s .entry)) first (count * 2)) ⌝ }
+    ensures { λ r. ⌜ (decisionsOf r ≡ paper.decisionsOf (span (now (s .entry)) first (count * 2))) × (r .count ≡ count) ⌝ }
 {
     let n = to_index(count);
     let mut edges = [0u8; 64];

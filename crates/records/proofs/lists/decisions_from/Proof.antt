@@ -88,7 +88,7 @@ unfolding decisionsOf
 returns c =
     let l = c .before .loop in
     let e : l .i ≡ c .before .before .before .before .args .count = omega arith in
-    ap (λ (k : ℕ). below k (decided (l .edges) (l .verdicts))) (sym e) ∙ l .inv .3 ∙ ap (λ (k : ℕ). paper.decisionsOf (span (now (c .before .before .before .before .args .s)) (c .before .before .before .before .args .first) (k * 2))) e
+    (ap (λ (k : ℕ). below k (decided (l .edges) (l .verdicts))) (sym e) ∙ l .inv .3 ∙ ap (λ (k : ℕ). paper.decisionsOf (span (now (c .before .before .before .before .args .s)) (c .before .before .before .before .args .first) (k * 2))) e, refl)
 
 pub decisions-from-spec : {M : Type 1} → statement M
 decisions-from-spec =
