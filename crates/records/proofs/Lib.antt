@@ -16,3 +16,11 @@ pub mod Accepted
 pub mod AcceptedCase
 pub mod MemberLaws
 pub mod Local
+pub mod Reading
+pub mod Listing
+pub mod Chain
+pub mod Passing
+pub mod KindLaws
+pub mod FactLaws
+pub mod DecisionLaws
+pub mod PlanLaws

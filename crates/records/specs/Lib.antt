@@ -3,9 +3,11 @@ pub mod Fields
 pub mod Plan
 pub mod Case
 pub mod Decoded
+pub mod Readers
+pub mod Passes
+pub mod PlanRead
 pub mod Sound
 pub mod Check
 pub mod Named
 pub mod Crossings
 pub mod Elections
-pub mod PlanRead

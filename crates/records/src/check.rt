@@ -5,6 +5,7 @@ use crate::elections::elections;
 use crate::naming::naming;
 use crate::plan::Plan;
 use crate::read_plan::PlanRead;
+use crate::read_plan::read_plan;
 ghost use mathlib.Core.Path.{_≡_};
 ghost use Rattle.records.specs.Fields.{onFine};
 ghost use Rattle.records.specs.Plan.{planFaults, checkedPlan};
@@ -55,4 +56,20 @@ pub fn answer(read: PlanRead) -> Checked
         number: read.number,
         record: read.record,
     }
+}
+
+// The plan that comes out of its bytes, or its refusal: for the crates above.
+pub fn decode_plan(s: &[u8]) -> PlanRead
+    ensures { λ r. ⌜ planReadOf r ≡ checkedPlan (now (s .entry)) ⌝ }
+{
+    let read = read_plan(s);
+    after_records(read)
+}
+
+// CHECK A PLAN
+pub fn check(plan: &[u8]) -> Checked
+    ensures { λ r. ⌜ r ≡ checkedOf (checkedPlan (now (plan .entry))) ⌝ }
+{
+    let read = decode_plan(plan);
+    answer(read)
 }
