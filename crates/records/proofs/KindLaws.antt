@@ -10,7 +10,7 @@ use lib.ListN.{length, getD, set, take, length-append}
 use lib.Seq.{take-suc-set}
 use lib.Bits.{bitAnd}
 use lib.Dec.{eqb, ltb, leb}
-use borrow.Author.Tests.{eq-eqb, ne-eqb, eqb-true}
+use borrow.Author.Tests.{eq-eqb, ne-eqb, eqb-true, leb-false}
 use Rattle.records.specs.Sets.{odd, has, subset, allOf}
 use Rattle.records.specs.Fields.{Raw, formatOf, needs, single}
 use Rattle.records.specs.Plan as paper
@@ -360,3 +360,11 @@ pub cut-is : (m c t : ℕ) (e : Election) (d : Decisions) (n : Numbers) {ds : Li
     ≡ record { members = m; condition = c; citation = t; election = decoded.electionOf e; decisions = ds; precedes = ns }
 unfolding decoded.cutOf
 cut-is m c t e d n a b = ap₂ (λ (x : List paper.Decision) (y : List ℕ). record { members = m; condition = c; citation = t; election = decoded.electionOf e; decisions = x; precedes = y }) a b
+
+-- a limit that is not passed
+pub room-left : (limit n : ℕ) (over : Bool) → (leb limit n || over) ≡ false → n < limit
+room-left limit n over e = pick (leb limit n) refl e
+  where
+    pick : (t : Bool) → leb limit n ≡ t → (t || over) ≡ false → n < limit
+    pick true h q = absurd (mathlib.Core.Bool.true≢false q)
+    pick false h q = leb-false limit n h
