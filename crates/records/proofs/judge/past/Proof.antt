@@ -1,6 +1,5 @@
 -- Past one of two limits. Assumes nothing.
 use borrow.Author.Tests.{le-leb, lt-leb}
-use borrow.Author.Needs.{needs}
 use Rattle.records.proofs.judge.past.Statement.{statement}
 use Rattle.records.proofs.judge.past.Tie as tie
 use Rattle.records.proofs.judge.past.Reads as reads

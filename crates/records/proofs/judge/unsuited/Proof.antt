@@ -1,5 +1,4 @@
 -- Wrong bits, or no heading. Assumes nothing.
-use borrow.Author.Needs.{needs}
 use Rattle.records.proofs.judge.unsuited.Statement.{statement}
 use Rattle.records.proofs.judge.unsuited.Tie as tie
 use Rattle.records.proofs.judge.unsuited.Reads as reads
