@@ -1,11 +1,11 @@
 -- The fields of a record, one after another: what is read when each is, and that nothing is when one is not. Assumes nothing.
-use mathlib.Core.Path.{_≡_, refl, sym, ap, ap₂, _∙_, subst}
+use mathlib.Core.Path.{_≡_, refl, sym, ap, _∙_}
 use mathlib.Core.Bool.{Bool, true, false, cond}
 use mathlib.Core.List.{List, [], _∷_}
-use Prim.Native.Nat.{ℕ, zero, suc, _+_, _*_, _/_, _%_, _≤_, _<_}
+use Prim.Native.Nat.{ℕ, zero, suc, _*_, _/_, _%_, _≤_, _<_}
 use native.Mathlib.Nat.{mod-lt, zero-lt-suc, not-suc-le-zero, le-of-suc-le-suc}
 use native.Mathlib.Omega.{arith}
-use lib.ListN.{length, getD}
+use lib.ListN.{length}
 use lib.Dec.{eqb, leb}
 use borrow.Author.Tests.{eq-eqb, ne-eqb}
 use Rattle.records.specs.Sets.{odd}
@@ -17,15 +17,15 @@ use Rattle.records.specs.Passes.{rawAt}
 use Rattle.records.proofs.Reading.{byte-next, bytes-got, bad-got, got-inj}
 
 -- the test `m % 2 == 1`
-test : (d : ℕ) → d < 2 → eqb d 1 ≡ odd d
-test zero h = refl
-test (suc zero) h = refl
-test (suc (suc d)) h = absurd (not-suc-le-zero (le-of-suc-le-suc (le-of-suc-le-suc h)))
+pub odd-test : (d : ℕ) → d < 2 → eqb d 1 ≡ odd d
+odd-test zero h = refl
+odd-test (suc zero) h = refl
+odd-test (suc (suc d)) h = absurd (not-suc-le-zero (le-of-suc-le-suc (le-of-suc-le-suc h)))
 
 module _ (s : List ℕ) (at m n : ℕ) (half : n ≡ m / 2) (f : Shape) (fs : List Shape) where
   opened : (x : Read (List ℕ)) → fieldIf (eqb (m % 2) 1) s at f ≡ x → fieldsAt s at m (f ∷ fs) ≡ andThen x (λ v p. andThen (fieldsAt s p n fs) (λ vs q. got (v ∷ vs) q))
   unfolding fieldsAt
-  opened x e = rw (half, ← test (m % 2) (mod-lt m (zero-lt-suc 1)), e)
+  opened x e = rw (half, ← odd-test (m % 2) (mod-lt m (zero-lt-suc 1)), e)
 
   pub more : {v : List ℕ} {p q : ℕ} {vs : List (List ℕ)} → fieldIf (eqb (m % 2) 1) s at f ≡ got v p → fieldsAt s p n fs ≡ got vs q → fieldsAt s at m (f ∷ fs) ≡ got (v ∷ vs) q
   more {v = v} {p = p} e h = opened (got v p) e ∙ ap (λ x. andThen x (λ vs q. got (v ∷ vs) q)) h

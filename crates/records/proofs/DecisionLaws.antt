@@ -1,18 +1,19 @@
 -- Going through the decisions of a cut, and a cut more at the end. Assumes nothing.
-use mathlib.Core.Path.{_≡_, refl, sym, ap, ap₂, _∙_, subst}
-use mathlib.Core.Bool.{Bool, true, false, _&&_, _||_, not, cond}
-use mathlib.Core.List.{List, [], _∷_, _++_, map}
-use Prim.Native.Nat.{ℕ, zero, suc, _+_, _-_, _≤_, _<_}
+use mathlib.Core.Path.{_≡_, refl, ap, _∙_}
+use mathlib.Core.Bool.{Bool, true, false, _&&_, cond}
+use mathlib.Core.List.{List, [], _∷_, _++_}
+use Prim.Native.Nat.{ℕ, suc, _+_, _-_, _≤_, _<_}
 use native.Mathlib.Nat.{sub-zero}
 use native.Mathlib.Omega.{arith}
-use lib.ListN.{length, getD}
+use lib.ListN.{getD}
 use lib.Dec.{eqb}
 use borrow.Author.Tests.{eq-eqb, ne-eqb}
 use Rattle.records.specs.Sets.{numbers, below, anyOf, allOf}
-use Rattle.records.specs.Plan.{Decision, Cut, decidedOnce, unresolvedIn, unresolved}
+use Rattle.records.specs.Plan.{Cut, decidedOnce, unresolvedIn, unresolved}
 use Rattle.records.specs.Decoded.{decisionsOf}
 use Rattle.records.specs.Passes.{decisionsFrom}
 use Rattle.records.specs.declared.plan.Decisions.{Decisions}
+use Rattle.records.proofs.FactLaws.{and-true, and-assoc}
 
 module _ (d : Decisions) where
   from-cons : (i : ℕ) → i < d .count → decisionsFrom d i ≡ record { edge = getD (d .edges) i 0; verdict = getD (d .verdicts) i 0 } ∷ decisionsFrom d (i + 1)
@@ -79,13 +80,5 @@ unresolved-more (c ∷ xs) x = let h = unresolved-more xs x in omega (arith, h)
 
 pub all-more : {A : Type 0} (f : A → Bool) (xs : List A) (x : A) → allOf f (xs ++ (x ∷ [])) ≡ (allOf f xs && f x)
 unfolding allOf
-all-more f [] x = pick (f x)
-  where
-    pick : (t : Bool) → (t && true) ≡ t
-    pick true = refl
-    pick false = refl
-all-more f (y ∷ xs) x = ap (λ (t : Bool). f y && t) (all-more f xs x) ∙ assoc (f y) (allOf f xs) (f x)
-  where
-    assoc : (a b c : Bool) → (a && (b && c)) ≡ ((a && b) && c)
-    assoc true b c = refl
-    assoc false b c = refl
+all-more f [] x = and-true (f x)
+all-more f (y ∷ xs) x = ap (λ (t : Bool). f y && t) (all-more f xs x) ∙ and-assoc (f y) (allOf f xs) (f x)

@@ -1,5 +1,5 @@
 -- The order of facts, and a fact more at its end. Assumes nothing.
-use mathlib.Core.Path.{_≡_, refl, sym, ap, ap₂, _∙_, subst}
+use mathlib.Core.Path.{_≡_, refl, sym, ap, _∙_}
 use mathlib.Core.Bool.{Bool, true, false, _&&_, not, cond}
 use mathlib.Core.List.{List, [], _∷_, _++_}
 use Prim.Native.Nat.{ℕ, zero, suc, _+_, _≤_, _<_}
@@ -8,10 +8,20 @@ use native.Mathlib.Numerals.{add-one}
 use native.Mathlib.Omega.{arith}
 use lib.ListN.{length, getD, take, drop}
 use lib.Dec.{eqb, ltb}
-use borrow.Author.Tests.{eq-eqb, ne-eqb, lt-ltb, le-ltb}
+use borrow.Author.Tests.{eq-eqb, ne-eqb}
 use Rattle.records.specs.Sets.{lexLess}
 use Rattle.records.specs.Plan.{Fact, isBoolean, rises, factsRise}
 use Rattle.records.specs.Decoded.{given}
+
+-- ---- both of two tests
+
+pub and-true : (t : Bool) → (t && true) ≡ t
+and-true true = refl
+and-true false = refl
+
+pub and-assoc : (a b c : Bool) → (a && (b && c)) ≡ ((a && b) && c)
+and-assoc true b c = refl
+and-assoc false b c = refl
 
 -- ---- the first m entries from place i on
 
@@ -86,16 +96,8 @@ first-rises x = pick (x .family)
 pub rise-more : (xs : List Fact) (x : Fact) → factsRise (xs ++ (x ∷ [])) ≡ (factsRise xs && rises (lastFact xs) x)
 unfolding factsRise lastFact
 rise-more [] x = sym (first-rises x)
-rise-more (f ∷ []) x = pick (rises f x)
-  where
-    pick : (t : Bool) → (t && true) ≡ t
-    pick true = refl
-    pick false = refl
-rise-more (f ∷ g ∷ fs) x = ap (λ (t : Bool). rises f g && t) (rise-more (g ∷ fs) x) ∙ assoc (rises f g) (factsRise (g ∷ fs)) (rises (lastFact (g ∷ fs)) x)
-  where
-    assoc : (a b c : Bool) → (a && (b && c)) ≡ ((a && b) && c)
-    assoc true b c = refl
-    assoc false b c = refl
+rise-more (f ∷ []) x = and-true (rises f x)
+rise-more (f ∷ g ∷ fs) x = ap (λ (t : Bool). rises f g && t) (rise-more (g ∷ fs) x) ∙ and-assoc (rises f g) (factsRise (g ∷ fs)) (rises (lastFact (g ∷ fs)) x)
 
 -- a fact has no family just if it is boolean
 pub is-boolean : (t : Bool) (x : ℕ) → eqb (length (given (not t) x)) 0 ≡ t

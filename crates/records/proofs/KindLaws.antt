@@ -1,18 +1,18 @@
 -- Each kind of record in the plan: what one more of them changes and what is wrong with it. Assumes nothing.
-use mathlib.Core.Path.{_≡_, refl, sym, ap, ap₂, _∙_, subst}
+use mathlib.Core.Path.{_≡_, refl, sym, ap, ap₂, _∙_}
 use mathlib.Core.Bool.{Bool, true, false, _&&_, _||_, not, cond}
 use mathlib.Core.List.{List, [], _∷_, _++_, map}
-use Prim.Native.Nat.{ℕ, zero, suc, _+_, _-_, _*_, _/_, _%_, _^_, _≤_, _<_}
+use Prim.Native.Nat.{ℕ, zero, suc, _+_, _-_, _/_, _%_, _^_, _≤_, _<_}
 use native.Mathlib.Nat.{mod-lt, zero-lt-suc, not-suc-le-zero, le-of-suc-le-suc}
 use native.Mathlib.Numerals.{add-one}
 use native.Mathlib.Omega.{arith}
-use lib.ListN.{length, getD, set, take, length-append}
+use lib.ListN.{length, set, take}
 use lib.Seq.{take-suc-set}
 use lib.Bits.{bitAnd}
 use lib.Dec.{eqb, ltb, leb}
-use borrow.Author.Tests.{eq-eqb, ne-eqb, eqb-true}
+use borrow.Author.Tests.{eq-eqb, ne-eqb, eqb-true, leb-false}
 use Rattle.records.specs.Sets.{odd, has, subset, allOf}
-use Rattle.records.specs.Fields.{Raw, formatOf, needs, single}
+use Rattle.records.specs.Fields.{needs, single}
 use Rattle.records.specs.Plan as paper
 use Rattle.records.specs.Plan.{Plan, planFormats, addToPlan, planCounts, judgePlan}
 use Rattle.records.specs.Decoded as decoded
@@ -23,21 +23,17 @@ use Rattle.records.specs.declared.plan.Decisions.{Decisions}
 use Rattle.records.specs.declared.plan.Numbers.{Numbers}
 use Rattle.records.specs.Passes.{Clean, judgement, factBits, headingFrom, factFrom, withHeadings, withFacts, withNodes, withCuts, withEdges, withAttachments, withBars, withStatuses, barFrom, statusFrom}
 use Rattle.records.proofs.SetLaws.{has-zero, Within, antisym, of-meet, in-meet, subset-true, within-subset}
-use Rattle.records.proofs.Chain.{raw}
+use Rattle.records.proofs.Listing.{map-more}
+use Rattle.records.proofs.Chain.{raw, odd-test}
 use Rattle.records.proofs.Passing.{Kind}
-use Rattle.records.proofs.FactLaws.{lastFact, rise-more}
+use Rattle.records.proofs.FactLaws.{and-true, lastFact, rise-more}
 use Rattle.records.proofs.DecisionLaws.{unresolved-more, all-more}
 
 -- ---- tests of the bits
 
 -- `bits / w % 2 == 1`
 pub bit-test : (b w : ℕ) → eqb (b / w % 2) 1 ≡ odd (b / w % 2)
-bit-test b w = pick (b / w % 2) (mod-lt (b / w) (zero-lt-suc 1))
-  where
-    pick : (d : ℕ) → d < 2 → eqb d 1 ≡ odd d
-    pick zero h = refl
-    pick (suc zero) h = refl
-    pick (suc (suc d)) h = absurd (not-suc-le-zero (le-of-suc-le-suc (le-of-suc-le-suc h)))
+bit-test b w = odd-test (b / w % 2) (mod-lt (b / w) (zero-lt-suc 1))
 
 odd-not-one : (d : ℕ) → d < 2 → (d ≡ 1 → ⊥) → odd d ≡ false
 odd-not-one zero h n = refl
@@ -78,20 +74,12 @@ length-more : {A : Type 0} (xs : List A) (x : A) → length (xs ++ (x ∷ [])) �
 length-more [] x = refl
 length-more (y ∷ xs) x = ap suc (length-more xs x)
 
-map-more : {A B : Type 0} (f : A → B) (xs : List A) (x : A) → map f (xs ++ (x ∷ [])) ≡ map f xs ++ (f x ∷ [])
-map-more f [] x = refl
-map-more f (y ∷ ys) x = ap (λ zs. f y ∷ zs) (map-more f ys x)
-
 -- an array with a count: one more record is set
 pub made-more : {A B : Type 0} (f : A → B) (xs : List A) (n : ℕ) (x : A) → n < length xs → map f (take (n + 1) (set xs n x)) ≡ map f (take n xs) ++ (f x ∷ [])
 made-more f xs n x h = ap (λ (k : ℕ). map f (take k (set xs n x))) (add-one n) ∙ ap (map f) (take-suc-set xs n x h) ∙ map-more f (take n xs) x
 
 past : (limit n : ℕ) → ltb limit (suc n) ≡ leb limit n
 past limit n = lib.Dec.leb·suc-suc limit n
-
-and-true : (t : Bool) → (t && true) ≡ t
-and-true true = refl
-and-true false = refl
 
 plain : (t f h : Bool) (z : ℕ) → cond t 2 (cond (not f || not h) 3 z) ≡ cond t 2 (cond (f && h) z 3)
 plain true f h z = refl
@@ -360,3 +348,11 @@ pub cut-is : (m c t : ℕ) (e : Election) (d : Decisions) (n : Numbers) {ds : Li
     ≡ record { members = m; condition = c; citation = t; election = decoded.electionOf e; decisions = ds; precedes = ns }
 unfolding decoded.cutOf
 cut-is m c t e d n a b = ap₂ (λ (x : List paper.Decision) (y : List ℕ). record { members = m; condition = c; citation = t; election = decoded.electionOf e; decisions = x; precedes = y }) a b
+
+-- a limit that is not passed
+pub room-left : (limit n : ℕ) (over : Bool) → (leb limit n || over) ≡ false → n < limit
+room-left limit n over e = pick (leb limit n) refl e
+  where
+    pick : (t : Bool) → leb limit n ≡ t → (t || over) ≡ false → n < limit
+    pick true h q = absurd (mathlib.Core.Bool.true≢false q)
+    pick false h q = leb-false limit n h

@@ -1,8 +1,7 @@
 -- Copying the entries of a list out of the bytes, one after another. Assumes nothing.
-use mathlib.Core.Path.{_≡_, refl, sym, ap, ap₂, _∙_, subst}
+use mathlib.Core.Path.{_≡_, refl, sym, ap, ap₂, _∙_}
 use mathlib.Core.List.{List, [], _∷_, _++_, map}
-use Prim.Native.Nat.{ℕ, zero, suc, _+_, _-_, _*_, _≤_, _<_}
-use native.Mathlib.Nat.{not-suc-le-zero, le-of-suc-le-suc}
+use Prim.Native.Nat.{ℕ, zero, suc, _+_, _-_, _*_, _<_}
 use native.Mathlib.Numerals.{add-one}
 use native.Mathlib.Omega.{arith}
 use lib.ListN.{length, getD, set, take}
@@ -30,7 +29,8 @@ unfolding numbers
 numbers-suc zero k = ap (λ (x : ℕ). x ∷ []) (omega arith)
 numbers-suc (suc n) k = ap (λ (xs : List ℕ). k ∷ xs) (numbers-suc n (suc k) ∙ ap (λ (x : ℕ). numbers n (suc k) ++ (x ∷ [])) (omega arith))
 
-map-more : {A B : Type 0} (f : A → B) (xs : List A) (x : A) → map f (xs ++ (x ∷ [])) ≡ map f xs ++ (f x ∷ [])
+-- the image of a list with one more
+pub map-more : {A B : Type 0} (f : A → B) (xs : List A) (x : A) → map f (xs ++ (x ∷ [])) ≡ map f xs ++ (f x ∷ [])
 map-more f [] x = refl
 map-more f (y ∷ ys) x = ap (λ zs. f y ∷ zs) (map-more f ys x)
 

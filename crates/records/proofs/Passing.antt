@@ -1,6 +1,6 @@
 -- A pass over the records of one kind: each record read, a refusal, or the end of the kind. Assumes nothing.
-use mathlib.Core.Path.{_≡_, refl, sym, ap, ap₂, _∙_, subst}
-use mathlib.Core.Bool.{Bool, true, false, _&&_, _||_, not, cond}
+use mathlib.Core.Path.{_≡_, refl, sym, ap, ap₂, _∙_}
+use mathlib.Core.Bool.{Bool, true, false, cond}
 use mathlib.Core.List.{List, [], _∷_, _++_}
 use Prim.Native.Nat.{ℕ, zero, suc, _+_, _-_, _≤_, _<_}
 use mathlib.Core.Logic.{⊎-elim}
@@ -12,8 +12,8 @@ use Rattle.records.specs.Fields.{Read, got, bad, andThen, Raw, Format, b
 use Rattle.records.specs.Plan.{Plan, planFormats, addToPlan, judgePlan}
 use Rattle.records.specs.Readers.{mapRead}
 use Rattle.records.specs.Passes.{rawAt, Seen, seenBy, readOn, Clean, Passed}
-use Rattle.records.proofs.Reading.{found, none, byte-next, bad-got, got-inj}
-use Rattle.records.proofs.Chain.{raw, Parts, raw-parts}
+use Rattle.records.proofs.Reading.{found, none, byte-next, bad-got}
+use Rattle.records.proofs.Chain.{raw, raw-parts}
 use Rattle.records.proofs.SetLaws.{lt-or-le}
 
 -- ---- one step of reading

@@ -2,13 +2,13 @@
 use mathlib.Core.Path.{_≡_, refl, sym, ap, ap₂, _∙_}
 use mathlib.Core.Bool.{Bool, true, false, not, cond}
 use mathlib.Core.List.{List, [], _∷_}
-use Prim.Native.Nat.{ℕ, zero, suc, _+_, _-_, _≤_, _<_}
+use Prim.Native.Nat.{ℕ, zero, suc, _-_, _≤_, _<_}
 use native.Mathlib.Omega.{arith}
 use lib.ListN.{length, take}
 use lib.Dec.{eqb, ltb}
 use borrow.Author.Tests.{eq-eqb, ne-eqb}
 use Rattle.records.specs.Sets.{allOf}
-use Rattle.records.specs.Fields.{Verdict, fine, refused, readFrom}
+use Rattle.records.specs.Fields.{fine, refused, readFrom}
 use Rattle.records.specs.Plan.{Plan, Heading, Fact, Node, Edge, Cut, Attachment, Bar, planFormats, addToPlan, judgePlan, emptyPlan, planRecords, factsRise, decidedOnce, unresolved}
 use Rattle.records.specs.Decoded.{planOf}
 use Rattle.records.specs.PlanRead.{planReadOf}

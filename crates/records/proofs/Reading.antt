@@ -1,14 +1,14 @@
 -- What reading fields by place gives: the bytes of a span, the place after them, and the values that the answers stand for. Assumes nothing.
-use mathlib.Core.Path.{_≡_, refl, sym, ap, ap₂, _∙_, subst}
+use mathlib.Core.Path.{_≡_, refl, sym, ap, ap₂, _∙_}
 use mathlib.Core.Bool.{Bool, true, false, _&&_, cond, true≢false, false≢true}
 use mathlib.Core.List.{List, [], _∷_, _++_}
 use Prim.Native.Nat.{ℕ, zero, suc, _+_, _-_, _*_, _≤_, _<_}
 use native.Mathlib.Omega.{arith}
 use lib.ListN.{length, getD}
-use lib.Dec.{eqb, ltb, leb}
+use lib.Dec.{ltb, leb}
 use borrow.Author.Tests.{ltb-true, leb-true, lt-ltb, le-leb}
-use Rattle.records.specs.Fields.{Range, Shape, bytes, list, most, Read, got, bad, andThen, byteAt, bytesAt, fieldAt, fieldsAt, repeat, little}
-use Rattle.records.specs.Readers.{mapRead, isGot, first, span, fieldIf, mask}
+use Rattle.records.specs.Fields.{Range, bytes, list, Read, got, bad, andThen, byteAt, bytesAt, fieldAt, repeat, little}
+use Rattle.records.specs.Readers.{mapRead, isGot, first, span, mask}
 
 -- ---- answers by what they are made from
 

@@ -1,6 +1,6 @@
 -- No edge is decided twice. Assumes nothing.
-use mathlib.Core.Path.{_≡_, refl, sym, _∙_, ap}
-use Prim.Native.Nat.{ℕ, _+_, _-_, _≤_}
+use mathlib.Core.Path.{_≡_, sym, _∙_, ap}
+use Prim.Native.Nat.{_-_, _≤_}
 use native.Mathlib.Omega.{arith}
 use Rattle.records.specs.Plan.{decidedOnce}
 use Rattle.records.specs.Decoded.{decisionsOf}

@@ -1,9 +1,8 @@
 -- The unresolved decisions of a cut, counted. Assumes nothing.
-use mathlib.Core.Path.{_≡_, refl, sym, _∙_, ap}
+use mathlib.Core.Path.{_≡_, _∙_, ap}
 use mathlib.Core.Logic.{⊎-elim}
-use Prim.Native.Nat.{ℕ, _+_, _-_, _≤_, _<_}
+use Prim.Native.Nat.{_+_, _-_, _≤_, _<_}
 use native.Mathlib.Omega.{arith}
-use borrow.Author.Tests.{eq-eqb, ne-eqb}
 use Rattle.records.specs.Plan.{unresolvedIn}
 use Rattle.records.specs.Decoded.{decisionsOf}
 use Rattle.records.specs.Passes.{decisionsFrom}

@@ -1,7 +1,7 @@
 -- The pass over the edges. Assumes nothing.
-use mathlib.Core.Path.{_≡_, refl, sym, _∙_, ap}
+use mathlib.Core.Path.{_≡_, refl, _∙_}
 use mathlib.Core.Bool.{true, false}
-use Prim.Native.Nat.{ℕ, _+_, _-_, _≤_}
+use Prim.Native.Nat.{_-_, _≤_}
 use native.Mathlib.Omega.{arith}
 use denote.Ref.{now}
 use lib.ListN.{length, length-set}
@@ -18,10 +18,6 @@ use Rattle.records.proofs.read_edges.read_edges.Statement.{statement}
 use Rattle.records.proofs.read_edges.read_edges.Tie as tie
 use Rattle.records.proofs.read_edges.read_edges.Reads as reads
 use Rattle.records.proofs.read_edges.read_edges.Lts as lts
-use Rattle.records.proofs.judge.judged.Reads as judged-reads
-use Rattle.records.proofs.lists.numbers_from.Reads as numbers-from-reads
-use Rattle.records.proofs.read_edges.edge_at.Reads as edge-at-reads
-use Rattle.records.proofs.read_edges.no_edges.Reads as no-edges-reads
 
 abbrev Inv-loop : tie.InvT-loop
 Inv-loop s start before headed edges₀ at₀ k₀ edges at k =
@@ -30,48 +26,38 @@ Inv-loop s start before headed edges₀ at₀ k₀ edges at k =
 abbrev μ-loop : tie.MeasureT-loop
 μ-loop s start before headed edges₀ at₀ k₀ edges at k = length s - at
 
--- src/read_edges.rt:86:21
 no-edges-requires : tie.Need-no-edges-requires Inv-loop μ-loop
 no-edges-requires c κs = search needs
 
--- src/read_edges.rt:89:5
 loop-holds : tie.Need-loop-holds Inv-loop μ-loop
 loop-holds c =
     let a = c .before .before .args in
     let e = c .no-edges .ensures in
     (c .before .before .pre, omega (arith, e .1), e .2, going edgeKind (now (a .s)) (a .headed) (a .start) (a .before) (edgesOf (c .no-edges .result)) (e .0))
 
--- src/read_edges.rt:90:12
 shared-slice-read-if1 : tie.Need-shared-slice-read-if1 Inv-loop μ-loop
 shared-slice-read-if1 c = search needs
 
--- src/read_edges.rt:93:103
 add-edge-at : tie.Need-add-edge-at Inv-loop μ-loop
 add-edge-at c = search needs
 
--- src/read_edges.rt:93:92
 edge-at-requires : tie.Need-edge-at-requires Inv-loop μ-loop
 edge-at-requires c κs = search needs
 
--- src/read_edges.rt:93:29
 enum-known-bits : tie.Need-enum-known-bits Inv-loop μ-loop
 enum-known-bits c = search needs
 
--- src/read_edges.rt:94:69
 enum-told : tie.Need-enum-told Inv-loop μ-loop
 enum-told c = search needs
 
--- src/read_edges.rt:94:13
 returns : tie.Need-returns Inv-loop μ-loop
 returns c =
     let i = c .before .before .before .before .before .before .loop .inv in
     (refused-bad edgeKind _ _ _ _ (i .3) (i .0) (c .before .before .before .before .before .loop-test .taken) (c .before .before .before .if1 .left) (seen (edgeRead (now (c .before .before .before .before .before .before .before .before .before .args .s))) (c .before .before .edge-at .ensures .0) (c .enum-told .given .1)), i .0)
 
--- src/read_edges.rt:97:13
 judged-requires : tie.Need-judged-requires Inv-loop μ-loop
 judged-requires c κs = search needs
 
--- src/read_edges.rt:99:13
 returns-2 : tie.Need-returns-2 Inv-loop μ-loop
 returns-2 c =
     let i = c .before .before .before .before .before .before .before .before .before .loop .inv in
@@ -79,34 +65,27 @@ returns-2 c =
     let j = judge-same 64 (l .count) (length (edgesOf l)) false false _ (fields.needs 15 (c .before .before .before .bits .given .0 .0)) (c .before .before .before .before .before .before .before .before .before .before .before .before .args .headed) true true (c .before .judged .ensures .0) (length-made edgeOf (l .items) (l .count) (omega (arith, i .1, i .2))) refl (needs-test (c .before .before .before .bits .given .0 .0) 15) refl in
     (refused-judged edgeKind _ _ _ _ (i .3) (i .0) (c .before .before .before .before .before .before .before .before .loop-test .taken) (c .before .before .before .before .before .before .if1 .left) tt (seen (edgeRead (now (c .before .before .before .before .before .before .before .before .before .before .before .before .args .s))) (c .before .before .before .before .before .edge-at .ensures .0) (c .before .before .before .bits .given .1)) _ j (c .if2 .taken), i .0)
 
--- src/read_edges.rt:101:13
 numbers-from-requires : tie.Need-numbers-from-requires Inv-loop μ-loop
 numbers-from-requires c κs = let f = rw (c .before .before .before .bits .given .1) at (c .before .before .before .before .before .edge-at .ensures .1) in (f .0, f .1)
 
--- src/read_edges.rt:102:9
 mul-t20 : tie.Need-mul-t20 Inv-loop μ-loop
 mul-t20 c = search needs
 
--- src/read_edges.rt:102:9
 element-set-from-edges : tie.Need-element-set-from-edges Inv-loop μ-loop
 element-set-from-edges c = let h = c .before .before .judged .ensures .1 (c .before .if2 .left) in search (needs, h)
 
--- src/read_edges.rt:110:23
 add-edges : tie.Need-add-edges Inv-loop μ-loop
 add-edges c = let h = c .before .before .judged .ensures .1 (c .before .if2 .left) in search (needs, h)
 
--- src/read_edges.rt:112:13
 add-k : tie.Need-add-k Inv-loop μ-loop
 add-k c = search needs
 
--- src/read_edges.rt:89:5
 loop-less : tie.Need-loop-less Inv-loop μ-loop
 loop-less c =
     let i = c .before .before .before .before .before .before .before .before .before .before .loop .inv in
     let z = goes-later edgeKind _ _ _ _ (i .3) (i .0) (c .before .before .before .before .before .before .before .before .before .loop-test .taken) (c .before .before .before .before .before .before .before .if1 .left) tt (seen (edgeRead (now (c .before .before .before .before .before .before .before .before .before .before .before .before .before .args .s))) (c .before .before .before .before .before .before .edge-at .ensures .0) (c .before .before .before .before .bits .given .1)) in
     omega (arith, z)
 
--- src/read_edges.rt:89:5
 loop-again : tie.Need-loop-again Inv-loop μ-loop
 unfolding edgeOf has
 loop-again c =
@@ -124,13 +103,11 @@ loop-again c =
           (made-more edgeOf (l .items) (l .count) _ (omega (arith, i .2, h)) ∙ rw (c .numbers-from .ensures, bit-test b 32)),
     )
 
--- src/read_edges.rt:78:1
 returns-3 : tie.Need-returns-3 Inv-loop μ-loop
 returns-3 c =
     let i = c .before .loop .inv in
     (ends-short edgeKind _ _ _ _ (i .3) (c .loop-test .left), i .0)
 
--- src/read_edges.rt:78:1
 returns-4 : tie.Need-returns-4 Inv-loop μ-loop
 returns-4 c =
     let i = c .before .before .before .loop .inv in

@@ -1,11 +1,10 @@
 -- The pass over the facts. Assumes nothing.
 use mathlib.Core.Path.{_≡_, refl, sym, _∙_, ap, ap₂}
-use mathlib.Core.Bool.{true, false, Bool, _&&_, not}
+use mathlib.Core.Bool.{true, false, _&&_}
 use mathlib.Core.List.{[], _∷_, _++_}
-use Prim.Native.Nat.{ℕ, _+_, _-_, _≤_, _%_}
+use Prim.Native.Nat.{_+_, _-_, _≤_}
 use native.Mathlib.Omega.{arith}
 use denote.Ref.{now}
-use lib.Dec.{eqb}
 use lib.ListN.{length, length-set}
 use Rattle.records.specs.Plan.{rises, factsRise, Fact}
 use Rattle.records.specs.Decoded.{factOf}
@@ -14,7 +13,7 @@ use Rattle.records.proofs.LoopLaws.{length-made}
 use Rattle.records.proofs.Reading.{seen}
 use Rattle.records.proofs.Passing.{Going, going, ends-short, ends-other, refused-bad, refused-judged, goes-on, goes-later}
 use Rattle.records.proofs.FactLaws.{lastFact, last-none, last-more, rise-more}
-use Rattle.records.proofs.KindLaws.{factKind, made-more, judge-same, is-sound, it-fits, and-left, no-tuple, not-not, fact-is}
+use Rattle.records.proofs.KindLaws.{factKind, made-more, judge-same, is-sound, it-fits, and-left, no-tuple, fact-is}
 use borrow.Author.Needs.{needs}
 use Rattle.records.proofs.read_facts.read_facts.Statement.{statement}
 use Rattle.records.proofs.read_facts.read_facts.Tie as tie

@@ -1,15 +1,12 @@
 -- The heading from its bit map on. Assumes nothing.
-use mathlib.Core.Path.{_≡_, refl, sym, _∙_, ap}
-use mathlib.Core.List.{[], _∷_}
-use native.Mathlib.Omega.{arith}
+use mathlib.Core.Path.{refl, sym, ap}
 use Prim.Native.Nat.{_/_, _%_}
 use lib.Dec.{eqb}
 use denote.Ref.{now}
-use Rattle.records.specs.Fields.{little}
-use Rattle.records.specs.Readers.{fieldRead, wideRead, electionRead, listRead, pairsRead, mapRead, first}
+use Rattle.records.specs.Readers.{fieldRead, mapRead, first}
 use Rattle.records.specs.Passes.{seenBy, headingFrom}
 use Rattle.records.proofs.Reading.{seen, found, none}
-use Rattle.records.proofs.Chain.{more, skip, stop, last, unknown, no-field, half-of, one-given, raw-got, raw-bits, raw-bad}
+use Rattle.records.proofs.Chain.{more, skip, stop, last, unknown, half-of, one-given, raw-got, raw-bits, raw-bad}
 use Rattle.records.specs.Plan as paper
 use borrow.Author.Needs.{needs}
 use Rattle.records.proofs.read_heading.heading_at.Statement.{statement}

@@ -1,16 +1,11 @@
 -- A node from its bit map on. Assumes nothing.
-use mathlib.Core.Path.{_≡_, refl, sym, _∙_, ap}
-use mathlib.Core.List.{[], _∷_}
-use native.Mathlib.Omega.{arith}
-use Prim.Native.Nat.{_/_, _%_}
-use lib.Dec.{eqb}
+use mathlib.Core.Path.{refl, sym, ap}
 use denote.Ref.{now}
-use Rattle.records.specs.Fields.{little}
 use Rattle.records.specs.Plan as paper
-use Rattle.records.specs.Readers.{fieldRead, wideRead, electionRead, listRead, pairsRead, mapRead, first}
+use Rattle.records.specs.Readers.{fieldRead, listRead, mapRead, first}
 use Rattle.records.specs.Passes.{seenBy}
 use Rattle.records.proofs.Reading.{seen, found, none}
-use Rattle.records.proofs.Chain.{more, skip, stop, last, unknown, no-field, half-of, one-given, raw-got, raw-bits, raw-bad}
+use Rattle.records.proofs.Chain.{more, skip, stop, last, unknown, half-of, raw-got, raw-bits, raw-bad}
 use borrow.Author.Needs.{needs}
 use Rattle.records.proofs.read_nodes.node_at.Statement.{statement}
 use Rattle.records.proofs.read_nodes.node_at.Tie as tie

@@ -1,8 +1,6 @@
 -- The node that the lowest bit says. Assumes nothing.
-use mathlib.Core.Path.{_≡_, refl, sym, _∙_, ap}
 use Rattle.records.specs.Decoded as decoded
 use Rattle.records.proofs.KindLaws.{bit0-on, bit0-off, bit-on, bit-off}
-use borrow.Author.Needs.{needs}
 use Rattle.records.proofs.read_nodes.node_from.Statement.{statement}
 use Rattle.records.proofs.read_nodes.node_from.Tie as tie
 use Rattle.records.proofs.read_nodes.node_from.Reads as reads
