@@ -1,2 +1,5 @@
 pub mod BindingLaws
 pub mod InfluenceLaws
+pub mod Follow
+pub mod Circles
+pub mod Similar

@@ -4,7 +4,7 @@ use mathlib.Core.List.{List, [], _∷_, _++_}
 use Prim.Native.Nat.{ℕ}
 use lib.ListN.{length, getD}
 use lib.Dec.{eqb}
-use Rattle.records.specs.Sets.{one, union, below}
+use Rattle.records.specs.Sets.{one, union, below, unionBelow}
 use Rattle.records.specs.Plan.{Plan, Heading, Edge, Cut, Attachment, Bar, Status, Node, conj}
 
 module _ (P : Plan) where
@@ -53,6 +53,14 @@ module _ (P : Plan) where
   unfoldable pub ruleSets : List ℕ
   ruleSets =
       below edgeCount pair ++ (below cutCount (λ i. cut i .members) ++ (below attachmentCount span ++ below barCount (λ i. bar i .members)))
+
+  -- the persons of all rules
+  unfoldable pub rulePersons : ℕ
+  rulePersons =
+      union (unionBelow edgeCount pair)
+      (union (unionBelow cutCount (λ i. cut i .members))
+      (union (unionBelow attachmentCount span)
+      (union (unionBelow barCount (λ i. bar i .members)) (unionBelow statusCount (λ i. one (status i .person))))))
 
   -- "Without a base-chain citation"
   unfoldable pub chained : Bool

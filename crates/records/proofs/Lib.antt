@@ -1,5 +1,13 @@
 pub mod SetLaws
 pub mod Closing
 pub mod LoopLaws
+pub mod BelowLaws
+pub mod Every
+pub mod FieldLaws
+pub mod ReadLaws
+pub mod PlanParts
+pub mod Accepted
+pub mod AcceptedCase
 pub mod Rising
-pub mod Members
+pub mod MemberLaws
+pub mod Local

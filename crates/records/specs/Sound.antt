@@ -1,5 +1,5 @@
 -- What the check gives of every accepted plan, and reading of every accepted case: numbers name what they should, and stay within the limits.
--- Contracts above cite it as one property; proofs/Accepted.antt shows it of `checkedPlan` and `readCase`.
+-- Contracts above cite it as one property; proofs/Accepted.antt shows it of `checkedPlan`, proofs/AcceptedCase.antt of `readCase`.
 use mathlib.Core.Path.{_≡_}
 use mathlib.Core.Bool.{true}
 use mathlib.Core.List.{List, [], _∷_}
@@ -51,6 +51,7 @@ module _ (P : Plan) where
     pub condition : c .condition < length (P .nodes)
     pub citation : c .citation < 64
     pub election : All SoundElection (c .election)
+    pub few : length (c .decisions) ≤ 64
     pub decisions : All SoundDecision (c .decisions)
     pub once : decidedOnce (c .decisions) ≡ true
     pub precedes : Numbers 16 (length (P .cuts)) (c .precedes)

@@ -8,7 +8,7 @@ use Rattle.records.specs.Sets.{has, one, union, meet, minus, disjoint, meets, s
 use Rattle.records.specs.Fields.{byteAt, bytesAt, repeat, little, fieldAt, fieldsAt, recordAt, readFrom, firstFault}
 use Rattle.records.specs.Plan.{planFormats, nodeOf, electionOf, decisionsOf, addToPlan, planCounts, isBoolean, rises, factsRise, decidedOnce, unresolvedIn, unresolved, judgePlan, planRecords, eachFrom, getFact, nodeSound, edgeSound, electionSound, cutSound, attachmentSound, namingFaults, crosses, crossingsDecided, sameElection, electionFaults, planFaults, checkedPlan}
 use Rattle.records.specs.Case.{caseFormats, observationsOf, addToCase, caseCounts, judgeCase, caseRecords, relationSound, caseNamingFaults, readCase, caseHeading}
-use Rattle.expressions.specs.Rules.{edge, cut, attachment, bar, status, pair, span, ruleSets, chained}
+use Rattle.expressions.specs.Rules.{rulePersons, edge, cut, attachment, bar, status, pair, span, ruleSets, chained}
 use Rattle.expressions.specs.Nodes.{value, valuesFrom, values, uses, usesFrom, nodeUses}
 use Rattle.expressions.specs.Influence.{openIn, openBelow, openDecisions, openDecision, decisionTouch, edgeUses, cutUses, attachmentUses, barUses, statusUses, usersOf, constraintUses, boundFacts, touched, touch, touches, decisionTouches, joins, circle, touchesCircle}
 use Rattle.expressions.specs.Bindings.{evidenceOf, valuesSeen, weighed, elections, defaultOf, boundBoolean, inScope, boundRelation, bindingOf, bindings, tookDefault, familyFaults, booleanFault, booleanFaults, bindable}
@@ -19,11 +19,11 @@ use Rattle.worlds.specs.View.{roleOf, edgeCitations, leads, cutCitations, attac
 use Rattle.worlds.specs.Events.{littleBytes, event, listed, frozenEvents, appliedEvents, blockedEvents, leastOfMerged, overlapEvents, attachmentEvents, barEvents, statusEvents, discretionEvents, eventsOf}
 use Rattle.report.specs.Line.{lineBytes, firstKind, holding, lineOver, lineIn}
 use Rattle.report.specs.EventList.{insert, rising, defaultEvents}
-use Rattle.report.specs.Operations.{Outcome, Told, told, check, rulePersons, mismatched, headingFault, tooMany, counted, bound, opened, written, influences, allWorlds, linesOver, eventsOver, linesOf, answerReady, answer, showFrom, show}
+use Rattle.report.specs.Operations.{Outcome, Told, told, check, mismatched, headingFault, tooMany, counted, bound, opened, written, influences, allWorlds, linesOver, eventsOver, linesOf, answerReady, answer, showFrom, show}
 
 -- ---- records as bytes
 
-abbrev mask : ℕ → List ℕ
+abbrev pub mask : ℕ → List ℕ
 mask m = m ∷ 0 ∷ 0 ∷ 0 ∷ 0 ∷ 0 ∷ 0 ∷ 0 ∷ []
 
 -- a plan's heading: relation 1
@@ -31,15 +31,15 @@ abbrev plain : List ℕ
 plain = 1 ∷ 0b1 ∷ 1 ∷ []
 
 -- the same with base-chain citation 9
-abbrev chain : List ℕ
+abbrev pub chain : List ℕ
 chain = 1 ∷ 0b11 ∷ 1 ∷ 9 ∷ []
 
 -- node 0 is the literal 1
-abbrev always : List ℕ
+abbrev pub always : List ℕ
 always = 3 ∷ 0b1 ∷ 1 ∷ []
 
 -- edges between two persons under a node, with citation 2
-abbrev base : ℕ → ℕ → ℕ → List ℕ
+abbrev pub base : ℕ → ℕ → ℕ → List ℕ
 base left right node = 4 ∷ 0b1111 ∷ left ∷ right ∷ node ∷ 2 ∷ []
 
 abbrev combination : ℕ → ℕ → List ℕ
@@ -67,7 +67,7 @@ abbrev excluding : ℕ → List ℕ
 excluding person = 8 ∷ 0b111 ∷ person ∷ 0 ∷ 5 ∷ []
 
 -- a case's heading: relation 1, scope 1, segment 1, complete, at most 4,096 worlds
-abbrev roster₀ : ℕ → List ℕ
+abbrev pub roster₀ : ℕ → List ℕ
 roster₀ persons = 1 ∷ 0b1111111 ∷ 1 ∷ 1 ∷ 1 ∷ mask persons ++ (0 ∷ 0 ∷ 16 ∷ [])
 
 -- a line as bytes

@@ -1,3 +1,4 @@
 pub mod Line
+pub mod LineAt
 pub mod EventList
 pub mod Operations

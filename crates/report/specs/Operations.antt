@@ -4,11 +4,11 @@ use mathlib.Core.List.{List, [], _∷_, _++_, map, flatMap}
 use Prim.Native.Nat.{ℕ, zero, suc, _+_, _*_, _-_, _^_}
 use lib.ListN.{length, getD, replicate, drop}
 use lib.Dec.{eqb, ltb, leb}
-use Rattle.records.specs.Sets.{has, one, union, subset, size, members, unionOf, unionBelow}
+use Rattle.records.specs.Sets.{subset, size, members}
 use Rattle.records.specs.Fields.{Verdict, fine, refused}
 use Rattle.records.specs.Plan.{Plan, Heading, checkedPlan}
 use Rattle.records.specs.Case.{Case, CaseHeading, readCase, caseHeading}
-use Rattle.expressions.specs.Rules.{edgeCount, cutCount, attachmentCount, barCount, statusCount, cut, bar, status, pair, span}
+use Rattle.expressions.specs.Rules.{rulePersons}
 use Rattle.expressions.specs.Bindings.{Bound, bindings, bindable, frameOf}
 use Rattle.expressions.specs.Variables.{Values, Influence, worldCount, worlds, influence}
 use Rattle.worlds.specs.Active.{active}
@@ -51,14 +51,6 @@ check plan = verdictOf (checkedPlan plan)
 
 abbrev pub relationOf : Plan → ℕ
 relationOf P = getD (P .headings) 0 (record { relation = 0; chain = [] }) .relation
-
--- the persons of all rules
-unfoldable pub rulePersons : Plan → ℕ
-rulePersons P =
-    union (unionBelow (edgeCount P) (pair P))
-    (union (unionBelow (cutCount P) (λ i. cut P i .members))
-    (union (unionBelow (attachmentCount P) (span P))
-    (union (unionBelow (barCount P) (λ i. bar P i .members)) (unionBelow (statusCount P) (λ i. one (status P i .person))))))
 
 -- "9 relation differs, scope or segment empty, roster empty, a rule's person off the roster"
 unfoldable pub mismatched : Plan → CaseHeading → Bool

@@ -1,0 +1,111 @@
+-- What is read out of a buffer that was filled with lines: the line's own person and block, or nothing past the last. Assumes nothing.
+use mathlib.Core.Path.{_≡_, refl, sym, ap, _∙_, subst}
+use mathlib.Core.List.{List, [], _∷_, _++_, map}
+use mathlib.Core.Logic.{_⊎_, inl, inr, ⊎-elim}
+use Prim.Native.Nat.{ℕ, zero, suc, _*_, _-_, _/_, _^_, _≤_, _<_}
+use native.Mathlib.Nat.{pow-suc}
+use native.Mathlib.Omega.{arith}
+use lib.ListN.{length, getD, take, drop, replicate, List·getD-eq-default}
+use lib.Seq.{take-at}
+use Rattle.records.specs.Fields.{little}
+use Rattle.records.specs.Sound.{All}
+use Rattle.records.proofs.SetLaws.{lt-or-le}
+use Rattle.worlds.specs.Events.{littleBytes}
+use Rattle.report.specs.Line.{Line, lineBytes, lineLength, bareLine}
+use Rattle.report.specs.LineAt.{lineAt, personAt, blockAt}
+use Rattle.report.specs.Operations.{filled}
+use Rattle.report.proofs.LinesAt.{run, line-at, past-lines}
+
+-- ---- numbers as bytes
+
+length-little : (n m : ℕ) → length (littleBytes n m) ≡ n
+unfolding littleBytes
+length-little zero m = refl
+length-little (suc n) m = ap suc (length-little n (m / 256))
+
+little-bytes : (n m : ℕ) → m < 256 ^ n → little (littleBytes n m) ≡ m
+unfolding littleBytes little
+little-bytes zero m h = omega arith
+little-bytes (suc n) m h =
+    let less = subst (λ (x : ℕ). m < x) (pow-suc 256 n) h in
+    let ih = little-bytes n (m / 256) (omega arith) in
+    omega arith
+
+-- ---- zeros
+
+abbrev pub Zeros : List ℕ → Type 0
+Zeros s = All (λ b. b ≡ 0) s
+
+pub zeros : (n : ℕ) → Zeros (replicate n 0)
+zeros zero = tt
+zeros (suc n) = (refl, zeros n)
+
+zeros-drop : (n : ℕ) (s : List ℕ) → Zeros s → Zeros (drop n s)
+zeros-drop zero s h = h
+zeros-drop (suc n) [] h = tt
+zeros-drop (suc n) (b ∷ bs) h = zeros-drop n bs (h .1)
+
+zeros-take : (n : ℕ) (s : List ℕ) → Zeros s → Zeros (take n s)
+zeros-take zero s h = tt
+zeros-take (suc n) [] h = tt
+zeros-take (suc n) (b ∷ bs) h = (h .0, zeros-take n bs (h .1))
+
+zeros-little : (s : List ℕ) → Zeros s → little s ≡ 0
+unfolding little
+zeros-little [] h = refl
+zeros-little (b ∷ bs) h =
+    let e = h .0 in
+    let ih = zeros-little bs (h .1) in
+    omega arith
+
+-- ---- lines
+
+abbrev pub none : Line
+none = bareLine 0 0
+
+-- bytes of a line of which nothing is written
+blank : (s : List ℕ) → Zeros s → (getD s 0 0 ≡ 0) × (little (take 8 (drop 3 s)) ≡ 0)
+blank s z = (head s z, zeros-little (take 8 (drop 3 s)) (zeros-take 8 (drop 3 s) (zeros-drop 3 s z)))
+  where
+    head : (s : List ℕ) → Zeros s → getD s 0 0 ≡ 0
+    head [] h = refl
+    head (b ∷ bs) h = h .0
+
+pub zeros-block : (s : List ℕ) (k : ℕ) → Zeros s → blockAt s k ≡ 0
+unfolding blockAt lineAt
+zeros-block s k z = blank (take lineLength (drop (lineLength * k) s)) (zeros-take lineLength (drop (lineLength * k) s) (zeros-drop (lineLength * k) s z)) .1
+
+module _ (room : ℕ) (ls : List Line) (k : ℕ) where
+  abbrev s : List ℕ
+  s = filled room (map lineBytes ls)
+
+  abbrev l : Line
+  l = getD ls k none
+
+  -- at line k stands its own line, or nothing
+  placed : (lineAt s k ≡ lineBytes l) ⊎ ((l ≡ none) × Zeros (lineAt s k))
+  unfolding lineAt
+  placed = ⊎-elim (λ h. inl (line-at room ls k none h)) (λ h. inr (List·getD-eq-default ls none h, past h)) (lt-or-le k (length ls))
+    where
+      left : ℕ
+      left = room - length (run ls)
+
+      past : length ls ≤ k → Zeros (take lineLength (drop (lineLength * k) s))
+      past h =
+          let r = past-lines ls (replicate left 0) k h in
+          zeros-take lineLength (drop (lineLength * k) s) (subst Zeros (sym (r .1)) (zeros-drop (r .0) (replicate left 0) (zeros left)))
+
+  pub person-read : personAt (filled room (map lineBytes ls)) k ≡ getD ls k none .person
+  unfolding personAt lineBytes
+  person-read =
+      ⊎-elim (λ e. ap (λ (s : List ℕ). getD s 0 0) e) (λ r. blank (lineAt s k) (r .1) .0 ∙ ap (λ (l : Line). l .person) (sym (r .0))) placed
+
+  pub block-read : getD ls k none .block < 2 ^ 64 → blockAt (filled room (map lineBytes ls)) k ≡ getD ls k none .block
+  unfolding blockAt lineBytes
+  block-read h =
+      ⊎-elim (λ e. ap (λ (s : List ℕ). little (take 8 (drop 3 s))) e ∙ own) (λ r. blank (lineAt s k) (r .1) .1 ∙ ap (λ (l : Line). l .block) (sym (r .0))) placed
+    where
+      own : little (take 8 (drop 3 (lineBytes l))) ≡ l .block
+      own =
+          ap little (take-at (littleBytes 8 (l .block)) (littleBytes 8 (l .openFacts) ++ (littleBytes 2 (l .openDecisions) ++ littleBytes 8 (l .citations))) 8 (length-little 8 (l .block)))
+          ∙ little-bytes 8 (l .block) h

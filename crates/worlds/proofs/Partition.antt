@@ -1,0 +1,219 @@
+-- Document 01, "Proved: each roster person is marked, or is in just one block whose members all report it". Assumes nothing.
+use mathlib.Core.Path.{_≡_, refl, sym, ap, _∙_}
+use mathlib.Core.Bool.{Bool, true, false, _&&_, not, cond, true≢false}
+use mathlib.Core.Logic.{_⊎_, inl, inr, ⊎-elim}
+use Prim.Native.Nat.{ℕ, _≤_, _<_, _^_}
+use lib.ListN.{getD, List·getD-eq-default}
+use lib.Dec.{eqb}
+use Rattle.records.specs.Sets.{has, one, union, minus, disjoint, subset, below, unionBelow}
+use Rattle.records.specs.Plan.{Plan, Cut, Attachment}
+use Rattle.records.proofs.SetLaws.{Within, has-none, has-high, thru, in-union-l, in-union-r, of-union, in-minus, of-minus, empty, subset-true, disjoint-false, lt-or-le}
+use Rattle.records.proofs.BelowLaws.{in-below, getD-below-all, fold-keeps}
+use Rattle.expressions.specs.Rules.{edgeCount, cutCount, attachmentCount, barCount, statusCount, cut, attachment, bar, status, pair, span, rulePersons}
+use Rattle.expressions.specs.Nodes.{on}
+use Rattle.expressions.specs.Variables.{Influence}
+use Rattle.worlds.specs.Active.{Active}
+use Rattle.worlds.specs.World.{State, Marks, marked, blockOf, keptCuts, firstState, move, attach, lastState, marksOf, afterMarks, worldOf}
+use Rattle.worlds.proofs.FirstBlocks.{Blocks, out-of-blocks, applied, first-blocks}
+
+not-set : (b : Bool) → (b ≡ true → ⊥) → b ≡ false
+not-set true h = absurd (h refl)
+not-set false h = refl
+
+-- ---- an attachment keeps it
+
+module _ (live : ℕ) (high : (p : ℕ) → 64 ≤ p → has live p ≡ false) (i anchor movers : ℕ) (on-live : Within movers live) (s : State) (B : Blocks live s) where
+  abbrev target : ℕ
+  target = union (blockOf s anchor) movers
+
+  target-live : Within target live
+  target-live = record { at = λ q h. ⊎-elim (λ k. B .alive anchor q k) (λ k. on-live .at q k) (of-union (blockOf s anchor) movers q h) }
+
+  abbrev after : ℕ → ℕ
+  after p = cond (has target p) target (minus (blockOf s p) movers)
+
+  -- who stays in a block that is not the target's is not in the target
+  stays : (p q : ℕ) → has target p ≡ false → has (minus (blockOf s p) movers) q ≡ true → (has (blockOf s p) q ≡ true) × (has target q ≡ false)
+  stays p q e h = (t .0, not-set (has target q) (λ k. ⊎-elim (λ x. true≢false (sym (joined x) ∙ e)) (λ x. true≢false (sym x ∙ t .1)) (of-union (blockOf s anchor) movers q k)))
+    where
+      t : (has (blockOf s p) q ≡ true) × (has movers q ≡ false)
+      t = of-minus (blockOf s p) movers q h
+
+      -- the anchor's block would hold p too
+      joined : has (blockOf s anchor) q ≡ true → has target p ≡ true
+      joined k = in-union-l (blockOf s anchor) movers .at p (ap (λ (x : ℕ). has x p) (sym (B .agreed anchor q k) ∙ B .agreed p q (t .0)) ∙ B .self p (B .owner p q (t .0)))
+
+  by : (p : ℕ) (b : Bool) → has target p ≡ b → after p ≡ cond b target (minus (blockOf s p) movers)
+  by p b e = ap (λ (x : Bool). cond x target (minus (blockOf s p) movers)) e
+
+  -- what a block holds afterwards
+  record Held (p q : ℕ) : Type 0 where
+    owner : has live p ≡ true
+    alive : has live q ≡ true
+    agreed : after q ≡ after p
+
+  held : (p q : ℕ) (b : Bool) → has target p ≡ b → has (after p) q ≡ true → Held p q
+  held p q true e h =
+      let k = sym (ap (λ (x : ℕ). has x q) (by p true e)) ∙ h in
+      record { owner = target-live .at p e; alive = target-live .at q k; agreed = by q true k ∙ sym (by p true e) }
+  held p q false e h =
+      let t = stays p q e (sym (ap (λ (x : ℕ). has x q) (by p false e)) ∙ h) in
+      record {
+        owner = B .owner p q (t .0);
+        alive = B .alive p q (t .0);
+        agreed = by q false (t .1) ∙ ap (λ (x : ℕ). minus x movers) (B .agreed p q (t .0)) ∙ sym (by p false e);
+      }
+
+  own : (p : ℕ) (b : Bool) → has target p ≡ b → has live p ≡ true → has (after p) p ≡ true
+  own p true e l = ap (λ (x : ℕ). has x p) (by p true e) ∙ e
+  own p false e l = ap (λ (x : ℕ). has x p) (by p false e) ∙ in-minus (blockOf s p) movers p (B .self p l)
+      (not-set (has movers p) (λ k. true≢false (sym (in-union-r (blockOf s anchor) movers .at p k) ∙ e)))
+
+  move-blocks : Blocks live (move i target movers s)
+  unfolding move
+  move-blocks = record {
+    self = λ p l. at p p ∙ own p (has target p) refl l;
+    owner = λ p q h. then p q h .owner;
+    alive = λ p q h. then p q h .alive;
+    agreed = λ p q h. is q ∙ then p q h .agreed ∙ sym (is p);
+  }
+    where
+      is : (p : ℕ) → getD (below 64 after) p 0 ≡ after p
+      is = getD-below-all 64 after (λ p h. empty (after p) (λ q e. true≢false (sym (held p q (has target p) refl e .owner) ∙ high p h)))
+
+      at : (p q : ℕ) → has (getD (below 64 after) p 0) q ≡ has (after p) q
+      at p q = ap (λ (x : ℕ). has x q) (is p)
+
+      then : (p q : ℕ) → has (getD (below 64 after) p 0) q ≡ true → Held p q
+      then p q h = held p q (has target p) refl (sym (at p q) ∙ h)
+
+-- ---- the world
+
+nobody : (m roster : ℕ) → m ≡ 0 → Within m roster
+nobody m roster z = record { at = λ q h. absurd (true≢false (sym h ∙ ap (λ (x : ℕ). has x q) z ∙ has-none q)) }
+
+-- members of cuts and attachments are on the roster, if the rules' persons are
+module _ (P : Plan) (roster : ℕ) (on-roster : subset (rulePersons P) roster ≡ true) where
+  edges : ℕ
+  edges = unionBelow (edgeCount P) (pair P)
+
+  cuts : ℕ
+  cuts = unionBelow (cutCount P) (λ i. cut P i .members)
+
+  spans : ℕ
+  spans = unionBelow (attachmentCount P) (span P)
+
+  others : ℕ
+  others = union (unionBelow (barCount P) (λ i. bar P i .members)) (unionBelow (statusCount P) (λ i. one (status P i .person)))
+
+  persons : Within (union edges (union cuts (union spans others))) roster
+  unfolding rulePersons edges cuts spans others
+  persons = subset-true (rulePersons P) roster on-roster
+
+  cut-on : (c : ℕ) → Within (cut P c .members) roster
+  unfolding cuts cut
+  cut-on c = ⊎-elim named past (lt-or-le c (cutCount P))
+    where
+      named : c < cutCount P → Within (cut P c .members) roster
+      named l =
+          thru (in-below (cutCount P) (λ i. cut P i .members) c l)
+          (thru (in-union-l cuts (union spans others)) (thru (in-union-r edges (union cuts (union spans others))) persons))
+
+      past : cutCount P ≤ c → Within (cut P c .members) roster
+      past l = nobody (cut P c .members) roster (ap (λ (x : Cut). x .members) (List·getD-eq-default (P .cuts) _ l))
+
+  attachment-on : (i : ℕ) → Within (attachment P i .members) roster
+  unfolding spans span attachment
+  attachment-on i = ⊎-elim named past (lt-or-le i (attachmentCount P))
+    where
+      named : i < attachmentCount P → Within (attachment P i .members) roster
+      named l =
+          thru (in-union-l (attachment P i .members) (one (attachment P i .anchor)))
+          (thru (in-below (attachmentCount P) (span P) i l)
+          (thru (in-union-l spans others) (thru (in-union-r cuts (union spans others)) (thru (in-union-r edges (union cuts (union spans others))) persons))))
+
+      past : attachmentCount P ≤ i → Within (attachment P i .members) roster
+      past l = nobody (attachment P i .members) roster (ap (λ (x : Attachment). x .members) (List·getD-eq-default (P .attachments) _ l))
+
+  module _ (fits : roster < 2 ^ 64) (a : Active) (m : Marks) where
+    abbrev live : ℕ
+    live = minus roster (marked m)
+
+    high : (p : ℕ) → 64 ≤ p → has live p ≡ false
+    high p h = not-set (has live p) (λ e. true≢false (sym (of-minus roster (marked m) p e .0) ∙ has-high 64 roster p fits h))
+
+    attach-blocks : (i : ℕ) (s : State) → Blocks live s → Blocks live (attach P (marked m) a i s)
+    unfolding attach
+    attach-blocks i s B = pick (on (a .attachments) i && not (eqb (blockOf s (attachment P i .anchor)) 0))
+      where
+        movers : ℕ
+        movers = minus (attachment P i .members) (marked m)
+
+        movers-live : Within movers live
+        movers-live = record {
+          at = λ q h.
+              let t = of-minus (attachment P i .members) (marked m) q h in
+              in-minus roster (marked m) q (attachment-on i .at q (t .0)) (t .1);
+        }
+
+        pick : (b : Bool) → Blocks live (cond b (move i (union (blockOf s (attachment P i .anchor)) movers) movers s) s)
+        pick true = move-blocks live high i (attachment P i .anchor) movers movers-live s B
+        pick false = B
+
+    pub world-blocks : Blocks (minus roster (marked m)) (afterMarks P roster a m .state)
+    unfolding afterMarks lastState
+    world-blocks =
+        fold-keeps (Blocks live) (attach P (marked m) a) attach-blocks (attachmentCount P) (firstState P roster (marked m) a (applied P a (keptCuts P a)))
+        (first-blocks P roster (marked m) a (keptCuts P a) fits cut-on)
+
+-- two blocks of one world are one, or have nobody in common
+pub equal-or-disjoint : (live : ℕ) (s : State) → Blocks live s → (p q : ℕ) → (blockOf s p ≡ blockOf s q) ⊎ (disjoint (blockOf s p) (blockOf s q) ≡ true)
+equal-or-disjoint live s B p q = pick (disjoint (blockOf s p) (blockOf s q)) refl
+  where
+    pick : (b : Bool) → disjoint (blockOf s p) (blockOf s q) ≡ b → (blockOf s p ≡ blockOf s q) ⊎ (disjoint (blockOf s p) (blockOf s q) ≡ true)
+    pick true e = inr e
+    pick false e =
+        let w = disjoint-false (blockOf s p) (blockOf s q) e in
+        inl (sym (B .agreed p (w .0) (w .1)) ∙ B .agreed q (w .0) (w .2))
+
+pub record InNoBlock (s : State) (p : ℕ) : Type 0 where
+  pub none : blockOf s p ≡ 0
+  pub nowhere : (q : ℕ) → has (blockOf s q) p ≡ false
+
+pub record InOneBlock (roster marks : ℕ) (s : State) (p : ℕ) : Type 0 where
+  pub holds : has (blockOf s p) p ≡ true
+  -- its members are on the roster and not marked, and all report it
+  pub members : (q : ℕ) → has (blockOf s p) q ≡ true → (has roster q ≡ true) × (has marks q ≡ false) × (blockOf s q ≡ blockOf s p)
+  -- and there is no other: any block that holds the person is this one
+  pub only : (q : ℕ) → has (blockOf s q) p ≡ true → blockOf s q ≡ blockOf s p
+
+-- DOCUMENT 01, "PROVED"
+pub partition : (P : Plan) (roster : ℕ) → roster < 2 ^ 64 → subset (rulePersons P) roster ≡ true → (I : Influence) (a : Active) (p : ℕ) → has roster p ≡ true
+    → ((has (marked (worldOf P roster I a .marks)) p ≡ true) × InNoBlock (worldOf P roster I a .state) p)
+    ⊎ InOneBlock roster (marked (worldOf P roster I a .marks)) (worldOf P roster I a .state) p
+unfolding worldOf afterMarks
+partition P roster fits on-roster I a p here = pick (has (marked m) p) refl
+  where
+    m : Marks
+    m = marksOf P roster I a
+
+    s : State
+    s = afterMarks P roster a m .state
+
+    live : ℕ
+    live = minus roster (marked m)
+
+    B : Blocks live s
+    B = world-blocks P roster on-roster fits a m
+
+    pick : (b : Bool) → has (marked m) p ≡ b → ((has (marked m) p ≡ true) × InNoBlock s p) ⊎ InOneBlock roster (marked m) s p
+    pick true e =
+        let out = not-set (has live p) (λ h. true≢false (sym e ∙ of-minus roster (marked m) p h .1)) in
+        inl (e, record { none = out-of-blocks live s B p out; nowhere = λ q. not-set (has (blockOf s q) p) (λ h. true≢false (sym (B .alive q p h) ∙ out)) })
+    pick false e = inr (record {
+      holds = B .self p (in-minus roster (marked m) p here e);
+      members = λ q h.
+          let t = of-minus roster (marked m) q (B .alive p q h) in
+          (t .0, t .1, B .agreed p q h);
+      only = λ q h. sym (B .agreed q p h);
+    })
