@@ -1,6 +1,6 @@
 // What a host links: the operations under C names.
-use records::check::Checked;
 use records::check::check;
+use records::checked::Checked;
 
 // Check a plan: the refusal's number, 0 for none. The record goes behind the reference.
 #[no_mangle]

@@ -3,6 +3,8 @@
 mod scan;
 mod tally;
 
+use records::check::check;
+use records::checked::Checked;
 use scan::Scan;
 use tally::Tally;
 
@@ -13,8 +15,26 @@ struct Run {
     tally: Tally,
 }
 
-fn check_agrees(numbers: [u64; 10], plan: &[u8]) -> u8 {
+fn wide(x: u8) -> u64 {
+    x as u64
+}
+
+// 0 where number and record are those expected, else 2
+fn same(numbers: [u64; 10], number: u64, record: u64) -> u8 {
+    if numbers[3] == number {
+        if numbers[4] == record {
+            return 0;
+        }
+    }
     2
+}
+
+fn check_agrees(numbers: [u64; 10], plan: &[u8]) -> u8 {
+    let found = check(plan);
+    match found {
+        Checked::Accepted => same(numbers, 0, 0),
+        Checked::Refused { number, record } => same(numbers, wide(number), record as u64),
+    }
 }
 
 // The plan is the first n bytes.

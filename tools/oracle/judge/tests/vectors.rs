@@ -5,7 +5,7 @@ use judge::sides::model_answers;
 use model::Citing;
 
 const LISTS: [&str; 2] =
-    [include_str!("../../../../vectors/fixed.txt"), include_str!("../../../../vectors/sample.txt")];
+    [include_str!("../../../../crates/replay/data/vectors.txt"), include_str!("../../../../vectors/sample.txt")];
 
 #[test]
 fn the_lists_agree_with_the_model() {
