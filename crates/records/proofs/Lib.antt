@@ -11,3 +11,4 @@ pub mod AcceptedCase
 pub mod Rising
 pub mod MemberLaws
 pub mod Local
+pub mod Reading

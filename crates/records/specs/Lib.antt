@@ -3,4 +3,5 @@ pub mod Fields
 pub mod Plan
 pub mod Case
 pub mod Decoded
+pub mod Readers
 pub mod Sound

@@ -1,0 +1,57 @@
+-- A byte in its range is read, else the answer is bad. Assumes nothing.
+use borrow.Author.Tests.{le-ltb, lt-ltb, le-leb, lt-leb}
+use Rattle.records.specs.Fields.{byteAt}
+use borrow.Author.Needs.{needs}
+use Rattle.records.proofs.fields.byte_at.Statement.{statement}
+use Rattle.records.proofs.fields.byte_at.Tie as tie
+use Rattle.records.proofs.fields.byte_at.Reads as reads
+use Rattle.records.proofs.fields.byte_at.Lts as lts
+
+-- src/fields.rt:61:19
+shared-slice-read-if2 : tie.Need-shared-slice-read-if2
+shared-slice-read-if2 c = search needs
+
+-- src/fields.rt:62:16
+shared-slice-read-if3 : tie.Need-shared-slice-read-if3
+shared-slice-read-if3 c = search needs
+
+-- src/fields.rt:63:44
+shared-slice-read-t14 : tie.Need-shared-slice-read-t14
+shared-slice-read-t14 c = search needs
+
+-- src/fields.rt:63:57
+add-t15 : tie.Need-add-t15
+add-t15 c = search needs
+
+-- src/fields.rt:63:17
+returns : tie.Need-returns
+unfolding byteAt
+returns c = simp (lt-ltb _ _ (c .before .before .before .before .before .if1 .taken), le-leb _ _ (c .before .before .before .if2 .taken), le-leb _ _ (c .before .if3 .taken))
+
+-- src/fields.rt:57:1
+returns-2 : tie.Need-returns-2
+unfolding byteAt
+returns-2 c = simp (lt-ltb _ _ (c .before .before .before .before .if1 .taken), le-leb _ _ (c .before .before .if2 .taken), lt-leb _ _ (c .if3 .left))
+
+-- src/fields.rt:57:1
+returns-3 : tie.Need-returns-3
+unfolding byteAt
+returns-3 c = simp (lt-ltb _ _ (c .before .before .if1 .taken), lt-leb _ _ (c .if2 .left))
+
+-- src/fields.rt:57:1
+returns-4 : tie.Need-returns-4
+unfolding byteAt
+returns-4 c = simp (le-ltb _ _ (c .if1 .left))
+
+pub byte-at-spec : {M : Type 1} → statement M
+byte-at-spec =
+    tie.close
+    (tie.spec
+    shared-slice-read-if2
+    shared-slice-read-if3
+    shared-slice-read-t14
+    add-t15
+    returns
+    returns-2
+    returns-3
+    returns-4)

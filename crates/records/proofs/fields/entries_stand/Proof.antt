@@ -1,0 +1,83 @@
+-- The entries of a list stand in their range, byte after byte. Assumes nothing.
+use mathlib.Core.Path.{_≡_, refl, sym, _∙_, ap}
+use mathlib.Core.List.{[], _∷_}
+use Prim.Native.Nat.{ℕ, suc, _+_, _-_, _≤_}
+use native.Mathlib.Nat.{sub-zero}
+use native.Mathlib.Omega.{arith}
+use denote.Ref.{now}
+use Rattle.records.specs.Fields.{bytesAt, repeat, upTo}
+use Rattle.records.specs.Readers.{fieldRead, isGot}
+use Rattle.records.proofs.Reading.{seen, entries-none, entry-more, entry-bad}
+use borrow.Author.Needs.{needs}
+use Rattle.records.proofs.fields.entries_stand.Statement.{statement}
+use Rattle.records.proofs.fields.entries_stand.Tie as tie
+use Rattle.records.proofs.fields.entries_stand.Reads as reads
+use Rattle.records.proofs.fields.entries_stand.Lts as lts
+use Rattle.records.proofs.fields.byte_at.Reads as byte-at-reads
+
+abbrev Inv-loop : tie.InvT-loop
+Inv-loop s at n top p₀ i₀ p i = (i ≤ n) × (isGot (bytesAt s p (repeat (n - i) (upTo top ∷ []))) ≡ isGot (bytesAt s at (repeat n (upTo top ∷ []))))
+
+abbrev μ-loop : tie.MeasureT-loop
+μ-loop s at n top p₀ i₀ p i = n - i
+
+-- src/fields.rt:154:5
+loop-holds : tie.Need-loop-holds Inv-loop μ-loop
+loop-holds c = (omega arith, rw sub-zero)
+
+-- src/fields.rt:155:42
+byte-at-requires : tie.Need-byte-at-requires Inv-loop μ-loop
+byte-at-requires c κs = search needs
+
+-- src/fields.rt:155:26
+enum-known-value : tie.Need-enum-known-value Inv-loop μ-loop
+enum-known-value c = search needs
+
+-- src/fields.rt:156:13
+enum-told : tie.Need-enum-told Inv-loop μ-loop
+enum-told c = search needs
+
+-- src/fields.rt:156:13
+returns : tie.Need-returns Inv-loop μ-loop
+returns c =
+    let a = c .before .before .before .before .before .before .args in
+    let l = c .before .before .before .before .loop in
+    entry-bad (now (a .s)) (l .p) (a .n) (l .i) (c .before .before .before .loop-test .taken) (upTo (a .top)) [] (seen fieldRead (c .before .before .byte-at .ensures) (c .enum-told .given .1)) ∙ l .inv .1
+
+-- src/fields.rt:159:13
+add-i : tie.Need-add-i Inv-loop μ-loop
+add-i c = search needs
+
+-- src/fields.rt:154:5
+loop-less : tie.Need-loop-less Inv-loop μ-loop
+loop-less c = search needs
+
+-- src/fields.rt:154:5
+loop-again : tie.Need-loop-again Inv-loop μ-loop
+loop-again c =
+    let a = c .before .before .before .before .before .before .before .args in
+    let l = c .before .before .before .before .before .loop in
+    (omega arith, entry-more (now (a .s)) (l .p) (a .n) (l .i) (c .before .before .before .before .loop-test .taken) (upTo (a .top)) (seen fieldRead (c .before .before .before .byte-at .ensures) (c .before .value .given .1)) ∙ l .inv .1)
+
+-- src/fields.rt:149:1
+returns-2 : tie.Need-returns-2 Inv-loop μ-loop
+returns-2 c =
+    let a = c .before .before .before .args in
+    let l = c .before .loop in
+    entries-none (now (a .s)) (l .p) (a .n) (l .i) (upTo (a .top) ∷ []) (c .loop-test .left) ∙ l .inv .1
+
+pub entries-stand-spec : {M : Type 1} → statement M
+entries-stand-spec =
+    tie.close
+    (tie.spec
+    Inv-loop
+    μ-loop
+    loop-holds
+    byte-at-requires
+    enum-known-value
+    enum-told
+    returns
+    add-i
+    loop-less
+    loop-again
+    returns-2)

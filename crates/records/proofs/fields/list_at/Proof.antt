@@ -1,0 +1,96 @@
+-- A counted list of bytes, or none. Assumes nothing.
+use mathlib.Core.Path.{_≡_, sym, _∙_, ap, ap₂}
+use mathlib.Core.List.{[], _∷_}
+use Prim.Native.Nat.{ℕ, _+_, _*_, _≤_}
+use native.Mathlib.Nat.{mul-one}
+use native.Mathlib.Omega.{arith}
+use denote.Ref.{now}
+use lib.ListN.{length}
+use borrow.Author.Tests.{not-true, not-false}
+use Rattle.records.specs.Fields.{got, bytesAt, repeat, upTo}
+use Rattle.records.specs.Readers.{fieldRead, isGot, span}
+use Rattle.records.proofs.Reading.{seen, list-bad, list-stands, list-stands-not}
+use borrow.Author.Needs.{needs}
+use Rattle.records.proofs.fields.list_at.Statement.{statement}
+use Rattle.records.proofs.fields.list_at.Tie as tie
+use Rattle.records.proofs.fields.list_at.Reads as reads
+use Rattle.records.proofs.fields.list_at.Lts as lts
+use Rattle.records.proofs.fields.byte_at.Reads as byte-at-reads
+use Rattle.records.proofs.fields.entries_stand.Reads as entries-stand-reads
+use Rattle.records.proofs.fields.to_index.Reads as to-index-reads
+
+-- src/fields.rt:188:9
+returns : tie.Need-returns
+unfolding span
+returns c = (rw (not-true (c .before .before .args .present) (c .if1 .taken)), (omega arith, omega arith))
+
+-- src/fields.rt:190:52
+byte-at-requires : tie.Need-byte-at-requires
+byte-at-requires c κs = search needs
+
+-- src/fields.rt:190:29
+enum-known-count : tie.Need-enum-known-count
+enum-known-count c = search needs
+
+-- src/fields.rt:191:9
+enum-told : tie.Need-enum-told
+enum-told c = search needs
+
+-- src/fields.rt:191:9
+returns-2 : tie.Need-returns-2
+returns-2 c = (rw (not-false (c .before .before .before .before .before .args .present) (c .before .before .before .if1 .left)) (list-bad (now (c .before .before .before .before .before .args .s)) (c .before .before .before .before .before .args .at) (c .before .before .before .before .before .args .limit) (upTo (c .before .before .before .before .before .args .top) ∷ []) (seen fieldRead (c .before .before .byte-at .ensures) (c .enum-told .given .1))), tt)
+
+-- src/fields.rt:193:9
+to-index-requires : tie.Need-to-index-requires
+to-index-requires c κs = search needs
+
+-- src/fields.rt:194:8
+entries-stand-requires : tie.Need-entries-stand-requires
+entries-stand-requires c κs = search needs
+
+-- src/fields.rt:195:64
+add-t12 : tie.Need-add-t12
+add-t12 c =
+    let a = c .before .before .before .before .before .before .before .before .before .args in
+    let rs = upTo (a .top) ∷ [] in
+    let n = c .before .before .to-index .ensures .0 in
+    let h = list-stands (now (a .s)) (a .at) (a .limit) rs (seen fieldRead (c .before .before .before .before .before .before .byte-at .ensures) (c .before .before .before .before .count .given .1))
+    (sym (c .if2 .taken) ∙ c .before .entries-stand .ensures ∙ ap (λ (k : ℕ). isGot (bytesAt (now (a .s)) (c .before .before .before .before .count .given .0 .1 .0) (repeat k rs))) n) in
+    let z : c .before .before .before .before .count .given .0 .1 .0 + c .before .before .to-index .result ≤ length (now (a .s)) = omega (arith, n, h .2) in
+    search (needs, z)
+
+-- src/fields.rt:195:9
+returns-3 : tie.Need-returns-3
+returns-3 c =
+    let a = c .before .before .before .before .before .before .before .before .before .args in
+    let rs = upTo (a .top) ∷ [] in
+    let n = c .before .before .to-index .ensures .0 in
+    let h = list-stands (now (a .s)) (a .at) (a .limit) rs (seen fieldRead (c .before .before .before .before .before .before .byte-at .ensures) (c .before .before .before .before .count .given .1))
+    (sym (c .if2 .taken) ∙ c .before .entries-stand .ensures ∙ ap (λ (k : ℕ). isGot (bytesAt (now (a .s)) (c .before .before .before .before .count .given .0 .1 .0) (repeat k rs))) n) in
+    (rw (not-false (a .present) (c .before .before .before .before .before .before .before .if1 .left)) (ap₂ (λ (k m : ℕ). got (span (now (a .s)) (c .before .before .before .before .count .given .0 .1 .0) k) m) (omega arith) (omega (arith, n)) ∙ h .0), (h .1, omega (arith, h .2)))
+
+-- src/fields.rt:184:1
+returns-4 : tie.Need-returns-4
+returns-4 c =
+    let a = c .before .before .before .before .before .before .before .before .before .args in
+    let rs = upTo (a .top) ∷ [] in
+    let n = c .before .before .to-index .ensures .0 in (
+      rw (not-false (a .present) (c .before .before .before .before .before .before .before .if1 .left)) (list-stands-not (now (a .s)) (a .at) (a .limit) rs (seen fieldRead (c .before .before .before .before .before .before .byte-at .ensures) (c .before .before .before .before .count .given .1))
+          (sym (c .if2 .left) ∙ c .before .entries-stand .ensures ∙ ap (λ (k : ℕ). isGot (bytesAt (now (a .s)) (c .before .before .before .before .count .given .0 .1 .0) (repeat k rs))) n)),
+      tt,
+    )
+
+pub list-at-spec : {M : Type 1} → statement M
+list-at-spec =
+    tie.close
+    (tie.spec
+    returns
+    byte-at-requires
+    enum-known-count
+    enum-told
+    returns-2
+    to-index-requires
+    entries-stand-requires
+    add-t12
+    returns-3
+    returns-4)

@@ -1,0 +1,77 @@
+-- The eight bytes of a mask, or none. Assumes nothing.
+use mathlib.Core.Path.{sym, _∙_, ap}
+use mathlib.Core.List.{[], _∷_}
+use native.Mathlib.Omega.{arith}
+use denote.Ref.{now}
+use borrow.Author.Tests.{not-true, not-false}
+use Rattle.records.specs.Fields.{fieldAt, little, number}
+use Rattle.records.proofs.Reading.{eight-free, bytes-short}
+use borrow.Author.Needs.{needs}
+use Rattle.records.proofs.fields.mask_at.Statement.{statement}
+use Rattle.records.proofs.fields.mask_at.Tie as tie
+use Rattle.records.proofs.fields.mask_at.Reads as reads
+use Rattle.records.proofs.fields.mask_at.Lts as lts
+use Rattle.records.proofs.fields.word_at.Reads as word-at-reads
+
+-- src/fields.rt:94:9
+returns : tie.Need-returns
+unfolding little
+returns c = rw (not-true (c .before .before .args .present) (c .if1 .taken))
+
+-- src/fields.rt:97:17
+sub-if3 : tie.Need-sub-if3
+sub-if3 c = search needs
+
+-- src/fields.rt:98:17
+word-at-requires : tie.Need-word-at-requires
+word-at-requires c κs = search needs
+
+-- src/fields.rt:99:35
+add-word-at : tie.Need-add-word-at
+add-word-at c = search needs
+
+-- src/fields.rt:99:17
+word-at-requires-2 : tie.Need-word-at-requires-2
+word-at-requires-2 c κs = search needs
+
+-- src/fields.rt:100:45
+mul-t12 : tie.Need-mul-t12
+mul-t12 c = search needs
+
+-- src/fields.rt:100:39
+add-t13 : tie.Need-add-t13
+add-t13 c = search needs
+
+-- src/fields.rt:100:70
+add-t11 : tie.Need-add-t11
+add-t11 c = search needs
+
+-- src/fields.rt:100:13
+returns-2 : tie.Need-returns-2
+returns-2 c = rw (not-false (c .before .before .before .before .before .before .args .present) (c .before .before .before .before .if1 .left)) (eight-free (now (c .before .before .before .before .before .before .args .s)) (c .before .before .before .before .before .before .args .at) (c .before .word-at .ensures .2) (c .word-at2 .ensures .2) (c .before .word-at .ensures .0) (c .word-at2 .ensures .0))
+
+-- src/fields.rt:90:1
+returns-3 : tie.Need-returns-3
+unfolding fieldAt
+returns-3 c = rw (not-false (c .before .before .before .before .args .present) (c .before .before .if1 .left), bytes-short (now (c .before .before .before .before .args .s)) (c .before .before .before .before .args .at) number (number ∷ number ∷ number ∷ number ∷ number ∷ number ∷ number ∷ []) (omega arith))
+
+-- src/fields.rt:90:1
+returns-4 : tie.Need-returns-4
+unfolding fieldAt
+returns-4 c = rw (not-false (c .before .before .before .args .present) (c .before .if1 .left), bytes-short (now (c .before .before .before .args .s)) (c .before .before .before .args .at) number (number ∷ number ∷ number ∷ number ∷ number ∷ number ∷ number ∷ []) (omega arith))
+
+pub mask-at-spec : {M : Type 1} → statement M
+mask-at-spec =
+    tie.close
+    (tie.spec
+    returns
+    sub-if3
+    word-at-requires
+    add-word-at
+    word-at-requires-2
+    mul-t12
+    add-t13
+    add-t11
+    returns-2
+    returns-3
+    returns-4)

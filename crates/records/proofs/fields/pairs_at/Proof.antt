@@ -1,0 +1,101 @@
+-- A counted list of pairs, or none. Assumes nothing.
+use mathlib.Core.Path.{_≡_, sym, _∙_, ap}
+use mathlib.Core.List.{[], _∷_}
+use Prim.Native.Nat.{ℕ, _+_, _*_, _≤_}
+use native.Mathlib.Nat.{mul-one}
+use native.Mathlib.Omega.{arith}
+use denote.Ref.{now}
+use lib.ListN.{length}
+use borrow.Author.Tests.{not-true, not-false}
+use Rattle.records.specs.Fields.{got, bytesAt, repeat, upTo}
+use Rattle.records.specs.Readers.{fieldRead, isGot, span}
+use Rattle.records.proofs.Reading.{seen, list-bad, list-stands, list-stands-not}
+use borrow.Author.Needs.{needs}
+use Rattle.records.proofs.fields.pairs_at.Statement.{statement}
+use Rattle.records.proofs.fields.pairs_at.Tie as tie
+use Rattle.records.proofs.fields.pairs_at.Reads as reads
+use Rattle.records.proofs.fields.pairs_at.Lts as lts
+use Rattle.records.proofs.fields.byte_at.Reads as byte-at-reads
+use Rattle.records.proofs.fields.pairs_stand.Reads as pairs-stand-reads
+use Rattle.records.proofs.fields.to_index.Reads as to-index-reads
+
+-- src/fields.rt:205:9
+returns : tie.Need-returns
+unfolding span
+returns c = (rw (not-true (c .before .before .args .present) (c .if1 .taken)), (omega arith, omega arith))
+
+-- src/fields.rt:207:52
+byte-at-requires : tie.Need-byte-at-requires
+byte-at-requires c κs = search needs
+
+-- src/fields.rt:207:29
+enum-known-count : tie.Need-enum-known-count
+enum-known-count c = search needs
+
+-- src/fields.rt:208:9
+enum-told : tie.Need-enum-told
+enum-told c = search needs
+
+-- src/fields.rt:208:9
+returns-2 : tie.Need-returns-2
+returns-2 c = (rw (not-false (c .before .before .before .before .before .args .present) (c .before .before .before .if1 .left)) (list-bad (now (c .before .before .before .before .before .args .s)) (c .before .before .before .before .before .args .at) (c .before .before .before .before .before .args .limit) (upTo (c .before .before .before .before .before .args .top) ∷ record { low = c .before .before .before .before .before .args .low; top = c .before .before .before .before .before .args .high } ∷ []) (seen fieldRead (c .before .before .byte-at .ensures) (c .enum-told .given .1))), tt)
+
+-- src/fields.rt:210:9
+to-index-requires : tie.Need-to-index-requires
+to-index-requires c κs = search needs
+
+-- src/fields.rt:211:8
+pairs-stand-requires : tie.Need-pairs-stand-requires
+pairs-stand-requires c κs = search needs
+
+-- src/fields.rt:212:72
+mul-t14 : tie.Need-mul-t14
+mul-t14 c = search needs
+
+-- src/fields.rt:212:64
+add-t15 : tie.Need-add-t15
+add-t15 c =
+    let a = c .before .before .before .before .before .before .before .before .before .args in
+    let rs = upTo (a .top) ∷ record { low = a .low; top = a .high } ∷ [] in
+    let n = c .before .before .to-index .ensures .0 in
+    let h = list-stands (now (a .s)) (a .at) (a .limit) rs (seen fieldRead (c .before .before .before .before .before .before .byte-at .ensures) (c .before .before .before .before .count .given .1))
+    (sym (c .if2 .taken) ∙ c .before .pairs-stand .ensures ∙ ap (λ (k : ℕ). isGot (bytesAt (now (a .s)) (c .before .before .before .before .count .given .0 .1 .0) (repeat k rs))) n) in
+    let z : c .before .before .before .before .count .given .0 .1 .0 + c .before .before .to-index .result * 2 ≤ length (now (a .s)) = omega (arith, n, h .2) in
+    search (needs, z)
+
+-- src/fields.rt:212:9
+returns-3 : tie.Need-returns-3
+returns-3 c =
+    let a = c .before .before .before .before .before .before .before .before .before .args in
+    let rs = upTo (a .top) ∷ record { low = a .low; top = a .high } ∷ [] in
+    let n = c .before .before .to-index .ensures .0 in
+    let h = list-stands (now (a .s)) (a .at) (a .limit) rs (seen fieldRead (c .before .before .before .before .before .before .byte-at .ensures) (c .before .before .before .before .count .given .1))
+    (sym (c .if2 .taken) ∙ c .before .pairs-stand .ensures ∙ ap (λ (k : ℕ). isGot (bytesAt (now (a .s)) (c .before .before .before .before .count .given .0 .1 .0) (repeat k rs))) n) in
+    (rw (not-false (a .present) (c .before .before .before .before .before .before .before .if1 .left)) (ap (got (span (now (a .s)) (c .before .before .before .before .count .given .0 .1 .0) (c .before .before .before .before .count .given .0 .0 * 2))) (omega (arith, n)) ∙ h .0), (h .1, h .2))
+
+-- src/fields.rt:201:1
+returns-4 : tie.Need-returns-4
+returns-4 c =
+    let a = c .before .before .before .before .before .before .before .before .before .args in
+    let rs = upTo (a .top) ∷ record { low = a .low; top = a .high } ∷ [] in
+    let n = c .before .before .to-index .ensures .0 in (
+      rw (not-false (a .present) (c .before .before .before .before .before .before .before .if1 .left)) (list-stands-not (now (a .s)) (a .at) (a .limit) rs (seen fieldRead (c .before .before .before .before .before .before .byte-at .ensures) (c .before .before .before .before .count .given .1))
+          (sym (c .if2 .left) ∙ c .before .pairs-stand .ensures ∙ ap (λ (k : ℕ). isGot (bytesAt (now (a .s)) (c .before .before .before .before .count .given .0 .1 .0) (repeat k rs))) n)),
+      tt,
+    )
+
+pub pairs-at-spec : {M : Type 1} → statement M
+pairs-at-spec =
+    tie.close
+    (tie.spec
+    returns
+    byte-at-requires
+    enum-known-count
+    enum-told
+    returns-2
+    to-index-requires
+    pairs-stand-requires
+    mul-t14
+    add-t15
+    returns-3
+    returns-4)

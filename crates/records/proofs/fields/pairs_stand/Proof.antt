@@ -1,0 +1,107 @@
+-- The pairs of a list stand in their ranges, pair after pair. Assumes nothing.
+use mathlib.Core.Path.{_≡_, refl, sym, _∙_, ap}
+use mathlib.Core.List.{[], _∷_}
+use Prim.Native.Nat.{ℕ, suc, _+_, _-_, _≤_}
+use native.Mathlib.Nat.{sub-zero}
+use native.Mathlib.Omega.{arith}
+use denote.Ref.{now}
+use Rattle.records.specs.Fields.{bytesAt, repeat, upTo}
+use Rattle.records.specs.Readers.{fieldRead, isGot}
+use Rattle.records.proofs.Reading.{seen, entries-none, entry-bad, pair-bad, pair-more}
+use borrow.Author.Needs.{needs}
+use Rattle.records.proofs.fields.pairs_stand.Statement.{statement}
+use Rattle.records.proofs.fields.pairs_stand.Tie as tie
+use Rattle.records.proofs.fields.pairs_stand.Reads as reads
+use Rattle.records.proofs.fields.pairs_stand.Lts as lts
+use Rattle.records.proofs.fields.byte_at.Reads as byte-at-reads
+
+abbrev Inv-loop : tie.InvT-loop
+Inv-loop s at n top low high p₀ i₀ p i =
+    (i ≤ n) × (isGot (bytesAt s p (repeat (n - i) (upTo top ∷ record { low = low; top = high } ∷ []))) ≡ isGot (bytesAt s at (repeat n (upTo top ∷ record { low = low; top = high } ∷ []))))
+
+abbrev μ-loop : tie.MeasureT-loop
+μ-loop s at n top low high p₀ i₀ p i = n - i
+
+-- src/fields.rt:170:5
+loop-holds : tie.Need-loop-holds Inv-loop μ-loop
+loop-holds c = (omega arith, rw sub-zero)
+
+-- src/fields.rt:171:50
+byte-at-requires : tie.Need-byte-at-requires Inv-loop μ-loop
+byte-at-requires c κs = search needs
+
+-- src/fields.rt:171:33
+enum-known-one : tie.Need-enum-known-one Inv-loop μ-loop
+enum-known-one c = search needs
+
+-- src/fields.rt:172:13
+enum-told : tie.Need-enum-told Inv-loop μ-loop
+enum-told c = search needs
+
+-- src/fields.rt:172:13
+returns : tie.Need-returns Inv-loop μ-loop
+returns c =
+    let a = c .before .before .before .before .before .before .args in
+    let l = c .before .before .before .before .loop in
+    entry-bad (now (a .s)) (l .p) (a .n) (l .i) (c .before .before .before .loop-test .taken) (upTo (a .top)) (record { low = a .low; top = a .high } ∷ []) (seen fieldRead (c .before .before .byte-at .ensures) (c .enum-told .given .1)) ∙ l .inv .1
+
+-- src/fields.rt:174:50
+byte-at-requires-2 : tie.Need-byte-at-requires-2 Inv-loop μ-loop
+byte-at-requires-2 c κs = search needs
+
+-- src/fields.rt:174:33
+enum-known-two : tie.Need-enum-known-two Inv-loop μ-loop
+enum-known-two c = search needs
+
+-- src/fields.rt:175:13
+enum-told-2 : tie.Need-enum-told-2 Inv-loop μ-loop
+enum-told-2 c = search needs
+
+-- src/fields.rt:175:13
+returns-2 : tie.Need-returns-2 Inv-loop μ-loop
+returns-2 c =
+    let a = c .before .before .before .before .before .before .before .before .before .before .args in
+    let l = c .before .before .before .before .before .before .before .before .loop in
+    pair-bad (now (a .s)) (l .p) (a .n) (l .i) (c .before .before .before .before .before .before .before .loop-test .taken) (upTo (a .top)) (record { low = a .low; top = a .high }) (seen fieldRead (c .before .before .before .before .before .before .byte-at .ensures) (c .before .before .before .before .one .given .1)) (seen fieldRead (c .before .before .byte-at2 .ensures) (c .enum-told2 .given .1)) ∙ l .inv .1
+
+-- src/fields.rt:178:13
+add-i : tie.Need-add-i Inv-loop μ-loop
+add-i c = search needs
+
+-- src/fields.rt:170:5
+loop-less : tie.Need-loop-less Inv-loop μ-loop
+loop-less c = search needs
+
+-- src/fields.rt:170:5
+loop-again : tie.Need-loop-again Inv-loop μ-loop
+loop-again c =
+    let a = c .before .before .before .before .before .before .before .before .before .before .before .args in
+    let l = c .before .before .before .before .before .before .before .before .before .loop in
+    (omega arith, pair-more (now (a .s)) (l .p) (a .n) (l .i) (c .before .before .before .before .before .before .before .before .loop-test .taken) (upTo (a .top)) (record { low = a .low; top = a .high }) (seen fieldRead (c .before .before .before .before .before .before .before .byte-at .ensures) (c .before .before .before .before .before .one .given .1)) (seen fieldRead (c .before .before .before .byte-at2 .ensures) (c .before .two .given .1)) ∙ l .inv .1)
+
+-- src/fields.rt:165:1
+returns-3 : tie.Need-returns-3 Inv-loop μ-loop
+returns-3 c =
+    let a = c .before .before .before .args in
+    let l = c .before .loop in
+    entries-none (now (a .s)) (l .p) (a .n) (l .i) (upTo (a .top) ∷ record { low = a .low; top = a .high } ∷ []) (c .loop-test .left) ∙ l .inv .1
+
+pub pairs-stand-spec : {M : Type 1} → statement M
+pairs-stand-spec =
+    tie.close
+    (tie.spec
+    Inv-loop
+    μ-loop
+    loop-holds
+    byte-at-requires
+    enum-known-one
+    enum-told
+    returns
+    byte-at-requires-2
+    enum-known-two
+    enum-told-2
+    returns-2
+    add-i
+    loop-less
+    loop-again
+    returns-3)
