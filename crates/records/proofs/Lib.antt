@@ -12,3 +12,9 @@ pub mod Rising
 pub mod MemberLaws
 pub mod Local
 pub mod Reading
+pub mod Chain
+pub mod RawLaws
+pub mod KindLaws
+pub mod CaseKinds
+pub mod CaseLoop
+pub mod Pairs

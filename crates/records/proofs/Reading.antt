@@ -17,18 +17,18 @@ pub record Found {A B : Type 0} (f : A → B) (x : Read A) (v : B) (n : ℕ) : T
   pub is : x ≡ got bytes n
   pub means : f bytes ≡ v
 
-got-inj : {A : Type 0} {a b : A} {m n : ℕ} → got a m ≡ got b n → (a ≡ b) × (m ≡ n)
+pub got-inj : {A : Type 0} {a b : A} {m n : ℕ} → got a m ≡ got b n → (a ≡ b) × (m ≡ n)
 got-inj e = (cc, cc)
 
 pub bad-got : {A B : Type 0} {a : A} {n : ℕ} → _≡_ {A = Read A} bad (got a n) → B
 bad-got e = let z : _≡_ {A = ℕ} 0 1 = cc in absurd (omega arith)
 
-pub found : {A B : Type 0} (f : A → B) (x : Read A) {v : B} {n : ℕ} → got v n ≡ mapRead f x → Found f x v n
-found f (got a m) e = record { bytes = a; is = ap (got a) (sym (got-inj e .1)); means = sym (got-inj e .0) }
-found f bad e = bad-got (sym e)
+pub found : {A B : Type 0} (f : A → B) (x : Read A) {v : B} {n : ℕ} → mapRead f x ≡ got v n → Found f x v n
+found f (got a m) e = record { bytes = a; is = ap (got a) (got-inj e .1); means = got-inj e .0 }
+found f bad e = bad-got e
 
-pub none : {A B : Type 0} (f : A → B) (x : Read A) → bad ≡ mapRead f x → x ≡ bad
-none f (got a m) e = bad-got e
+pub none : {A B : Type 0} (f : A → B) (x : Read A) → mapRead f x ≡ bad → x ≡ bad
+none f (got a m) e = bad-got (sym e)
 none f bad e = refl
 
 -- what a reader's contract says of its answer, once that is known
@@ -227,3 +227,8 @@ module _ (s : List ℕ) (at limit : ℕ) (rs : List Range) where
       let n = length-repeat k rs in
       let z = g .2 (omega (arith, b .1, b .2)) in
       (rw e (ap₂ (λ (x : List ℕ) (y : ℕ). got x y) (ap (span s p) (sym n) ∙ sym (g .0)) (omega (arith, n, g .1)) ∙ sym (w .2)), b .3, omega (arith, z, n, g .1))
+
+-- a byte in its range
+pub byte-in : (s : List ℕ) (at low top : ℕ) {v : ℕ} → at < length s → getD s at 0 ≡ v → low ≤ v → v ≤ top → byteAt s at (record { low = low; top = top }) ≡ got v (at + 1)
+unfolding byteAt
+byte-in s at low top {v = v} h e l u = rw (lt-ltb at (length s) h, e, le-leb low v l, le-leb v top u)

@@ -4,4 +4,6 @@ pub mod Plan
 pub mod Case
 pub mod Decoded
 pub mod Readers
+pub mod Passes
+pub mod CaseSteps
 pub mod Sound

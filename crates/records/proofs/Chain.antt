@@ -1,0 +1,93 @@
+-- The fields of a record, one after another: what is read when each is, and that nothing is when one is not. Assumes nothing.
+use mathlib.Core.Path.{_≡_, refl, sym, ap, ap₂, _∙_, subst}
+use mathlib.Core.Bool.{Bool, true, false, cond}
+use mathlib.Core.List.{List, [], _∷_}
+use Prim.Native.Nat.{ℕ, zero, suc, _+_, _*_, _/_, _%_, _≤_, _<_}
+use native.Mathlib.Nat.{mod-lt, zero-lt-suc, not-suc-le-zero, le-of-suc-le-suc}
+use native.Mathlib.Omega.{arith}
+use lib.ListN.{length, getD}
+use lib.Dec.{eqb, leb}
+use borrow.Author.Tests.{eq-eqb, ne-eqb}
+use Rattle.records.specs.Sets.{odd}
+use Rattle.records.specs.Fields.{Shape, bytes, list, most, number, Read, got, bad, andThen, Range, byteAt, bytesAt, fieldAt, fieldsAt, repeat, little}
+use Rattle.records.specs.Readers.{fieldIf}
+use Rattle.records.proofs.Reading.{byte-next, bytes-got, bad-got, got-inj}
+
+-- the test `m % 2 == 1`
+test : (d : ℕ) → d < 2 → eqb d 1 ≡ odd d
+test zero h = refl
+test (suc zero) h = refl
+test (suc (suc d)) h = absurd (not-suc-le-zero (le-of-suc-le-suc (le-of-suc-le-suc h)))
+
+module _ (s : List ℕ) (at m n : ℕ) (half : n ≡ m / 2) (f : Shape) (fs : List Shape) where
+  opened : (x : Read (List ℕ)) → fieldIf (eqb (m % 2) 1) s at f ≡ x → fieldsAt s at m (f ∷ fs) ≡ andThen x (λ v p. andThen (fieldsAt s p n fs) (λ vs q. got (v ∷ vs) q))
+  unfolding fieldsAt
+  opened x e = rw (half, ← test (m % 2) (mod-lt m (zero-lt-suc 1)), e)
+
+  pub more : {v : List ℕ} {p q : ℕ} {vs : List (List ℕ)} → fieldIf (eqb (m % 2) 1) s at f ≡ got v p → fieldsAt s p n fs ≡ got vs q → fieldsAt s at m (f ∷ fs) ≡ got (v ∷ vs) q
+  more {v = v} {p = p} e h = opened (got v p) e ∙ ap (λ x. andThen x (λ vs q. got (v ∷ vs) q)) h
+
+  pub skip : {v : List ℕ} {p : ℕ} → fieldIf (eqb (m % 2) 1) s at f ≡ got v p → fieldsAt s p n fs ≡ bad → fieldsAt s at m (f ∷ fs) ≡ bad
+  skip {v = v} {p = p} e h = opened (got v p) e ∙ ap (λ x. andThen x (λ vs q. got (v ∷ vs) q)) h
+
+  pub stop : fieldIf (eqb (m % 2) 1) s at f ≡ bad → fieldsAt s at m (f ∷ fs) ≡ bad
+  stop e = opened bad e
+
+pub last : (s : List ℕ) (at m : ℕ) → m ≡ 0 → fieldsAt s at m [] ≡ got [] at
+unfolding fieldsAt
+last s at m e = rw (eq-eqb m 0 e)
+
+pub unknown : (s : List ℕ) (at m : ℕ) → (m ≡ 0 → ⊥) → fieldsAt s at m [] ≡ bad
+unfolding fieldsAt
+unknown s at m e = rw (ne-eqb m 0 e)
+
+-- a bit without a field
+pub no-field : (s : List ℕ) (at : ℕ) (b : Bool) → fieldIf b s at (bytes []) ≡ got [] at
+unfolding fieldAt bytesAt
+no-field s at true = refl
+no-field s at false = refl
+
+pub half-of : (b w : ℕ) → b / (w * 2) ≡ b / w / 2
+half-of b w = sym (native.Mathlib.Nat.div-div-eq-div-mul b w 2)
+
+-- ---- where a record that was read ends
+
+field-next : (s : List ℕ) (at : ℕ) (f : Shape) {v : List ℕ} {p : ℕ} → fieldAt s at f ≡ got v p → at ≤ p
+unfolding fieldAt
+field-next s at (bytes rs) = λ e. let h = bytes-got s at rs e .1 in omega (arith, h)
+field-next s at (list n rs) {v = v} {p = p} = pick (byteAt s at (record { low = 0; top = n })) refl
+  where
+    pick : (x : Read ℕ) → byteAt s at (record { low = 0; top = n }) ≡ x → andThen x (λ k p. bytesAt s p (repeat k rs)) ≡ got v p → at ≤ p
+    pick (got k q) h e = let i = bytes-got s q (repeat k rs) e .1 in omega (arith, byte-next s at (record { low = 0; top = n }) h .1, i)
+    pick bad h e = bad-got e
+field-next s at most {v = v} {p = p} = pick (bytesAt s at (number ∷ number ∷ [])) refl
+  where
+    test-of : (b : Bool) (bs : List ℕ) (q : ℕ) → cond b (got bs q) bad ≡ got v p → q ≡ p
+    test-of true bs q e = got-inj e .1
+    test-of false bs q e = bad-got e
+
+    pick : (x : Read (List ℕ)) → bytesAt s at (number ∷ number ∷ []) ≡ x → andThen x (λ bs p. cond (leb (little bs) 4096) (got bs p) bad) ≡ got v p → at ≤ p
+    pick (got bs q) h e = let i = bytes-got s at (number ∷ number ∷ []) h .1 in omega (arith, test-of (leb (little bs) 4096) bs q e, i)
+    pick bad h e = bad-got e
+
+module _ (s : List ℕ) (at m : ℕ) (f : Shape) (fs : List Shape) {vs : List (List ℕ)} {p : ℕ} (later : (q : ℕ) (ws : List (List ℕ)) (r : ℕ) → fieldsAt s q (m / 2) fs ≡ got ws r → q ≤ r) where
+  inner : (v : List ℕ) (q : ℕ) → at ≤ q → (x : Read (List (List ℕ))) → fieldsAt s q (m / 2) fs ≡ x → andThen x (λ ws r. got (v ∷ ws) r) ≡ got vs p → at ≤ p
+  inner v q l (got ws r) h e = let i = later q ws r h in omega (arith, got-inj e .1, i, l)
+  inner v q l bad h e = bad-got e
+
+  first-of : (x : Read (List ℕ)) → ((v : List ℕ) (q : ℕ) → x ≡ got v q → at ≤ q) → andThen x (λ v q. andThen (fieldsAt s q (m / 2) fs) (λ ws r. got (v ∷ ws) r)) ≡ got vs p → at ≤ p
+  first-of (got v q) h e = inner v q (h v q refl) (fieldsAt s q (m / 2) fs) refl e
+  first-of bad h e = bad-got e
+
+  outer : (b : Bool) → andThen (cond b (fieldAt s at f) (got [] at)) (λ v q. andThen (fieldsAt s q (m / 2) fs) (λ ws r. got (v ∷ ws) r)) ≡ got vs p → at ≤ p
+  outer true e = first-of (fieldAt s at f) (λ v q h. field-next s at f h) e
+  outer false e = inner [] at (native.Mathlib.Nat.le-refl at) (fieldsAt s at (m / 2) fs) refl e
+
+pub fields-next : (s : List ℕ) (at m : ℕ) (fs : List Shape) {vs : List (List ℕ)} {p : ℕ} → fieldsAt s at m fs ≡ got vs p → at ≤ p
+unfolding fieldsAt
+fields-next s at m [] {vs = vs} {p = p} = pick (eqb m 0)
+  where
+    pick : (b : Bool) → cond b (got [] at) bad ≡ got vs p → at ≤ p
+    pick true e = let h = got-inj e .1 in omega (arith, h)
+    pick false e = bad-got e
+fields-next s at m (f ∷ fs) = outer s at m f fs (λ q ws r h. fields-next s q (m / 2) fs h) (odd (m % 2))
