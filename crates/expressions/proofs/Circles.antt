@@ -1,16 +1,16 @@
 -- No rule, no fact's touch and no decision reaches across a circle's line. Assumes nothing.
-use mathlib.Core.Path.{_≡_, refl, sym, ap, ap₂, _∙_, subst}
-use mathlib.Core.Bool.{Bool, true, false, _&&_, _||_, not, cond}
+use mathlib.Core.Path.{_≡_, refl, sym, ap, _∙_, subst}
+use mathlib.Core.Bool.{Bool, true, false, _||_, not}
 use mathlib.Core.List.{List, [], _∷_, _++_}
 use mathlib.Core.Logic.{_⊎_, inl, inr}
 use Prim.Native.Nat.{ℕ, zero, suc, _≤_, _<_}
-use lib.ListN.{length, getD, List·getD-eq-default}
-use Rattle.records.specs.Sets.{has, one, union, meets, disjoint, only, setOf, below, unionBelow, closeOf}
+use lib.ListN.{getD, List·getD-eq-default}
+use Rattle.records.specs.Sets.{has, one, union, meets, only, setOf, below, unionBelow}
 use Rattle.records.specs.Plan.{Plan, getFact}
 use Rattle.records.specs.Sound.{All}
 use Rattle.records.proofs.SetLaws.{Within, ext, has-union, has-none, in-union-l, in-union-r, thru, within-refl, lt-or-le, meeting}
 use Rattle.records.proofs.Closing.{close-closed, close-within, in-one}
-use Rattle.records.proofs.Local.{Inside, Outside, outer, Side, Weak, in-zero, weak, single-side, side-of, closed-weak, all-below}
+use Rattle.records.proofs.Local.{Side, Weak, in-zero, single-side, side-of, closed-weak, all-below}
 use Rattle.records.proofs.Every.{all-parts}
 use Rattle.records.proofs.BelowLaws.{in-below, in-only}
 use Rattle.expressions.specs.Rules.{edgeCount, cutCount, attachmentCount, barCount, statusCount, factCount, edge, cut, attachment, bar, status, pair, span, ruleSets}

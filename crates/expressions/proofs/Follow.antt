@@ -1,12 +1,12 @@
 -- What a node says follows from the facts that it uses. Assumes nothing.
-use mathlib.Core.Path.{_≡_, refl, sym, ap, ap₂, _∙_}
-use mathlib.Core.Bool.{Bool, true, false, _&&_, _||_, not}
+use mathlib.Core.Path.{_≡_, refl, ap, ap₂}
+use mathlib.Core.Bool.{Bool, true, _&&_, _||_, not}
 use mathlib.Core.List.{List, [], _∷_, _++_}
 use Prim.Native.Nat.{ℕ, zero, suc}
 use lib.ListN.{getD}
-use Rattle.records.specs.Sets.{has, one, union, allOf, anyOf, unionOf}
+use Rattle.records.specs.Sets.{has, union, allOf, anyOf, unionOf}
 use Rattle.records.specs.Plan.{Plan, Node, literal, fact, conj, disj, neg}
-use Rattle.records.proofs.SetLaws.{Within, in-union-l, in-union-r}
+use Rattle.records.proofs.SetLaws.{in-union-l, in-union-r}
 use Rattle.records.proofs.Closing.{in-one}
 use Rattle.expressions.specs.Nodes.{on, value, valuesFrom, values, uses, usesFrom, nodeUses}
 use Rattle.expressions.specs.Influence.{usesAt}

@@ -1,23 +1,22 @@
 -- Two bindings that are alike at what touches a person's circle: their valuations, admissible worlds and influence, seen from the circle.
 -- Assumes nothing.
 use mathlib.Core.Path.{_≡_, refl, sym, ap, ap₂, _∙_, subst}
-use mathlib.Core.Bool.{Bool, true, false, _&&_, _||_, not, cond}
+use mathlib.Core.Bool.{Bool, true, false, _||_}
 use mathlib.Core.List.{List, [], _∷_, _++_}
 use mathlib.Core.Logic.{_⊎_, inl, inr}
-use Prim.Native.Nat.{ℕ, zero, suc, _≤_, _<_}
+use Prim.Native.Nat.{ℕ, _≤_, _<_}
 use lib.Dec.{eqb}
 use borrow.Author.Tests.{eqb-true}
-use Rattle.records.specs.Sets.{has, one, union, only, closeOf, allOf}
+use Rattle.records.specs.Sets.{has, one, union, only, closeOf}
 use Rattle.records.specs.Plan.{Plan}
-use Rattle.records.specs.Sound.{All}
 use Rattle.records.proofs.SetLaws.{has-union, has-none, has-one, lt-or-le}
-use Rattle.records.proofs.Local.{which, clash, Inside, Outside, outer, Side, inside, outside, Twin, near, far, Twins, in-only, out-only, out-not, twin-near, twin-self, weak, twins-append, twins-below, close-in, close-out}
+use Rattle.records.proofs.Local.{which, clash, Outside, Side, inside, outside, Twin, near, far, Twins, in-only, out-only, out-not, twin-near, twins-append, twins-below, close-in, close-out}
 use Rattle.expressions.specs.Rules.{factCount, ruleSets}
 use Rattle.expressions.specs.Nodes.{on, values}
 use Rattle.expressions.specs.Influence.{Frame, constraintUses, touch, touchesCircle, decisionCount, decisionTouch, usesAt}
 use Rattle.expressions.specs.Bindings.{Choice, just, both, Bound, bindingAt}
-use Rattle.expressions.specs.Variables.{Slot, fact, decision, choices, isVariable, choice, Values, set, choose, valuations, admissible, factInfluence, decisionInfluence, Influence, influence}
-use Rattle.expressions.proofs.Follow.{On, all-follows, node-follows}
+use Rattle.expressions.specs.Variables.{Slot, fact, decision, choices, isVariable, choice, Values, set, choose, valuations, admissible, factInfluence, decisionInfluence, influence}
+use Rattle.expressions.proofs.Follow.{all-follows, node-follows}
 use Rattle.expressions.proofs.Circles.{Circle, in-circle, uncrossed, fact-side, decision-side, touching, touch-roster}
 
 -- ---- the lists of worlds of two ways to choose, by a relation that joining keeps and that does not count how often

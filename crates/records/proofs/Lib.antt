@@ -1,6 +1,12 @@
 pub mod SetLaws
 pub mod Closing
 pub mod LoopLaws
+pub mod ListLaws
+pub mod NamingLaws
+pub mod Rising
+pub mod ElectionLaws
+pub mod CrossingLaws
+pub mod CheckLaws
 pub mod BelowLaws
 pub mod Every
 pub mod FieldLaws
@@ -8,7 +14,6 @@ pub mod ReadLaws
 pub mod PlanParts
 pub mod Accepted
 pub mod AcceptedCase
-pub mod Rising
 pub mod MemberLaws
 pub mod Local
 pub mod Reading
@@ -17,4 +22,5 @@ pub mod RawLaws
 pub mod KindLaws
 pub mod CaseKinds
 pub mod CaseLoop
+pub mod CaseFaults
 pub mod Pairs

@@ -1,17 +1,16 @@
 -- Sets seen from a circle C of persons: inside it, outside it, alike in it; and loops and closings over such sets. Assumes nothing.
-use mathlib.Core.Path.{_≡_, refl, sym, ap, ap₂, _∙_, subst, fun-ext}
-use mathlib.Core.Bool.{Bool, true, false, _&&_, _||_, not, cond, or-true, or-false, and-false, Bool·not-not, true≢false}
+use mathlib.Core.Path.{_≡_, refl, sym, ap, ap₂, _∙_, subst}
+use mathlib.Core.Bool.{Bool, true, false, _&&_, _||_, not, cond, or-false, Bool·not-not, true≢false}
 use mathlib.Core.Logic.{_⊎_, inl, inr}
 use mathlib.Core.List.{List, [], _∷_, _++_, map}
 use Prim.Native.Nat.{ℕ, zero, suc, _+_, _<_, _≤_}
 use native.Mathlib.Omega.{arith}
-use native.Mathlib.Nat.{not-suc-le-zero, le-of-suc-le-suc}
 use lib.ListN.{length, getD}
 use lib.Dec.{eqb}
 use borrow.Author.Tests.{eqb-true, eqb-false, eq-eqb, not-true}
 use Rattle.records.specs.Sets.{has, one, union, meet, minus, disjoint, meets, subset, only, absorb, pass, passes, closeOf, numbers, below, anyBelow, unionBelow, foldBelow, unionOf}
 use Rattle.records.specs.Sound.{All}
-use Rattle.records.proofs.SetLaws.{Within, ext, has-none, has-one, has-union, has-meet, has-minus, of-union, of-minus, in-union-l, in-union-r, disjoint-true, disjoint-false, apart, member, lt-or-le}
+use Rattle.records.proofs.SetLaws.{ext, has-none, has-one, has-union, has-meet, has-minus, of-union, of-minus, in-union-l, in-union-r, disjoint-true, disjoint-false, apart, member, lt-or-le}
 use Rattle.records.proofs.Closing.{Takes, Closed, passes-next}
 use Rattle.records.proofs.LoopLaws.{getD-below, getD-past, length-below, all-at}
 use Rattle.records.proofs.Every.{all-then}

@@ -6,4 +6,9 @@ pub mod Decoded
 pub mod Readers
 pub mod Passes
 pub mod CaseSteps
+pub mod CaseNamed
 pub mod Sound
+pub mod Check
+pub mod Named
+pub mod Crossings
+pub mod Elections

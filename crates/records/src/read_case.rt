@@ -9,10 +9,13 @@ use crate::case::Family;
 use crate::case::Observations;
 use crate::case::Relation;
 use crate::case::Relations;
+use crate::case_naming::case_naming;
 use crate::case_steps::add_record;
+use crate::checked::Checked;
+use crate::plan::Plan;
 ghost use mathlib.Core.Path.{_≡_};
-ghost use Rattle.records.specs.Case.{caseRecords, emptyCase};
-ghost use Rattle.records.specs.Decoded.{caseOf};
+ghost use Rattle.records.specs.Case.{caseRecords, emptyCase, readCase};
+ghost use Rattle.records.specs.Decoded.{planOf, caseOf};
 ghost use Rattle.records.specs.CaseSteps.{caseReadOf};
 
 // number 0: read; else the refusal and its record
@@ -121,6 +124,26 @@ pub fn read_case_records(s: &[u8]) -> CaseRead
     CaseRead {
         number: 0,
         record: 0,
+        case: case,
+    }
+}
+
+// A case over its plan: refusals 1, 2 and 3 as records are read, then 4 over all of them.
+pub fn read_case(plan: Plan, s: &[u8]) -> CaseRead
+    ensures { λ r. ⌜ caseReadOf r ≡ readCase (planOf plan) (now (s .entry)) ⌝ }
+{
+    let read = read_case_records(s);
+    if read.number != 0 {
+        return read;
+    }
+    let case = read.case;
+    let named = case_naming(plan, case);
+    let Checked::Refused { number, record } = named else {
+        return read;
+    };
+    CaseRead {
+        number: number,
+        record: record,
         case: case,
     }
 }

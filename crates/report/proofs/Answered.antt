@@ -1,25 +1,25 @@
 -- The lines of a case that is answered: one for each roster person, rising. Assumes nothing.
-use mathlib.Core.Path.{_≡_, refl, sym, ap, ap₂, _∙_, subst}
+use mathlib.Core.Path.{_≡_, refl, sym, ap, _∙_, subst}
 use mathlib.Core.Bool.{Bool, true, false, cond}
-use mathlib.Core.List.{List, [], _∷_, _++_, map}
+use mathlib.Core.List.{List, [], _∷_, map}
 use mathlib.Core.Logic.{_⊎_, inl, inr}
 use Prim.Native.Nat.{ℕ, zero, suc, _+_, _*_, _-_, _^_}
 use native.Mathlib.Omega.{arith}
 use lib.ListN.{length}
 use lib.Dec.{eqb, ltb}
-use Rattle.records.specs.Sets.{has, members}
+use Rattle.records.specs.Sets.{members}
 use Rattle.records.specs.Fields.{Verdict, fine, refused, firstFault}
 use Rattle.records.specs.Plan.{Plan, checkedPlan}
-use Rattle.records.specs.Case.{Case, CaseHeading, readCase, caseHeading, familiesAt, booleansAt}
+use Rattle.records.specs.Case.{Case, readCase, caseHeading, familiesAt, booleansAt}
 use Rattle.expressions.specs.Influence.{Frame}
 use Rattle.expressions.specs.Bindings.{Bound, bindings, bindable, frameOf, familyFaults, booleanFaults}
-use Rattle.expressions.specs.Variables.{Values, Influence, worldCount, worlds, influence}
+use Rattle.expressions.specs.Variables.{Values, worldCount, worlds, influence}
 use Rattle.worlds.specs.Active.{active}
-use Rattle.worlds.specs.World.{World, worldOf}
+use Rattle.worlds.specs.World.{worldOf}
 use Rattle.worlds.specs.View.{View, view}
 use Rattle.report.specs.Line.{Line, lineBytes, bareLine, lineOver}
 use Rattle.report.specs.EventList.{eventLength}
-use Rattle.report.specs.Operations.{told, Opened, stopped, incomplete, ready, orStop, unlessFault, headingFault, tooMany, counted, bound, opened, Outcome, filled, refusal, written, influences, allWorlds, linesOver, eventsOver, answerReady, answerOpened, answer}
+use Rattle.report.specs.Operations.{told, Opened, stopped, incomplete, ready, orStop, unlessFault, headingFault, tooMany, counted, bound, opened, Outcome, filled, refusal, written, influences, allWorlds, linesOver, answerReady, answerOpened, answer}
 use Rattle.report.specs.declared.Answer.{Answer}
 use Rattle.report.specs.declared.Answer.the-variants.{Refused, TooManyWorlds}
 

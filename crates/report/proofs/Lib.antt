@@ -1,9 +1,15 @@
 pub mod Starred
+pub mod LinesAt
 pub mod LineBytes
 pub mod OpenedLaws
 pub mod LineBlocks
 pub mod Blocks
 pub mod SameViews
-pub mod LinesAt
 pub mod Answered
+pub mod LinePrivate
+pub mod Private
 pub mod Privacy
+pub mod Places
+pub mod Weaker
+pub mod Sanity
+pub mod Needed

@@ -23,7 +23,7 @@ use Rattle.report.specs.Operations.{Outcome, Told, told, check, mismatch
 
 -- ---- records as bytes
 
-abbrev mask : ℕ → List ℕ
+abbrev pub mask : ℕ → List ℕ
 mask m = m ∷ 0 ∷ 0 ∷ 0 ∷ 0 ∷ 0 ∷ 0 ∷ 0 ∷ []
 
 -- a plan's heading: relation 1
@@ -31,15 +31,15 @@ abbrev plain : List ℕ
 plain = 1 ∷ 0b1 ∷ 1 ∷ []
 
 -- the same with base-chain citation 9
-abbrev chain : List ℕ
+abbrev pub chain : List ℕ
 chain = 1 ∷ 0b11 ∷ 1 ∷ 9 ∷ []
 
 -- node 0 is the literal 1
-abbrev always : List ℕ
+abbrev pub always : List ℕ
 always = 3 ∷ 0b1 ∷ 1 ∷ []
 
 -- edges between two persons under a node, with citation 2
-abbrev base : ℕ → ℕ → ℕ → List ℕ
+abbrev pub base : ℕ → ℕ → ℕ → List ℕ
 base left right node = 4 ∷ 0b1111 ∷ left ∷ right ∷ node ∷ 2 ∷ []
 
 abbrev combination : ℕ → ℕ → List ℕ
@@ -67,7 +67,7 @@ abbrev excluding : ℕ → List ℕ
 excluding person = 8 ∷ 0b111 ∷ person ∷ 0 ∷ 5 ∷ []
 
 -- a case's heading: relation 1, scope 1, segment 1, complete, at most 4,096 worlds
-abbrev roster₀ : ℕ → List ℕ
+abbrev pub roster₀ : ℕ → List ℕ
 roster₀ persons = 1 ∷ 0b1111111 ∷ 1 ∷ 1 ∷ 1 ∷ mask persons ++ (0 ∷ 0 ∷ 16 ∷ [])
 
 -- a line as bytes

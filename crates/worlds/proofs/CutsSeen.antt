@@ -1,16 +1,15 @@
 -- What rules say, seen from a circle that none of them crosses: steps 1 and 3 to 5 of a world. Assumes nothing.
-use mathlib.Core.Path.{_≡_, refl, sym, ap, ap₂, _∙_, subst}
-use mathlib.Core.Bool.{Bool, true, false, _&&_, _||_, not, cond, Bool·beq, and-false}
-use mathlib.Core.List.{List, [], _∷_, _++_}
+use mathlib.Core.Path.{_≡_, sym, ap, ap₂, _∙_}
+use mathlib.Core.Bool.{Bool, true, false, _&&_, _||_, not, Bool·beq, and-false}
+use mathlib.Core.List.{List}
 use mathlib.Core.Logic.{_⊎_, inl, inr}
-use Prim.Native.Nat.{ℕ, zero, suc, _<_, _≤_}
+use Prim.Native.Nat.{ℕ, _<_, _≤_}
 use lib.Dec.{eqb}
-use Rattle.records.specs.Sets.{has, one, union, meets, only, below, anyBelow, anyOf, unionOf}
+use Rattle.records.specs.Sets.{has, one, meets, below, anyBelow, anyOf, unionOf}
 use Rattle.records.specs.Plan.{Plan}
 use Rattle.records.proofs.SetLaws.{Within, lt-or-le}
 use Rattle.records.proofs.LoopLaws.{getD-below, getD-past}
-use Rattle.records.proofs.Closing.{in-one}
-use Rattle.records.proofs.Local.{which, clash, Inside, Outside, Side, inside, outside, Flag, ins, meets-out, any-same, any-none, below-two}
+use Rattle.records.proofs.Local.{Inside, Side, inside, outside, Flag, ins, meets-out, any-same, any-none}
 use Rattle.expressions.specs.Rules.{edgeCount, cutCount, attachmentCount, barCount, statusCount, edge, cut, attachment, bar, status, pair, span}
 use Rattle.expressions.specs.Nodes.{on, values}
 use Rattle.expressions.specs.Influence.{Frame, touch, usesAt, edgeUses, cutUses, attachmentUses, barUses, statusUses, says, decisionCount, openDecision}
@@ -19,7 +18,7 @@ use Rattle.expressions.proofs.Follow.{On, on-left, on-right, any-follows, node-
 use Rattle.expressions.proofs.Circles.{Uncrossed, edge-side, cut-side, touch-edge, touch-cut, touch-attachment, touch-bar, touch-status}
 use Rattle.expressions.proofs.Similar.{Similar}
 use Rattle.worlds.specs.Active.{Active, flags, active, blocksEdge}
-use Rattle.worlds.specs.World.{about, keptCut, keptCuts, precedes, preceded, sameMembers, overlappingCut, overlappingCuts, blockedBy, standing, blockedCut, appliedCuts}
+use Rattle.worlds.specs.World.{about, keptCut, keptCuts, precedes, sameMembers, overlappingCut, overlappingCuts, blockedBy, blockedCut, appliedCuts}
 
 -- two worlds that say the same of the rules in the circle
 pub record Same (C : ℕ → Bool) (P : Plan) (a b : Active) : Type 0 where

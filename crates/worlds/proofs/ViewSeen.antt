@@ -1,19 +1,19 @@
 -- THE LOCALITY OF A WORLD: what it says of a person follows from what its rules and marks are in any circle of that person that no rule crosses.
 -- Assumes nothing.
-use mathlib.Core.Path.{_≡_, refl, sym, ap, ap₂, _∙_, subst}
-use mathlib.Core.Bool.{Bool, true, false, _&&_, _||_, not, cond, and-false}
-use mathlib.Core.List.{List, [], _∷_, _++_}
+use mathlib.Core.Path.{_≡_, sym, ap, ap₂, _∙_}
+use mathlib.Core.Bool.{Bool, true, false, _&&_, _||_, cond, and-false}
+use mathlib.Core.List.{List}
 use mathlib.Core.Logic.{_⊎_, inl, inr}
-use Prim.Native.Nat.{ℕ, zero, suc, _<_, _≤_}
-use Rattle.records.specs.Sets.{has, one, union, meet, minus, meets, only, unionBelow}
+use Prim.Native.Nat.{ℕ}
+use Rattle.records.specs.Sets.{has, one, union, meets, only}
 use Rattle.records.specs.Plan.{Plan}
 use Rattle.records.proofs.Local.{which, Inside, Outside, Agree, Side, inside, outside, Flag, ins, in-not, in-left, in-right, at-single, out-not, agree-union, agree-minus, agree-meet, meets-near, meets-out, union-same}
-use Rattle.expressions.specs.Rules.{edgeCount, cutCount, attachmentCount, barCount, statusCount, edge, cut, attachment, bar, status, pair}
+use Rattle.expressions.specs.Rules.{edgeCount, cutCount, barCount, statusCount, edge, cut, bar, status, pair}
 use Rattle.expressions.specs.Nodes.{on}
 use Rattle.expressions.proofs.Circles.{Uncrossed, edge-side, cut-side}
 use Rattle.worlds.specs.Active.{Active}
-use Rattle.worlds.specs.World.{World, Marks, State, marked, blockOf, about, afterMarks, keptCuts, overlappingCuts, appliedCuts, lastState}
-use Rattle.worlds.specs.View.{View, roleOf, cites, edgeCitations, leads, cutCitations, attachmentCitations, barCitations, statusCitations, citations, view}
+use Rattle.worlds.specs.World.{World, Marks, marked, blockOf, about, afterMarks, keptCuts, overlappingCuts, appliedCuts, lastState}
+use Rattle.worlds.specs.View.{View, roleOf, edgeCitations, leads, cutCitations, attachmentCitations, barCitations, statusCitations, citations, view}
 use Rattle.worlds.proofs.CutsSeen.{Same, about-near, about-none, applied-same}
 use Rattle.worlds.proofs.MarksSeen.{MarksAgree}
 use Rattle.worlds.proofs.StateSeen.{Alike, last-alike, barred-agree, excluded-agree}

@@ -1,0 +1,101 @@
+// Refusal 6 of a plan: a cut and a Combination edge that cross without a decision.
+use crate::checked::Checked;
+use crate::counts::Counts;
+use crate::counts::count_records;
+use crate::counts::wide;
+use crate::naming::entry;
+use crate::plan::Cut;
+use crate::plan::Decisions;
+use crate::plan::Edge;
+use crate::plan::Plan;
+use crate::sets::contains;
+ghost use mathlib.Core.Path.{_≡_};
+ghost use Prim.Native.Nat.{ℕ, _<_, _≤_};
+ghost use Rattle.records.specs.Fields.{fine, firstFault};
+ghost use Rattle.records.specs.Plan.{cutsAt};
+ghost use Rattle.records.specs.Decoded.{planOf, decisionsOf};
+ghost use Rattle.records.specs.Check.{checkedOf};
+ghost use Rattle.records.specs.Crossings.{decides, IsOpen, firstCrossing, crossingFaults};
+
+pub enum Crossing {
+    At { cut: usize, edge: usize },
+    Nowhere,
+}
+
+pub fn decided(decisions: Decisions, edge: usize) -> bool
+    ensures { λ r. ⌜ r ≡ decides (decisionsOf decisions) edge ⌝ }
+{
+    let list = decisions.edges;
+    let count = wide(decisions.count);
+    let mut i: usize = 0;
+    while i < count {
+        if wide(entry(list, i)) == edge {
+            return true;
+        }
+        i = i + 1;
+    }
+    false
+}
+
+// Whether the edge of this number crosses the cut, with one end in it, and the cut does not decide it.
+pub fn undecided(cut: Cut, number: usize, edge: Edge) -> bool
+    ensures { λ r. ⌜ IsOpen cut number edge r ⌝ }
+{
+    if !edge.combination {
+        return false;
+    }
+    let left = contains(cut.members, edge.left);
+    let right = contains(cut.members, edge.right);
+    if left == right {
+        return false;
+    }
+    let decisions = cut.decisions;
+    !decided(decisions, number)
+}
+
+pub fn first_crossing(plan: Plan) -> Crossing
+    ensures { λ r. ⌜ r ≡ firstCrossing (planOf plan) ⌝ }
+{
+    let counts = count_records(plan);
+    let cuts = plan.cuts;
+    let edges = plan.edges;
+    let cut_count = counts.cuts;
+    let edge_count = counts.edges;
+    let mut hit = false;
+    let mut cut: usize = 0;
+    let mut edge: usize = 0;
+    'search: while cut < cut_count {
+        edge = 0;
+        while edge < edge_count {
+            if undecided(cuts.items[cut], edge, edges.items[edge]) {
+                hit = true;
+                break 'search;
+            }
+            edge = edge + 1;
+        }
+        cut = cut + 1;
+    }
+    if hit {
+        Crossing::At {
+            cut: cut,
+            edge: edge,
+        }
+    } else {
+        Crossing::Nowhere
+    }
+}
+
+pub fn crossings(plan: Plan) -> Checked
+    ensures { λ r. ⌜ r ≡ checkedOf (firstFault (cutsAt (planOf plan)) (crossingFaults (planOf plan)) (fine (planOf plan))) ⌝ }
+{
+    let counts = count_records(plan);
+    let first = counts.headings + counts.facts + counts.nodes + counts.edges;
+    let found = first_crossing(plan);
+    match found {
+        Crossing::At { cut, edge } => Checked::Refused {
+            number: 6,
+            record: first + cut,
+        },
+        Crossing::Nowhere => Checked::Accepted,
+    }
+}

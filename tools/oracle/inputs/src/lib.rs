@@ -1,0 +1,11 @@
+//! Inputs for comparison: plans and cases as values, random ones, damaged
+//! ones, smaller ones, and the vector format.
+
+pub mod build;
+pub mod calls;
+pub mod generate;
+pub mod mutate;
+pub mod random;
+pub mod shrink;
+pub mod vectors;
+pub mod wire;

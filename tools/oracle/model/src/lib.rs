@@ -1,0 +1,9 @@
+//! Document 01 with plain masks: a third voice beside the Rust and the port,
+//! the yardstick of speed, and the source of expected refusals.
+
+pub mod expressions;
+pub mod records;
+pub mod report;
+pub mod world;
+
+pub use report::{Citing, Outcome, answer, answer_citing, check, show, show_citing};

@@ -1,0 +1,1 @@
+include!("../../unit_derivation/compile.rs");
