@@ -1,6 +1,6 @@
 -- Each kind of record in a case: what one more of them changes, and what is wrong with it. Assumes nothing.
 use mathlib.Core.Path.{_≡_, refl, sym, ap, _∙_}
-use mathlib.Core.Bool.{Bool, true, false, _&&_, not, cond}
+use mathlib.Core.Bool.{Bool, true, false, _&&_, _||_, not, cond}
 use mathlib.Core.List.{List, [], _∷_, _++_, map}
 use Prim.Native.Nat.{ℕ, zero, suc, _+_, _-_, _/_, _%_, _^_, _<_, min}
 use native.Mathlib.Nat.{min-eq-left, min-eq-right}
@@ -18,8 +18,9 @@ use Rattle.records.specs.Readers.{mapRead}
 use Rattle.records.specs.Passes.{judgement}
 use Rattle.records.specs.CaseSteps.{rawOf, takenBy, familyBy, booleanBy, relationBy, constraintBy, Step, went, stopped, stepBy, stepOf}
 use Rattle.records.proofs.Reading.{none}
-use Rattle.records.proofs.KindLaws.{bit-test, needs-test, length-more}
-use Rattle.records.proofs.RawLaws.{raw, Drawn, drawn}
+use Rattle.records.proofs.KindLaws.{bit-test, needs-test, length-more, past}
+use Rattle.records.proofs.RawLaws.{Drawn, drawn}
+use Rattle.records.proofs.Chain.{raw}
 
 pub has-bit : (b p w : ℕ) → 2 ^ p ≡ w → eqb (b / w % 2) 1 ≡ has b p
 unfolding has
@@ -39,10 +40,7 @@ pub record CaseKind (A : Type 0) : Type 1 where
   pub put : Case → List A → Case
   pub heads : Case → Bool
   pub adds : (C : Case) (b : ℕ) (vs : List (List ℕ)) → addToCase (raw kind b vs) C ≡ put C (kept C ++ (make (raw kind b vs) ∷ []))
-  pub judges : (C : Case) (b : ℕ) (x : A) (vs : List (List ℕ)) → judgeCase (raw kind b vs) (put C (kept C ++ (x ∷ []))) ≡ judgement (length (kept C)) limit (needs bits b && heads C)
-
-pub past : (limit n : ℕ) → ltb limit (suc n) ≡ leb limit n
-past limit n = lib.Dec.leb·suc-suc limit n
+  pub judges : (C : Case) (b : ℕ) (x : A) (vs : List (List ℕ)) → judgeCase (raw kind b vs) (put C (kept C ++ (x ∷ []))) ≡ judgement (length (kept C)) limit false (needs bits b && heads C) true
 
 module _ {A : Type 0} (D : CaseKind A) (s : List ℕ) (at : ℕ) (C : Case) where
   pub reads-bad : mapRead (takenBy (D .make)) (rawOf caseFormats (D .kind) s at) ≡ bad → stopped 1 ≡ stepOf (D .kind) s at C
@@ -59,7 +57,7 @@ module _ {A : Type 0} (D : CaseKind A) (s : List ℕ) (at : ℕ) (C : Case) wher
     grown : addToCase (raw (D .kind) b (d .fields)) C ≡ more
     grown = D .adds C b (d .fields) ∙ ap (λ (z : A). D .put C (D .kept C ++ (z ∷ []))) (d .makes)
 
-    taken : (n : ℕ) → n ≡ judgement (length (D .kept C)) (D .limit) (needs (D .bits) b && D .heads C) → stepOf (D .kind) s at C ≡ elim n [ zero ↦ went more p | suc m ↦ stopped (suc m) ]
+    taken : (n : ℕ) → n ≡ judgement (length (D .kept C)) (D .limit) false (needs (D .bits) b && D .heads C) true → stepOf (D .kind) s at C ≡ elim n [ zero ↦ went more p | suc m ↦ stopped (suc m) ]
     unfolding stepOf
     taken n j =
         let w = raw (D .kind) b (d .fields) in
@@ -67,14 +65,18 @@ module _ {A : Type 0} (D : CaseKind A) (s : List ℕ) (at : ℕ) (C : Case) wher
         ap (λ (y : Read Raw). stepBy y C) (d .reads) ∙ ap (λ (Q : Case). elim (judgeCase w Q) [ zero ↦ went Q p | suc m ↦ stopped (suc m) ]) grown
         ∙ ap (λ (i : ℕ). elim i [ zero ↦ went more p | suc m ↦ stopped (suc m) ]) q
 
-    pub reads-refused : (n : ℕ) → n ≡ judgement (length (D .kept C)) (D .limit) (needs (D .bits) b && D .heads C) → (n ≡ 0 → ⊥) → (w : Step)
+    pub reads-refused : (n : ℕ) → n ≡ judgement (length (D .kept C)) (D .limit) false (needs (D .bits) b && D .heads C) true → (n ≡ 0 → ⊥) → (w : Step)
         → cond (eqb n 0) w (stopped n) ≡ stepOf (D .kind) s at C
     reads-refused zero j z w = absurd (z refl)
     reads-refused (suc m) j z w = rw (lib.Dec.eqb·suc-zero m) (sym (taken (suc m) j))
 
-    pub reads-joined : (n : ℕ) → n ≡ judgement (length (D .kept C)) (D .limit) (needs (D .bits) b && D .heads C) → n ≡ 0 → (Q : Case) → Q ≡ more
+    pub reads-joined : (n : ℕ) → n ≡ judgement (length (D .kept C)) (D .limit) false (needs (D .bits) b && D .heads C) true → n ≡ 0 → (Q : Case) → Q ≡ more
         → went Q p ≡ stepOf (D .kind) s at C
     reads-joined n j z Q q = ap (λ (y : Case). went y p) q ∙ sym (taken 0 (sym z ∙ j))
+
+pub or-false : (t : Bool) → (t || false) ≡ t
+or-false true = refl
+or-false false = refl
 
 -- ---- a count and its array
 
@@ -87,15 +89,12 @@ full limit n = pick (leb limit n) refl
 
 -- what is wrong with one more, by the count, the test of the bits and the number of headings
 pub count-judged : {A : Type 0} (D : CaseKind A) (C : Case) (n b : ℕ) (h : Bool) {r : ℕ} → length (D .kept C) ≡ min n (D .limit) → h ≡ D .heads C
-    → r ≡ judgement n (D .limit) (eqb (bitAnd b (D .bits)) (D .bits) && h) → r ≡ judgement (length (D .kept C)) (D .limit) (needs (D .bits) b && D .heads C)
+    → r ≡ judgement n (D .limit) false (eqb (bitAnd b (D .bits)) (D .bits) && h) true → r ≡ judgement (length (D .kept C)) (D .limit) false (needs (D .bits) b && D .heads C) true
 count-judged D C n b h e f g = g ∙ rw (e, full (D .limit) n, needs-test b (D .bits), f)
 
 pub headed-is : (n : ℕ) (x : CaseHeading) → not (eqb n 0) ≡ not (eqb (length (take n (x ∷ []))) 0)
 headed-is zero x = refl
 headed-is (suc n) x = ap not (lib.Dec.eqb·suc-zero n ∙ sym (lib.Dec.eqb·suc-zero (length (take n []))))
-
-pub length-kept : {A B : Type 0} (f : A → B) (xs : List A) (n m : ℕ) → length xs ≡ m → length (map f (take n xs)) ≡ min n m
-length-kept f xs n m e = length-map (take n xs) f ∙ length-take n xs ∙ ap (λ (k : ℕ). min n k) e
 
 pub take-more : {A : Type 0} (xs : List A) (n : ℕ) (x : A) → n < length xs → take (n + 1) (set xs n x) ≡ take n xs ++ (x ∷ [])
 take-more xs n x h = ap (λ (k : ℕ). take k (set xs n x)) (add-one n) ∙ take-suc-set xs n x h
@@ -113,7 +112,7 @@ headings = record {
   put = λ C xs. record { headings = xs; families = C .families; booleans = C .booleans; relations = C .relations; constraints = C .constraints };
   heads = λ C. true;
   adds = λ C b vs. refl;
-  judges = λ C b x vs. rw (length-more (C .headings) x, past 1 (length (C .headings)), lib.Dec.eqb·suc-zero (length (C .headings)));
+  judges = λ C b x vs. rw (length-more (C .headings) x, past 1 (length (C .headings)), or-false (leb 1 (length (C .headings))), lib.Dec.eqb·suc-zero (length (C .headings)));
 }
 
 unfoldable pub families : CaseKind Family
@@ -127,7 +126,7 @@ families = record {
   put = λ C xs. record { headings = C .headings; families = xs; booleans = C .booleans; relations = C .relations; constraints = C .constraints };
   heads = headed;
   adds = λ C b vs. refl;
-  judges = λ C b x vs. rw (length-more (C .families) x, past 16 (length (C .families)));
+  judges = λ C b x vs. rw (length-more (C .families) x, past 16 (length (C .families)), or-false (leb 16 (length (C .families))));
 }
 
 unfoldable pub booleans : CaseKind Boolean
@@ -141,7 +140,7 @@ booleans = record {
   put = λ C xs. record { headings = C .headings; families = C .families; booleans = xs; relations = C .relations; constraints = C .constraints };
   heads = headed;
   adds = λ C b vs. refl;
-  judges = λ C b x vs. rw (length-more (C .booleans) x, past 64 (length (C .booleans)));
+  judges = λ C b x vs. rw (length-more (C .booleans) x, past 64 (length (C .booleans)), or-false (leb 64 (length (C .booleans))));
 }
 
 unfoldable pub relations : CaseKind Relation
@@ -155,7 +154,7 @@ relations = record {
   put = λ C xs. record { headings = C .headings; families = C .families; booleans = C .booleans; relations = xs; constraints = C .constraints };
   heads = headed;
   adds = λ C b vs. refl;
-  judges = λ C b x vs. rw (length-more (C .relations) x, past 256 (length (C .relations)));
+  judges = λ C b x vs. rw (length-more (C .relations) x, past 256 (length (C .relations)), or-false (leb 256 (length (C .relations))));
 }
 
 unfoldable pub constraints : CaseKind ℕ
@@ -169,5 +168,5 @@ constraints = record {
   put = λ C xs. record { headings = C .headings; families = C .families; booleans = C .booleans; relations = C .relations; constraints = xs };
   heads = headed;
   adds = λ C b vs. refl;
-  judges = λ C b x vs. rw (length-more (C .constraints) x, past 16 (length (C .constraints)));
+  judges = λ C b x vs. rw (length-more (C .constraints) x, past 16 (length (C .constraints)), or-false (leb 16 (length (C .constraints))));
 }

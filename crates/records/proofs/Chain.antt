@@ -9,8 +9,11 @@ use lib.ListN.{length, getD}
 use lib.Dec.{eqb, leb}
 use borrow.Author.Tests.{eq-eqb, ne-eqb}
 use Rattle.records.specs.Sets.{odd}
-use Rattle.records.specs.Fields.{Shape, bytes, list, most, number, Read, got, bad, andThen, Range, byteAt, bytesAt, fieldAt, fieldsAt, repeat, little}
-use Rattle.records.specs.Readers.{fieldIf}
+use Rattle.records.specs.Fields.{Shape, bytes, list, most, number, Read, got, bad, andThen, Raw, Range, byteAt, bytesAt, fieldAt, fieldsAt, formatOf, repeat, little}
+use Rattle.records.specs.Plan.{planFormats}
+use Rattle.records.specs.Readers.{fieldIf, first, span}
+use Rattle.records.specs.Decoded.{given}
+use Rattle.records.specs.Passes.{rawAt}
 use Rattle.records.proofs.Reading.{byte-next, bytes-got, bad-got, got-inj}
 
 -- the test `m % 2 == 1`
@@ -40,6 +43,18 @@ last s at m e = rw (eq-eqb m 0 e)
 pub unknown : (s : List ℕ) (at m : ℕ) → (m ≡ 0 → ⊥) → fieldsAt s at m [] ≡ bad
 unfolding fieldsAt
 unknown s at m e = rw (ne-eqb m 0 e)
+
+-- a record from its bit map on
+module _ (kind : ℕ) (s : List ℕ) (at : ℕ) where
+  pub raw-got : {b p q : ℕ} {vs : List (List ℕ)} → byteAt s at number ≡ got b p → fieldsAt s p b (formatOf planFormats kind .fields) ≡ got vs q
+      → rawAt kind s at ≡ got (record { kind = kind; bits = b; fields = vs }) q
+  raw-got e f = rw (e, f)
+
+  pub raw-bits : byteAt s at number ≡ bad → rawAt kind s at ≡ bad
+  raw-bits e = rw e
+
+  pub raw-bad : {b p : ℕ} → byteAt s at number ≡ got b p → fieldsAt s p b (formatOf planFormats kind .fields) ≡ bad → rawAt kind s at ≡ bad
+  raw-bad e f = rw (e, f)
 
 -- a bit without a field
 pub no-field : (s : List ℕ) (at : ℕ) (b : Bool) → fieldIf b s at (bytes []) ≡ got [] at
@@ -91,3 +106,42 @@ fields-next s at m [] {vs = vs} {p = p} = pick (eqb m 0)
     pick true e = let h = got-inj e .1 in omega (arith, h)
     pick false e = bad-got e
 fields-next s at m (f ∷ fs) = outer s at m f fs (λ q ws r h. fields-next s q (m / 2) fs h) (odd (m % 2))
+
+abbrev pub raw : ℕ → ℕ → List (List ℕ) → Raw
+raw kind b vs = record { kind = kind; bits = b; fields = vs }
+
+pub record Parts (kind : ℕ) (s : List ℕ) (at : ℕ) (w : Raw) (p : ℕ) : Type 0 where
+  pub is : w ≡ raw kind (w .bits) (w .fields)
+  pub later : at < p
+
+pub raw-parts : (kind : ℕ) (s : List ℕ) (at : ℕ) {w : Raw} {p : ℕ} → rawAt kind s at ≡ got w p → Parts kind s at w p
+raw-parts kind s at {w = w} {p = p} = outer (byteAt s at number) refl
+  where
+    fs : List Shape
+    fs = formatOf planFormats kind .fields
+
+    inner : (b q : ℕ) → at < q → (x : Read (List (List ℕ))) → fieldsAt s q b fs ≡ x → andThen x (λ vs r. got (raw kind b vs) r) ≡ got w p → Parts kind s at w p
+    inner b q l (got vs r) h e =
+        let i = fields-next s q b fs h in
+        let k = got-inj e .0 in
+        record { is = sym k ∙ ap (λ (z : Raw). raw kind (z .bits) (z .fields)) k; later = omega (arith, got-inj e .1, i, l) }
+    inner b q l bad h e = bad-got e
+
+    outer : (x : Read ℕ) → byteAt s at number ≡ x → andThen x (λ b q. andThen (fieldsAt s q b fs) (λ vs r. got (raw kind b vs) r)) ≡ got w p → Parts kind s at w p
+    outer (got b q) h e = let i = byte-next s at number h in inner b q (omega (arith, i .1)) (fieldsAt s q b fs) refl e
+    outer bad h e = bad-got e
+
+-- ---- what an optional field's bytes are
+
+pub one-given : (s : List ℕ) (at : ℕ) (b : Bool) (r : Range) {bs : List ℕ} {n v : ℕ} → fieldIf b s at (bytes (r ∷ [])) ≡ got bs n → first bs ≡ v → bs ≡ given b v
+unfolding fieldAt span
+one-given s at true r e f = let h = bytes-got s at (r ∷ []) e .0 in h ∙ ap (λ (x : ℕ). x ∷ []) (sym (ap first h) ∙ f)
+one-given s at false r e f = sym (got-inj e .0)
+
+pub list-absent : (s : List ℕ) (at p k : ℕ) (b : Bool) (f : Shape) {n : ℕ} → got (span s p k) n ≡ fieldIf b s at f → b ≡ false → k ≡ 0
+unfolding span
+list-absent s at p k b f e q = pick k (got-inj (e ∙ ap (λ (t : Bool). fieldIf t s at f) q) .0)
+  where
+    pick : (k : ℕ) → span s p k ≡ [] → k ≡ 0
+    pick zero h = refl
+    pick (suc k) h = let z = ap length h in absurd (omega (arith, z))

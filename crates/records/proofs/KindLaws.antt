@@ -1,18 +1,32 @@
--- Tests of the bits of a record, and one more record in an array with a count. Assumes nothing.
-use mathlib.Core.Path.{_≡_, refl, sym, ap, _∙_}
-use mathlib.Core.Bool.{Bool, true, false}
+-- Each kind of record in the plan: what one more of them changes and what is wrong with it. Assumes nothing.
+use mathlib.Core.Path.{_≡_, refl, sym, ap, ap₂, _∙_, subst}
+use mathlib.Core.Bool.{Bool, true, false, _&&_, _||_, not, cond}
 use mathlib.Core.List.{List, [], _∷_, _++_, map}
-use Prim.Native.Nat.{ℕ, zero, suc, _+_, _/_, _%_, _<_}
+use Prim.Native.Nat.{ℕ, zero, suc, _+_, _-_, _*_, _/_, _%_, _^_, _≤_, _<_}
 use native.Mathlib.Nat.{mod-lt, zero-lt-suc, not-suc-le-zero, le-of-suc-le-suc}
 use native.Mathlib.Numerals.{add-one}
-use lib.ListN.{length, set, take}
+use native.Mathlib.Omega.{arith}
+use lib.ListN.{length, getD, set, take, length-append}
 use lib.Seq.{take-suc-set}
 use lib.Bits.{bitAnd}
-use lib.Dec.{eqb}
-use borrow.Author.Tests.{eq-eqb, ne-eqb}
-use Rattle.records.specs.Sets.{odd, has, subset}
-use Rattle.records.specs.Fields.{needs}
-use Rattle.records.proofs.SetLaws.{Within, antisym, of-meet, in-meet, subset-true, within-subset}
+use lib.Dec.{eqb, ltb, leb}
+use borrow.Author.Tests.{eq-eqb, ne-eqb, eqb-true, leb-false}
+use Rattle.records.specs.Sets.{odd, has, subset, allOf}
+use Rattle.records.specs.Fields.{Raw, formatOf, needs, single}
+use Rattle.records.specs.Plan as paper
+use Rattle.records.specs.Plan.{Plan, planFormats, addToPlan, planCounts, judgePlan}
+use Rattle.records.specs.Decoded as decoded
+use Rattle.records.specs.Decoded.{given}
+use Rattle.records.specs.Readers.{span}
+use Rattle.records.specs.declared.plan.Election.{Election}
+use Rattle.records.specs.declared.plan.Decisions.{Decisions}
+use Rattle.records.specs.declared.plan.Numbers.{Numbers}
+use Rattle.records.specs.Passes.{Clean, judgement, factBits, headingFrom, factFrom, withHeadings, withFacts, withNodes, withCuts, withEdges, withAttachments, withBars, withStatuses, barFrom, statusFrom}
+use Rattle.records.proofs.SetLaws.{has-zero, Within, antisym, of-meet, in-meet, subset-true, within-subset}
+use Rattle.records.proofs.Chain.{raw}
+use Rattle.records.proofs.Passing.{Kind}
+use Rattle.records.proofs.FactLaws.{lastFact, rise-more}
+use Rattle.records.proofs.DecisionLaws.{unresolved-more, all-more}
 
 -- ---- tests of the bits
 
@@ -24,6 +38,24 @@ bit-test b w = pick (b / w % 2) (mod-lt (b / w) (zero-lt-suc 1))
     pick zero h = refl
     pick (suc zero) h = refl
     pick (suc (suc d)) h = absurd (not-suc-le-zero (le-of-suc-le-suc (le-of-suc-le-suc h)))
+
+odd-not-one : (d : ℕ) → d < 2 → (d ≡ 1 → ⊥) → odd d ≡ false
+odd-not-one zero h n = refl
+odd-not-one (suc d) h n = absurd (n (omega arith))
+
+pub bit-on : (b k : ℕ) → b / 2 ^ k % 2 ≡ 1 → has b k ≡ true
+unfolding has
+bit-on b k e = ap odd e
+
+pub bit-off : (b k : ℕ) → (b / 2 ^ k % 2 ≡ 1 → ⊥) → has b k ≡ false
+unfolding has
+bit-off b k n = odd-not-one (b / 2 ^ k % 2) (mod-lt (b / 2 ^ k) (zero-lt-suc 1)) n
+
+pub bit0-on : (b : ℕ) → b % 2 ≡ 1 → has b 0 ≡ true
+bit0-on b e = has-zero b ∙ ap odd e
+
+pub bit0-off : (b : ℕ) → (b % 2 ≡ 1 → ⊥) → has b 0 ≡ false
+bit0-off b n = has-zero b ∙ odd-not-one (b % 2) (mod-lt b (zero-lt-suc 1)) n
 
 -- `bits & m == m`
 pub needs-test : (b m : ℕ) → eqb (bitAnd b m) m ≡ needs m b
@@ -53,3 +85,286 @@ map-more f (y ∷ ys) x = ap (λ zs. f y ∷ zs) (map-more f ys x)
 -- an array with a count: one more record is set
 pub made-more : {A B : Type 0} (f : A → B) (xs : List A) (n : ℕ) (x : A) → n < length xs → map f (take (n + 1) (set xs n x)) ≡ map f (take n xs) ++ (f x ∷ [])
 made-more f xs n x h = ap (λ (k : ℕ). map f (take k (set xs n x))) (add-one n) ∙ ap (map f) (take-suc-set xs n x h) ∙ map-more f (take n xs) x
+
+pub past : (limit n : ℕ) → ltb limit (suc n) ≡ leb limit n
+past limit n = lib.Dec.leb·suc-suc limit n
+
+and-true : (t : Bool) → (t && true) ≡ t
+and-true true = refl
+and-true false = refl
+
+plain : (t f h : Bool) (z : ℕ) → cond t 2 (cond (not f || not h) 3 z) ≡ cond t 2 (cond (f && h) z 3)
+plain true f h z = refl
+plain false true true z = refl
+plain false true false z = refl
+plain false false h z = refl
+
+pub edge-adds : (P : Plan) (xs : List paper.Edge) (b : ℕ) (vs : List (List ℕ)) → addToPlan (raw 4 b vs) (withEdges P xs) ≡ withEdges P (xs ++ (paper.edgeOf (raw 4 b vs) ∷ []))
+unfolding addToPlan
+edge-adds P xs b vs = refl
+
+pub edge-judges : (headed : Bool) (P : Plan) (xs : List paper.Edge) (b : ℕ) (vs : List (List ℕ)) → Clean headed P → Unit {0}
+    → judgePlan (raw 4 b vs) (withEdges P (xs ++ (paper.edgeOf (raw 4 b vs) ∷ []))) ≡ judgement (length xs) 64 false (needs 15 b && headed) true
+unfolding judgePlan planFormats planCounts
+edge-judges headed P xs b vs c u =
+    rw (length-more xs (paper.edgeOf (raw 4 b vs)), past 64 (length xs), c .few, c .heads, c .rise, c .once) (plain (leb 64 (length xs) || false) (needs 15 b) headed 0)
+
+abbrev pub edgeKind : Kind paper.Edge
+edgeKind = record {
+  K = 4;
+  low = omega arith;
+  top = omega arith;
+  put = withEdges;
+  make = paper.edgeOf;
+  judge = λ headed xs b x. judgement (length xs) 64 false (needs 15 b && headed) true;
+  Fine = λ xs. Unit {0};
+  adds = edge-adds;
+  judges = edge-judges;
+}
+
+pub bar-adds : (P : Plan) (xs : List paper.Bar) (b : ℕ) (vs : List (List ℕ)) → addToPlan (raw 7 b vs) (withBars P xs) ≡ withBars P (xs ++ (barFrom (raw 7 b vs) ∷ []))
+unfolding addToPlan
+bar-adds P xs b vs = refl
+
+pub bar-judges : (headed : Bool) (P : Plan) (xs : List paper.Bar) (b : ℕ) (vs : List (List ℕ)) → Clean headed P → Unit {0}
+    → judgePlan (raw 7 b vs) (withBars P (xs ++ (barFrom (raw 7 b vs) ∷ []))) ≡ judgement (length xs) 32 false (needs 7 b && headed) true
+unfolding judgePlan planFormats planCounts
+bar-judges headed P xs b vs c u =
+    rw (length-more xs (barFrom (raw 7 b vs)), past 32 (length xs), c .few, c .heads, c .rise, c .once) (plain (leb 32 (length xs) || false) (needs 7 b) headed 0)
+
+abbrev pub barKind : Kind paper.Bar
+barKind = record {
+  K = 7;
+  low = omega arith;
+  top = omega arith;
+  put = withBars;
+  make = barFrom;
+  judge = λ headed xs b x. judgement (length xs) 32 false (needs 7 b && headed) true;
+  Fine = λ xs. Unit {0};
+  adds = bar-adds;
+  judges = bar-judges;
+}
+
+pub status-adds : (P : Plan) (xs : List paper.Status) (b : ℕ) (vs : List (List ℕ)) → addToPlan (raw 8 b vs) (withStatuses P xs) ≡ withStatuses P (xs ++ (statusFrom (raw 8 b vs) ∷ []))
+unfolding addToPlan
+status-adds P xs b vs = refl
+
+pub status-judges : (headed : Bool) (P : Plan) (xs : List paper.Status) (b : ℕ) (vs : List (List ℕ)) → Clean headed P → Unit {0}
+    → judgePlan (raw 8 b vs) (withStatuses P (xs ++ (statusFrom (raw 8 b vs) ∷ []))) ≡ judgement (length xs) 32 false (needs 7 b && headed) true
+unfolding judgePlan planFormats planCounts
+status-judges headed P xs b vs c u =
+    rw (length-more xs (statusFrom (raw 8 b vs)), past 32 (length xs), c .few, c .heads, c .rise, c .once) (plain (leb 32 (length xs) || false) (needs 7 b) headed 0)
+
+abbrev pub statusKind : Kind paper.Status
+statusKind = record {
+  K = 8;
+  low = omega arith;
+  top = omega arith;
+  put = withStatuses;
+  make = statusFrom;
+  judge = λ headed xs b x. judgement (length xs) 32 false (needs 7 b && headed) true;
+  Fine = λ xs. Unit {0};
+  adds = status-adds;
+  judges = status-judges;
+}
+
+pub attachment-adds : (P : Plan) (xs : List paper.Attachment) (b : ℕ) (vs : List (List ℕ)) → addToPlan (raw 6 b vs) (withAttachments P xs) ≡ withAttachments P (xs ++ (paper.attachmentOf (raw 6 b vs) ∷ []))
+unfolding addToPlan
+attachment-adds P xs b vs = refl
+
+pub attachment-judges : (headed : Bool) (P : Plan) (xs : List paper.Attachment) (b : ℕ) (vs : List (List ℕ)) → Clean headed P → Unit {0}
+    → judgePlan (raw 6 b vs) (withAttachments P (xs ++ (paper.attachmentOf (raw 6 b vs) ∷ []))) ≡ judgement (length xs) 32 false (needs 31 b && headed) true
+unfolding judgePlan planFormats planCounts
+attachment-judges headed P xs b vs c u =
+    rw (length-more xs (paper.attachmentOf (raw 6 b vs)), past 32 (length xs), c .few, c .heads, c .rise, c .once) (plain (leb 32 (length xs) || false) (needs 31 b) headed 0)
+
+abbrev pub attachmentKind : Kind paper.Attachment
+attachmentKind = record {
+  K = 6;
+  low = omega arith;
+  top = omega arith;
+  put = withAttachments;
+  make = paper.attachmentOf;
+  judge = λ headed xs b x. judgement (length xs) 32 false (needs 31 b && headed) true;
+  Fine = λ xs. Unit {0};
+  adds = attachment-adds;
+  judges = attachment-judges;
+}
+
+pub node-adds : (P : Plan) (xs : List paper.Node) (b : ℕ) (vs : List (List ℕ)) → addToPlan (raw 3 b vs) (withNodes P xs) ≡ withNodes P (xs ++ (paper.nodeOf (raw 3 b vs) ∷ []))
+unfolding addToPlan
+node-adds P xs b vs = refl
+
+pub node-judges : (headed : Bool) (P : Plan) (xs : List paper.Node) (b : ℕ) (vs : List (List ℕ)) → Clean headed P → Unit {0}
+    → judgePlan (raw 3 b vs) (withNodes P (xs ++ (paper.nodeOf (raw 3 b vs) ∷ []))) ≡ judgement (length xs) 256 false (single b && headed) true
+unfolding judgePlan planFormats planCounts
+node-judges headed P xs b vs c u =
+    rw (length-more xs (paper.nodeOf (raw 3 b vs)), past 256 (length xs), c .few, c .heads, c .rise, c .once) (plain (leb 256 (length xs) || false) (single b) headed 0)
+
+abbrev pub nodeKind : Kind paper.Node
+nodeKind = record {
+  K = 3;
+  low = omega arith;
+  top = omega arith;
+  put = withNodes;
+  make = paper.nodeOf;
+  judge = λ headed xs b x. judgement (length xs) 256 false (single b && headed) true;
+  Fine = λ xs. Unit {0};
+  adds = node-adds;
+  judges = node-judges;
+}
+
+pub heading-adds : (P : Plan) (xs : List paper.Heading) (b : ℕ) (vs : List (List ℕ)) → addToPlan (raw 1 b vs) (withHeadings P xs) ≡ withHeadings P (xs ++ (headingFrom (raw 1 b vs) ∷ []))
+unfolding addToPlan
+heading-adds P xs b vs = refl
+
+pub heading-judges : (headed : Bool) (P : Plan) (xs : List paper.Heading) (b : ℕ) (vs : List (List ℕ)) → Clean headed P → Unit {0}
+    → judgePlan (raw 1 b vs) (withHeadings P (xs ++ (headingFrom (raw 1 b vs) ∷ []))) ≡ judgement (length xs) 1 false (needs 1 b && true) true
+unfolding judgePlan planFormats planCounts
+heading-judges headed P xs b vs c u =
+    rw (length-more xs (headingFrom (raw 1 b vs)), past 1 (length xs), lib.Dec.eqb·suc-zero (length xs), c .few, c .rise, c .once) (plain (leb 1 (length xs) || false) (needs 1 b) true 0)
+
+abbrev pub headingKind : Kind paper.Heading
+headingKind = record {
+  K = 1;
+  low = omega arith;
+  top = omega arith;
+  put = withHeadings;
+  make = headingFrom;
+  judge = λ headed xs b x. judgement (length xs) 1 false (needs 1 b && true) true;
+  Fine = λ xs. Unit {0};
+  adds = heading-adds;
+  judges = heading-judges;
+}
+
+pub fact-adds : (P : Plan) (xs : List paper.Fact) (b : ℕ) (vs : List (List ℕ)) → addToPlan (raw 2 b vs) (withFacts P xs) ≡ withFacts P (xs ++ (factFrom (raw 2 b vs) ∷ []))
+unfolding addToPlan
+fact-adds P xs b vs = refl
+
+pub fact-judges : (headed : Bool) (P : Plan) (xs : List paper.Fact) (b : ℕ) (vs : List (List ℕ)) → Clean headed P → paper.factsRise xs ≡ true
+    → judgePlan (raw 2 b vs) (withFacts P (xs ++ (factFrom (raw 2 b vs) ∷ []))) ≡ judgement (length xs) 64 false (factBits b && headed) (paper.rises (lastFact xs) (factFrom (raw 2 b vs)))
+unfolding judgePlan planFormats planCounts
+fact-judges headed P xs b vs c g =
+    let x = factFrom (raw 2 b vs) in
+    rw (length-more xs x, past 64 (length xs), c .few, c .heads, rise-more xs x, g, c .once)
+    (plain (leb 64 (length xs) || false) (factBits b) headed (cond (paper.rises (lastFact xs) x && true) 0 5) ∙ ap (λ (t : Bool). judgement (length xs) 64 false (factBits b && headed) t) (and-true (paper.rises (lastFact xs) x)))
+
+abbrev pub factKind : Kind paper.Fact
+factKind = record {
+  K = 2;
+  low = omega arith;
+  top = omega arith;
+  put = withFacts;
+  make = factFrom;
+  judge = λ headed xs b x. judgement (length xs) 64 false (factBits b && headed) (paper.rises (lastFact xs) x);
+  Fine = λ xs. paper.factsRise xs ≡ true;
+  adds = fact-adds;
+  judges = fact-judges;
+}
+
+abbrev pub once : paper.Cut → Bool
+once x = paper.decidedOnce (x .decisions)
+
+pub cut-adds : (P : Plan) (xs : List paper.Cut) (b : ℕ) (vs : List (List ℕ)) → addToPlan (raw 5 b vs) (withCuts P xs) ≡ withCuts P (xs ++ (paper.cutOf (raw 5 b vs) ∷ []))
+unfolding addToPlan
+cut-adds P xs b vs = refl
+
+abbrev pub cutJudge : Bool → List paper.Cut → ℕ → paper.Cut → ℕ
+cutJudge headed xs b x = judgement (length xs) 16 (ltb 16 (paper.unresolved xs + paper.unresolvedIn (x .decisions))) (needs 7 b && headed) (once x)
+
+pub cut-judges : (headed : Bool) (P : Plan) (xs : List paper.Cut) (b : ℕ) (vs : List (List ℕ)) → Clean headed P → allOf once xs ≡ true
+    → judgePlan (raw 5 b vs) (withCuts P (xs ++ (paper.cutOf (raw 5 b vs) ∷ []))) ≡ cutJudge headed xs b (paper.cutOf (raw 5 b vs))
+unfolding judgePlan planFormats planCounts
+cut-judges headed P xs b vs c g =
+    let x = paper.cutOf (raw 5 b vs) in
+    rw (length-more xs x, past 16 (length xs), unresolved-more xs x, c .heads, c .rise, all-more once xs x, g)
+    (plain (leb 16 (length xs) || ltb 16 (paper.unresolved xs + paper.unresolvedIn (x .decisions))) (needs 7 b) headed (cond (once x) 0 5))
+
+abbrev pub cutKind : Kind paper.Cut
+cutKind = record {
+  K = 5;
+  low = omega arith;
+  top = omega arith;
+  put = withCuts;
+  make = paper.cutOf;
+  judge = cutJudge;
+  Fine = λ xs. allOf once xs ≡ true;
+  adds = cut-adds;
+  judges = cut-judges;
+}
+
+-- ---- what `judged` says
+
+pub judge-same : (limit n m : ℕ) (o o′ f g h d d′ : Bool) {r : ℕ} → r ≡ judgement n limit o (f && h) d → m ≡ n → o ≡ o′ → f ≡ g → d ≡ d′ → r ≡ judgement m limit o′ (g && h) d′
+judge-same limit n m o o′ f g h d d′ e a b q z = e ∙ ap₂ (λ (x : ℕ) (y : Bool). judgement x limit y (f && h) d) (sym a) b ∙ ap₂ (λ (x y : Bool). judgement m limit o′ (x && h) y) q z
+
+-- ---- what no refusal says
+
+module _ (limit n : ℕ) (over fits sound : Bool) (e : judgement n limit over fits sound ≡ 0) where
+  fine-parts : (over ≡ false) × (fits ≡ true) × (sound ≡ true)
+  fine-parts = pick (leb limit n) over fits sound e
+    where
+      pick : (t o f d : Bool) → _≡_ {A = ℕ} (cond (t || o) 2 (cond f (cond d 0 5) 3)) 0 → (o ≡ false) × (f ≡ true) × (d ≡ true)
+      pick true o f d q = absurd (omega (arith, q))
+      pick false true f d q = absurd (omega (arith, q))
+      pick false false true true q = (refl, refl, refl)
+      pick false false true false q = absurd (omega (arith, q))
+      pick false false false d q = absurd (omega (arith, q))
+
+  pub not-over : over ≡ false
+  not-over = fine-parts .0
+
+  pub it-fits : fits ≡ true
+  it-fits = fine-parts .1
+
+  pub is-sound : sound ≡ true
+  is-sound = fine-parts .2
+
+pub and-left : (x y : Bool) → (x && y) ≡ true → x ≡ true
+and-left true y e = refl
+and-left false y e = absurd (mathlib.Core.Bool.false≢true e)
+
+-- a boolean fact has no tuple
+pub no-tuple : (b k : ℕ) → factBits b ≡ true → not (eqb (b % 2) 1) ≡ true → (eqb (b / 2 % 2) 1 ≡ false → k ≡ 0) → k ≡ 0
+no-tuple b k f g h = pick (eqb b 3) refl (eqb b 0) refl f
+  where
+    pick : (x : Bool) → eqb b 3 ≡ x → (y : Bool) → eqb b 0 ≡ y → (x || y) ≡ true → k ≡ 0
+    pick true e y q z = absurd (mathlib.Core.Bool.true≢false (sym g ∙ ap (λ (v : ℕ). not (eqb (v % 2) 1)) (eqb-true b 3 e)))
+    pick false e true q z = h (ap (λ (v : ℕ). eqb (v / 2 % 2) 1) (eqb-true b 0 q))
+    pick false e false q z = absurd (mathlib.Core.Bool.false≢true z)
+
+pub not-not : (t : Bool) → not (not t) ≡ t
+not-not true = refl
+not-not false = refl
+
+-- ---- the heading's list of none or one
+
+pub heading-count : (n : ℕ) (x : paper.Heading) → n ≤ 1 → length (take n (x ∷ [])) ≡ n
+heading-count zero x h = refl
+heading-count (suc zero) x h = refl
+heading-count (suc (suc n)) x h = absurd (omega arith)
+
+pub heading-none : (n : ℕ) (x : paper.Heading) → n < 1 → take n (x ∷ []) ≡ []
+heading-none zero x h = refl
+heading-none (suc n) x h = absurd (omega arith)
+
+-- the fact that the code keeps
+pub fact-is : (s : List ℕ) (b f at k : ℕ) (ts : List ℕ) → take k ts ≡ span s at k
+    → decoded.factOf (record { boolean = not (eqb (b % 2) 1); family = f; count = k; tuple = ts }) ≡ record { family = given (eqb (b % 2) 1) f; tuple = span s at k }
+unfolding decoded.factOf
+fact-is s b f at k ts e = ap₂ (λ (t : Bool) (xs : List ℕ). record { family = given t f; tuple = xs }) (not-not (eqb (b % 2) 1)) e
+
+-- the cut that the code keeps
+pub cut-is : (m c t : ℕ) (e : Election) (d : Decisions) (n : Numbers) {ds : List paper.Decision} {ns : List ℕ} → decoded.decisionsOf d ≡ ds → decoded.numbersOf n ≡ ns
+    → decoded.cutOf (record { members = m; condition = c; citation = t; election = e; decisions = d; precedes = n })
+    ≡ record { members = m; condition = c; citation = t; election = decoded.electionOf e; decisions = ds; precedes = ns }
+unfolding decoded.cutOf
+cut-is m c t e d n a b = ap₂ (λ (x : List paper.Decision) (y : List ℕ). record { members = m; condition = c; citation = t; election = decoded.electionOf e; decisions = x; precedes = y }) a b
+
+-- a limit that is not passed
+pub room-left : (limit n : ℕ) (over : Bool) → (leb limit n || over) ≡ false → n < limit
+room-left limit n over e = pick (leb limit n) refl e
+  where
+    pick : (t : Bool) → leb limit n ≡ t → (t || over) ≡ false → n < limit
+    pick true h q = absurd (mathlib.Core.Bool.true≢false q)
+    pick false h q = leb-false limit n h

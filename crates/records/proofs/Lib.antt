@@ -24,3 +24,8 @@ pub mod CaseKinds
 pub mod CaseLoop
 pub mod CaseFaults
 pub mod Pairs
+pub mod Listing
+pub mod Passing
+pub mod FactLaws
+pub mod DecisionLaws
+pub mod PlanLaws

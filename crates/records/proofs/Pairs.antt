@@ -1,37 +1,13 @@
 -- Copying the pairs of a list out of the bytes, one after another, whatever a pair makes. Assumes nothing.
 use mathlib.Core.Path.{_≡_, refl, sym, ap, ap₂, _∙_}
-use mathlib.Core.List.{List, [], _∷_, _++_, map}
+use mathlib.Core.List.{List, [], _∷_, _++_}
 use Prim.Native.Nat.{ℕ, zero, suc, _+_, _*_, _≤_, _<_}
-use native.Mathlib.Numerals.{add-one}
 use native.Mathlib.Omega.{arith}
 use lib.ListN.{length, getD, set}
 use lib.Seq.{getD-set-same, getD-set-other}
-use Rattle.records.specs.Sets.{numbers, below}
+use Rattle.records.specs.Sets.{below}
 use Rattle.records.specs.Readers.{span}
-
--- ---- f 0 … f (n − 1), one more, and for an equal f
-
-numbers-suc : (n k : ℕ) → numbers (suc n) k ≡ numbers n k ++ ((k + n) ∷ [])
-unfolding numbers
-numbers-suc zero k = ap (λ (x : ℕ). x ∷ []) (omega arith)
-numbers-suc (suc n) k = ap (λ (xs : List ℕ). k ∷ xs) (numbers-suc n (suc k) ∙ ap (λ (x : ℕ). numbers n (suc k) ++ (x ∷ [])) (omega arith))
-
-map-more : {A B : Type 0} (f : A → B) (xs : List A) (x : A) → map f (xs ++ (x ∷ [])) ≡ map f xs ++ (f x ∷ [])
-map-more f [] x = refl
-map-more f (y ∷ ys) x = ap (λ zs. f y ∷ zs) (map-more f ys x)
-
-below-more : {A : Type 0} (n : ℕ) (f : ℕ → A) → below (n + 1) f ≡ below n f ++ (f n ∷ [])
-unfolding below
-below-more n f = ap (λ (k : ℕ). map f (numbers k 0)) (add-one n) ∙ ap (map f) (numbers-suc n 0) ∙ map-more f (numbers n 0) (0 + n) ∙ ap (λ (x : ℕ). map f (numbers n 0) ++ (f x ∷ [])) (omega arith)
-
-numbers-ext : {A : Type 0} (f g : ℕ → A) (n k : ℕ) → ((i : ℕ) → i < k + n → f i ≡ g i) → map f (numbers n k) ≡ map g (numbers n k)
-unfolding numbers
-numbers-ext f g zero k h = refl
-numbers-ext f g (suc n) k h = ap₂ _∷_ (h k (omega arith)) (numbers-ext f g n (suc k) (λ i l. h i (omega arith)))
-
-below-ext : {A : Type 0} (n : ℕ) (f g : ℕ → A) → ((i : ℕ) → i < n → f i ≡ g i) → below n f ≡ below n g
-unfolding below
-below-ext n f g h = numbers-ext f g n 0 (λ i l. h i (omega arith))
+use Rattle.records.proofs.Listing.{below-more, below-ext}
 
 -- ---- pairs: `all` takes the bytes two by two
 

@@ -10,7 +10,7 @@ use Rattle.records.specs.Decoded.{given}
 use Rattle.records.specs.Readers.{mapRead, first, fieldIf}
 use Rattle.records.specs.CaseSteps.{rawOf, Taken, takenBy}
 use Rattle.records.proofs.Reading.{byte-next, byte-in, bad-got, got-inj, found}
-use Rattle.records.proofs.Chain.{fields-next}
+use Rattle.records.proofs.Chain.{raw, fields-next, one-given}
 
 module _ (fs : List Format) (kind : ℕ) (s : List ℕ) (at : ℕ) where
   pub raw-got : {b p q : ℕ} {vs : List (List ℕ)} → byteAt s at number ≡ got b p → fieldsAt s p b (formatOf fs kind .fields) ≡ got vs q
@@ -26,21 +26,10 @@ module _ (fs : List Format) (kind : ℕ) (s : List ℕ) (at : ℕ) where
 -- a field of one byte that may be absent
 pub given-of : (b : Bool) (s : List ℕ) (at : ℕ) (r : Range) {v p : ℕ} → mapRead first (fieldIf b s at (bytes (r ∷ []))) ≡ got v p
     → fieldIf b s at (bytes (r ∷ [])) ≡ got (given b v) p
-unfolding fieldAt bytesAt
-given-of false s at r {v = v} {p = p} e = ap (got []) (got-inj e .1)
-given-of true s at r {v = v} {p = p} e = pick (byteAt s at r) e
-  where
-    after : Read ℕ → Read (List ℕ)
-    after x = andThen x (λ b p. got (b ∷ []) p)
-
-    pick : (x : Read ℕ) → mapRead first (after x) ≡ got v p → after x ≡ got (v ∷ []) p
-    pick (got b q) e = rw (got-inj e .0, got-inj e .1)
-    pick bad e = bad-got e
+given-of b s at r {p = p} e =
+    let f = found first (fieldIf b s at (bytes (r ∷ []))) e in f .is ∙ ap (λ (bs : List ℕ). got bs p) (one-given s at b r (f .is) (f .means))
 
 -- ---- where a record that was read ends
-
-abbrev pub raw : ℕ → ℕ → List (List ℕ) → Raw
-raw kind b vs = record { kind = kind; bits = b; fields = vs }
 
 pub record Whole (kind at : ℕ) (w : Raw) (p : ℕ) : Type 0 where
   pub is : w ≡ raw kind (w .bits) (w .fields)

@@ -7,6 +7,7 @@ pub mod Readers
 pub mod Passes
 pub mod CaseSteps
 pub mod CaseNamed
+pub mod PlanRead
 pub mod Sound
 pub mod Check
 pub mod Named

@@ -52,7 +52,7 @@ fn add_heading(s: &[u8], at: usize, case: Case) -> CaseStep
             case: case,
         };
     };
-    let number = judged(case.headings, 1, bits & 81 == 81, true);
+    let number = judged(case.headings, 1, false, bits & 81 == 81, true, true);
     if number != 0 {
         return CaseStep {
             number: number,
@@ -99,7 +99,7 @@ fn add_family(s: &[u8], at: usize, case: Case) -> CaseStep
     };
     let mut families = case.families;
     let n = families.count;
-    let fault = judged(n, 16, bits & 1 == 1, case.headings != 0);
+    let fault = judged(n, 16, false, bits & 1 == 1, case.headings != 0, true);
     if fault != 0 {
         return CaseStep {
             number: fault,
@@ -164,7 +164,7 @@ fn add_boolean(s: &[u8], at: usize, case: Case) -> CaseStep
     };
     let mut booleans = case.booleans;
     let n = booleans.count;
-    let fault = judged(n, 64, bits & 1 == 1, case.headings != 0);
+    let fault = judged(n, 64, false, bits & 1 == 1, case.headings != 0, true);
     if fault != 0 {
         return CaseStep {
             number: fault,
@@ -208,7 +208,7 @@ fn add_relation(s: &[u8], at: usize, case: Case) -> CaseStep
     };
     let mut relations = case.relations;
     let n = relations.count;
-    let fault = judged(n, 256, bits & 7 == 7, case.headings != 0);
+    let fault = judged(n, 256, false, bits & 7 == 7, case.headings != 0, true);
     if fault != 0 {
         return CaseStep {
             number: fault,
@@ -243,7 +243,7 @@ fn add_constraint(s: &[u8], at: usize, case: Case) -> CaseStep
     };
     let mut constraints = case.constraints;
     let n = constraints.count;
-    let fault = judged(n, 16, bits & 1 == 1, case.headings != 0);
+    let fault = judged(n, 16, false, bits & 1 == 1, case.headings != 0, true);
     if fault != 0 {
         return CaseStep {
             number: fault,

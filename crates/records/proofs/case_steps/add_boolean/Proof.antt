@@ -8,9 +8,10 @@ use denote.Ref.{now}
 use lib.ListN.{length, take, length-map}
 use Rattle.records.specs.Decoded.{given, caseOf, caseHeadingOf, booleanOf}
 use Rattle.records.specs.CaseSteps.{booleanRead}
+use Rattle.records.proofs.ListLaws.{length-front}
 use Rattle.records.proofs.Reading.{seen}
 use Rattle.records.proofs.KindLaws.{made-more}
-use Rattle.records.proofs.CaseKinds.{booleans, reads-bad, reads-refused, reads-joined, count-judged, headed-is, length-kept}
+use Rattle.records.proofs.CaseKinds.{booleans, reads-bad, reads-refused, reads-joined, count-judged, headed-is}
 use Rattle.records.specs.Case as paper
 use borrow.Author.Needs.{needs}
 use Rattle.records.proofs.case_steps.add_boolean.Statement.{statement}
@@ -39,7 +40,7 @@ returns-2 c =
     let s = now (a .s) in
     let seen-is = seen (booleanRead s) (c .before .before .before .before .before .before .before .boolean-at .ensures .0) (c .before .before .before .before .before .bits .given .1) in
     let wide : length (a .case .booleans .items) ≡ 64 = simp length-map at (c .before .before .before .before .before .before .before .before .before .good .1 .1 .0 .1 .1 .1 .1 .1 .0 .1 .1 .1 .0 .1 .0 .1) in
-    let long = length-kept booleanOf (a .case .booleans .items) (a .case .booleans .count) 64 wide in
+    let long = length-front booleanOf (a .case .booleans .items) (a .case .booleans .count) 64 wide in
     let fault = count-judged booleans (caseOf (a .case)) (a .case .booleans .count) (c .before .before .before .before .before .bits .given .0 .0) _ long (headed-is (a .case .headings) (caseHeadingOf (a .case .heading))) (c .before .judged .ensures .0) in
     reads-refused booleans s (a .at) (caseOf (a .case)) seen-is _ fault (c .if1 .taken) _
 
@@ -62,7 +63,7 @@ returns-3 c =
     let s = now (a .s) in
     let seen-is = seen (booleanRead s) (c .before .before .before .before .before .before .before .before .boolean-at .ensures .0) (c .before .before .before .before .before .before .bits .given .1) in
     let wide : length (a .case .booleans .items) ≡ 64 = simp length-map at (c .before .before .before .before .before .before .before .before .before .before .good .1 .1 .0 .1 .1 .1 .1 .1 .0 .1 .1 .1 .0 .1 .0 .1) in
-    let long = length-kept booleanOf (a .case .booleans .items) (a .case .booleans .count) 64 wide in
+    let long = length-front booleanOf (a .case .booleans .items) (a .case .booleans .count) 64 wide in
     let fault = count-judged booleans (caseOf (a .case)) (a .case .booleans .count) (c .before .before .before .before .before .before .bits .given .0 .0) _ long (headed-is (a .case .headings) (caseHeadingOf (a .case .heading))) (c .before .before .judged .ensures .0) in
     let under = c .before .before .judged .ensures .1 (c .before .if1 .left) in
     let grow = made-more booleanOf (a .case .booleans .items) (a .case .booleans .count) _ (omega (arith, under, wide)) in

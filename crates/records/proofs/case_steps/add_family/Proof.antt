@@ -5,9 +5,10 @@ use denote.Ref.{now}
 use lib.ListN.{length, length-map}
 use Rattle.records.specs.Decoded.{caseOf, caseHeadingOf, familyOf}
 use Rattle.records.specs.CaseSteps.{familyRead}
+use Rattle.records.proofs.ListLaws.{length-front}
 use Rattle.records.proofs.Reading.{seen}
 use Rattle.records.proofs.KindLaws.{made-more}
-use Rattle.records.proofs.CaseKinds.{families, reads-bad, reads-refused, reads-joined, count-judged, headed-is, length-kept}
+use Rattle.records.proofs.CaseKinds.{families, reads-bad, reads-refused, reads-joined, count-judged, headed-is}
 use borrow.Author.Needs.{needs}
 use Rattle.records.proofs.case_steps.add_family.Statement.{statement}
 use Rattle.records.proofs.case_steps.add_family.Tie as tie
@@ -35,7 +36,7 @@ returns-2 c =
     let s = now (a .s) in
     let seen-is = seen familyRead (c .before .before .before .before .before .before .before .family-at .ensures) (c .before .before .before .before .before .bits .given .1) in
     let wide : length (a .case .families .items) ≡ 16 = simp length-map at (c .before .before .before .before .before .before .before .before .before .good .1 .1 .0 .1 .1 .1 .1 .0 .1 .1 .1 .0 .1 .0 .1) in
-    let long = length-kept familyOf (a .case .families .items) (a .case .families .count) 16 wide in
+    let long = length-front familyOf (a .case .families .items) (a .case .families .count) 16 wide in
     let fault = count-judged families (caseOf (a .case)) (a .case .families .count) (c .before .before .before .before .before .bits .given .0 .0) _ long (headed-is (a .case .headings) (caseHeadingOf (a .case .heading))) (c .before .judged .ensures .0) in
     reads-refused families s (a .at) (caseOf (a .case)) seen-is _ fault (c .if1 .taken) _
 
@@ -55,7 +56,7 @@ returns-3 c =
     let s = now (a .s) in
     let seen-is = seen familyRead (c .before .before .before .before .before .before .before .family-at .ensures) (c .before .before .before .before .before .bits .given .1) in
     let wide : length (a .case .families .items) ≡ 16 = simp length-map at (c .before .before .before .before .before .before .before .before .before .good .1 .1 .0 .1 .1 .1 .1 .0 .1 .1 .1 .0 .1 .0 .1) in
-    let long = length-kept familyOf (a .case .families .items) (a .case .families .count) 16 wide in
+    let long = length-front familyOf (a .case .families .items) (a .case .families .count) 16 wide in
     let fault = count-judged families (caseOf (a .case)) (a .case .families .count) (c .before .before .before .before .before .bits .given .0 .0) _ long (headed-is (a .case .headings) (caseHeadingOf (a .case .heading))) (c .before .judged .ensures .0) in
     let under = c .before .judged .ensures .1 (c .if1 .left) in
     reads-joined families s (a .at) (caseOf (a .case)) seen-is _ fault (c .if1 .left) _ (ap (families .put (caseOf (a .case))) (made-more familyOf (a .case .families .items) (a .case .families .count) _ (omega (arith, under, wide))))

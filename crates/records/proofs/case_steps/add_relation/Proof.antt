@@ -5,9 +5,10 @@ use denote.Ref.{now}
 use lib.ListN.{length, length-map}
 use Rattle.records.specs.Decoded.{caseOf, caseHeadingOf, relationOf}
 use Rattle.records.specs.CaseSteps.{relationRead}
+use Rattle.records.proofs.ListLaws.{length-front}
 use Rattle.records.proofs.Reading.{seen}
 use Rattle.records.proofs.KindLaws.{made-more}
-use Rattle.records.proofs.CaseKinds.{relations, reads-bad, reads-refused, reads-joined, count-judged, headed-is, length-kept}
+use Rattle.records.proofs.CaseKinds.{relations, reads-bad, reads-refused, reads-joined, count-judged, headed-is}
 use borrow.Author.Needs.{needs}
 use Rattle.records.proofs.case_steps.add_relation.Statement.{statement}
 use Rattle.records.proofs.case_steps.add_relation.Tie as tie
@@ -35,7 +36,7 @@ returns-2 c =
     let s = now (a .s) in
     let seen-is = seen relationRead (c .before .before .before .before .before .before .before .relation-at .ensures) (c .before .before .before .before .before .bits .given .1) in
     let wide : length (a .case .relations .items) ≡ 256 = simp length-map at (c .before .before .before .before .before .before .before .before .before .good .1 .1 .0 .1 .1 .1 .1 .1 .1 .0 .1 .1 .1 .0 .1 .0 .1) in
-    let long = length-kept relationOf (a .case .relations .items) (a .case .relations .count) 256 wide in
+    let long = length-front relationOf (a .case .relations .items) (a .case .relations .count) 256 wide in
     let fault = count-judged relations (caseOf (a .case)) (a .case .relations .count) (c .before .before .before .before .before .bits .given .0 .0) _ long (headed-is (a .case .headings) (caseHeadingOf (a .case .heading))) (c .before .judged .ensures .0) in
     reads-refused relations s (a .at) (caseOf (a .case)) seen-is _ fault (c .if1 .taken) _
 
@@ -55,7 +56,7 @@ returns-3 c =
     let s = now (a .s) in
     let seen-is = seen relationRead (c .before .before .before .before .before .before .before .relation-at .ensures) (c .before .before .before .before .before .bits .given .1) in
     let wide : length (a .case .relations .items) ≡ 256 = simp length-map at (c .before .before .before .before .before .before .before .before .before .good .1 .1 .0 .1 .1 .1 .1 .1 .1 .0 .1 .1 .1 .0 .1 .0 .1) in
-    let long = length-kept relationOf (a .case .relations .items) (a .case .relations .count) 256 wide in
+    let long = length-front relationOf (a .case .relations .items) (a .case .relations .count) 256 wide in
     let fault = count-judged relations (caseOf (a .case)) (a .case .relations .count) (c .before .before .before .before .before .bits .given .0 .0) _ long (headed-is (a .case .headings) (caseHeadingOf (a .case .heading))) (c .before .judged .ensures .0) in
     let under = c .before .judged .ensures .1 (c .if1 .left) in
     reads-joined relations s (a .at) (caseOf (a .case)) seen-is _ fault (c .if1 .left) _ (ap (relations .put (caseOf (a .case))) (made-more relationOf (a .case .relations .items) (a .case .relations .count) _ (omega (arith, under, wide))))

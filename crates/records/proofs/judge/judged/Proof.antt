@@ -1,27 +1,40 @@
--- Past the limit, then wrong bits or no heading. Assumes nothing.
+-- Past a limit, then wrong bits or no heading, then unsound. Assumes nothing.
+use mathlib.Core.Path.{sym, _∙_}
+use mathlib.Core.Bool.{_&&_}
 use native.Mathlib.Omega.{arith}
-use borrow.Author.Tests.{le-leb, lt-leb}
 use borrow.Author.Needs.{needs}
+use borrow.Author.Tests.{not-true, not-false}
+use Rattle.records.proofs.KindLaws.{room-left}
 use Rattle.records.proofs.judge.judged.Statement.{statement}
 use Rattle.records.proofs.judge.judged.Tie as tie
 use Rattle.records.proofs.judge.judged.Reads as reads
 use Rattle.records.proofs.judge.judged.Lts as lts
 
--- src/judge.rt:10:9
+past-requires : tie.Need-past-requires
+past-requires c κs = search needs
+
+unsuited-requires : tie.Need-unsuited-requires
+unsuited-requires c κs = search needs
+
 returns : tie.Need-returns
-returns c = (rw (le-leb _ _ (c .if1 .taken)), λ z. omega (arith, z))
+returns c = (rw (sym (c .before .before .past .ensures) ∙ c .if1 .taken), λ z. omega (arith, z))
 
--- src/judge.rt:14:13
 returns-2 : tie.Need-returns-2
-returns-2 c = (rw (lt-leb _ _ (c .before .before .if1 .left), c .before .if2 .taken, c .if3 .taken), λ z. c .before .before .if1 .left)
+returns-2 c =
+    let a = c .before .before .before .before .args in
+    (rw (sym (c .before .before .before .past .ensures) ∙ c .before .if1 .left, not-true (a .fits && a .headed) (sym (c .before .before .unsuited .ensures) ∙ c .if2 .taken)), λ z. omega (arith, z))
 
--- src/judge.rt:6:1
 returns-3 : tie.Need-returns-3
-returns-3 c = (rw (lt-leb _ _ (c .before .before .if1 .left), c .before .if2 .taken, c .if3 .left), λ z. c .before .before .if1 .left)
+returns-3 c =
+    let a = c .before .before .before .before .before .args in
+    let p = sym (c .before .before .before .before .past .ensures) ∙ c .before .before .if1 .left in
+    (rw (p, not-false (a .fits && a .headed) (sym (c .before .before .before .unsuited .ensures) ∙ c .before .if2 .left), c .if3 .taken), λ z. room-left (a .limit) (a .n) (a .over) p)
 
--- src/judge.rt:6:1
 returns-4 : tie.Need-returns-4
-returns-4 c = (rw (lt-leb _ _ (c .before .if1 .left), c .if2 .left), λ z. c .before .if1 .left)
+returns-4 c =
+    let a = c .before .before .before .before .before .args in
+    let p = sym (c .before .before .before .before .past .ensures) ∙ c .before .before .if1 .left in
+    (rw (p, not-false (a .fits && a .headed) (sym (c .before .before .before .unsuited .ensures) ∙ c .before .if2 .left), c .if3 .left), λ z. omega (arith, z))
 
 pub judged-spec : {M : Type 1} → statement M
-judged-spec = tie.close (tie.spec returns returns-2 returns-3 returns-4)
+judged-spec = tie.close (tie.spec past-requires unsuited-requires returns returns-2 returns-3 returns-4)

@@ -1,0 +1,40 @@
+-- Booleans first, then by family and tuple. Assumes nothing.
+use mathlib.Core.Path.{_≡_, refl, sym, _∙_, ap}
+use borrow.Author.Tests.{eq-eqb, ne-eqb}
+use Rattle.records.specs.Sets.{lexLess}
+use Rattle.records.specs.Plan.{rises, isBoolean}
+use Rattle.records.specs.Decoded.{factOf}
+use Rattle.records.proofs.FactLaws.{is-boolean}
+use borrow.Author.Needs.{needs}
+use Rattle.records.proofs.fact_order.fact_rises.Statement.{statement}
+use Rattle.records.proofs.fact_order.fact_rises.Tie as tie
+use Rattle.records.proofs.fact_order.fact_rises.Reads as reads
+use Rattle.records.proofs.fact_order.fact_rises.Lts as lts
+use Rattle.records.proofs.fact_order.tuple_less.Reads as tuple-less-reads
+
+-- src/fact_order.rt:36:9
+returns : tie.Need-returns
+unfolding rises isBoolean factOf lexLess
+returns c = rw (c .if1 .taken) (sym (is-boolean (c .before .args .a .boolean) (c .before .args .a .family)))
+
+-- src/fact_order.rt:39:9
+returns-2 : tie.Need-returns-2
+unfolding rises isBoolean factOf lexLess
+returns-2 c = rw (c .before .if1 .left, c .if2 .taken, c .before .before .pre .2 (c .if2 .taken))
+
+-- src/fact_order.rt:42:9
+returns-3 : tie.Need-returns-3
+unfolding rises isBoolean factOf lexLess
+returns-3 c = rw (c .before .before .before .before .before .before .if1 .left, c .before .before .before .before .before .if2 .left, ne-eqb _ _ (c .before .before .if3 .taken))
+
+-- src/fact_order.rt:46:5
+tuple-less-requires : tie.Need-tuple-less-requires
+tuple-less-requires c κs = search needs
+
+-- src/fact_order.rt:31:1
+returns-4 : tie.Need-returns-4
+unfolding rises isBoolean factOf lexLess
+returns-4 c = rw (c .before .before .before .before .before .before .before .if1 .left, c .before .before .before .before .before .before .if2 .left, eq-eqb _ _ (c .before .before .before .if3 .left)) (c .tuple-less .ensures)
+
+pub fact-rises-spec : {M : Type 1} → statement M
+fact-rises-spec = tie.close (tie.spec returns returns-2 returns-3 tuple-less-requires returns-4)

@@ -1,0 +1,15 @@
+-- Wrong bits, or no heading. Assumes nothing.
+use borrow.Author.Needs.{needs}
+use Rattle.records.proofs.judge.unsuited.Statement.{statement}
+use Rattle.records.proofs.judge.unsuited.Tie as tie
+use Rattle.records.proofs.judge.unsuited.Reads as reads
+use Rattle.records.proofs.judge.unsuited.Lts as lts
+
+returns : tie.Need-returns
+returns c = rw (c .if1 .taken)
+
+returns-2 : tie.Need-returns-2
+returns-2 c = rw (c .if1 .left)
+
+pub unsuited-spec : {M : Type 1} → statement M
+unsuited-spec = tie.close (tie.spec returns returns-2)

@@ -1,0 +1,145 @@
+-- Bar from its bit map on. Assumes nothing.
+use mathlib.Core.Path.{_≡_, refl, sym, _∙_, ap}
+use mathlib.Core.List.{[], _∷_}
+use native.Mathlib.Omega.{arith}
+use Prim.Native.Nat.{_/_, _%_}
+use lib.Dec.{eqb}
+use denote.Ref.{now}
+use Rattle.records.specs.Fields.{little}
+use Rattle.records.specs.Plan as paper
+use Rattle.records.specs.Readers.{fieldRead, wideRead, electionRead, listRead, pairsRead, mapRead, first}
+use Rattle.records.specs.Passes.{seenBy, barFrom}
+use Rattle.records.proofs.Reading.{seen, found, none}
+use Rattle.records.proofs.Chain.{more, skip, stop, last, unknown, no-field, half-of, raw-got, raw-bits, raw-bad}
+use borrow.Author.Needs.{needs}
+use Rattle.records.proofs.read_bars.bar_at.Statement.{statement}
+use Rattle.records.proofs.read_bars.bar_at.Tie as tie
+use Rattle.records.proofs.read_bars.bar_at.Reads as reads
+use Rattle.records.proofs.read_bars.bar_at.Lts as lts
+use Rattle.records.proofs.fields.byte_at.Reads as byte-at-reads
+use Rattle.records.proofs.fields.mask_at.Reads as mask-at-reads
+use Rattle.records.proofs.fields.opt_at.Reads as opt-at-reads
+
+-- src/read_bars.rt:25:47
+byte-at-requires : tie.Need-byte-at-requires
+byte-at-requires c κs = search needs
+
+-- src/read_bars.rt:25:29
+enum-known-bits : tie.Need-enum-known-bits
+enum-known-bits c = search needs
+
+-- src/read_bars.rt:26:9
+enum-told : tie.Need-enum-told
+enum-told c = search needs
+
+-- src/read_bars.rt:26:9
+returns : tie.Need-returns
+returns c = sym (ap (mapRead (seenBy barFrom)) (raw-bits 7 (now (c .before .before .before .before .args .s)) (c .before .before .before .before .args .at) (seen fieldRead (c .before .before .byte-at .ensures) (c .enum-told .given .1))))
+
+-- src/read_bars.rt:28:50
+mask-at-requires : tie.Need-mask-at-requires
+mask-at-requires c κs = search needs
+
+-- src/read_bars.rt:28:28
+enum-known-members : tie.Need-enum-known-members
+enum-known-members c = search needs
+
+-- src/read_bars.rt:29:9
+enum-told-2 : tie.Need-enum-told-2
+enum-told-2 c = search needs
+
+-- src/read_bars.rt:29:9
+returns-2 : tie.Need-returns-2
+unfolding paper.planFormats
+returns-2 c =
+    sym (ap (mapRead (seenBy barFrom)) (raw-bad 7 (now (c .before .before .before .before .before .before .before .before .args .s)) (c .before .before .before .before .before .before .before .before .args .at) (seen fieldRead (c .before .before .before .before .before .before .byte-at .ensures) (c .before .before .before .before .bits .given .1))
+    (stop _ _ _ _ refl _ _ (none little _ (seen wideRead (c .before .before .mask-at .ensures) (c .enum-told2 .given .1))))))
+
+-- src/read_bars.rt:31:53
+opt-at-requires : tie.Need-opt-at-requires
+opt-at-requires c κs = search needs
+
+-- src/read_bars.rt:31:29
+enum-known-condition : tie.Need-enum-known-condition
+enum-known-condition c = search needs
+
+-- src/read_bars.rt:32:9
+enum-told-3 : tie.Need-enum-told-3
+enum-told-3 c = search needs
+
+-- src/read_bars.rt:32:9
+returns-3 : tie.Need-returns-3
+unfolding paper.planFormats
+returns-3 c =
+    sym (ap (mapRead (seenBy barFrom)) (raw-bad 7 (now (c .before .before .before .before .before .before .before .before .before .before .before .before .args .s)) (c .before .before .before .before .before .before .before .before .before .before .before .before .args .at) (seen fieldRead (c .before .before .before .before .before .before .before .before .before .before .byte-at .ensures) (c .before .before .before .before .before .before .before .before .bits .given .1))
+    (skip _ _ _ _ refl _ _ (found little _ (seen wideRead (c .before .before .before .before .before .before .mask-at .ensures) (c .before .before .before .before .members .given .1)) .is)
+    (stop _ _ _ _ (half-of _ 2) _ _ (none first _ (seen fieldRead (c .before .before .opt-at .ensures) (c .enum-told3 .given .1)))))))
+
+-- src/read_bars.rt:34:54
+opt-at-requires-2 : tie.Need-opt-at-requires-2
+opt-at-requires-2 c κs = search needs
+
+-- src/read_bars.rt:34:29
+enum-known-citation : tie.Need-enum-known-citation
+enum-known-citation c = search needs
+
+-- src/read_bars.rt:35:9
+enum-told-4 : tie.Need-enum-told-4
+enum-told-4 c = search needs
+
+-- src/read_bars.rt:35:9
+returns-4 : tie.Need-returns-4
+unfolding paper.planFormats
+returns-4 c =
+    sym (ap (mapRead (seenBy barFrom)) (raw-bad 7 (now (c .before .before .before .before .before .before .before .before .before .before .before .before .before .before .before .before .args .s)) (c .before .before .before .before .before .before .before .before .before .before .before .before .before .before .before .before .args .at) (seen fieldRead (c .before .before .before .before .before .before .before .before .before .before .before .before .before .before .byte-at .ensures) (c .before .before .before .before .before .before .before .before .before .before .before .before .bits .given .1))
+    (skip _ _ _ _ refl _ _ (found little _ (seen wideRead (c .before .before .before .before .before .before .before .before .before .before .mask-at .ensures) (c .before .before .before .before .before .before .before .before .members .given .1)) .is)
+    (skip _ _ _ _ (half-of _ 2) _ _ (found first _ (seen fieldRead (c .before .before .before .before .before .before .opt-at .ensures) (c .before .before .before .before .condition .given .1)) .is)
+    (stop _ _ _ _ (half-of _ 4) _ _ (none first _ (seen fieldRead (c .before .before .opt-at2 .ensures) (c .enum-told4 .given .1))))))))
+
+-- src/read_bars.rt:38:9
+returns-5 : tie.Need-returns-5
+unfolding paper.planFormats
+returns-5 c =
+    rw (
+      raw-got 7 (now (c .before .before .before .before .before .before .before .before .before .before .before .before .before .before .before .before .before .before .args .s)) (c .before .before .before .before .before .before .before .before .before .before .before .before .before .before .before .before .before .before .args .at) (seen fieldRead (c .before .before .before .before .before .before .before .before .before .before .before .before .before .before .before .before .byte-at .ensures) (c .before .before .before .before .before .before .before .before .before .before .before .before .before .before .bits .given .1))
+          (more _ _ _ _ refl _ _ (found little _ (seen wideRead (c .before .before .before .before .before .before .before .before .before .before .before .before .mask-at .ensures) (c .before .before .before .before .before .before .before .before .before .before .members .given .1)) .is)
+          (more _ _ _ _ (half-of _ 2) _ _ (found first _ (seen fieldRead (c .before .before .before .before .before .before .before .before .opt-at .ensures) (c .before .before .before .before .before .before .condition .given .1)) .is)
+          (more _ _ _ _ (half-of _ 4) _ _ (found first _ (seen fieldRead (c .before .before .before .before .opt-at2 .ensures) (c .before .before .citation .given .1)) .is)
+          (last _ _ _ (c .if1 .taken))))),
+      found little _ (seen wideRead (c .before .before .before .before .before .before .before .before .before .before .before .before .mask-at .ensures) (c .before .before .before .before .before .before .before .before .before .before .members .given .1)) .means,
+      found first _ (seen fieldRead (c .before .before .before .before .before .before .before .before .opt-at .ensures) (c .before .before .before .before .before .before .condition .given .1)) .means,
+      found first _ (seen fieldRead (c .before .before .before .before .opt-at2 .ensures) (c .before .before .citation .given .1)) .means,
+    )
+
+-- src/read_bars.rt:22:1
+returns-6 : tie.Need-returns-6
+unfolding paper.planFormats
+returns-6 c =
+    sym (ap (mapRead (seenBy barFrom)) (raw-bad 7 (now (c .before .before .before .before .before .before .before .before .before .before .before .before .before .before .before .before .before .before .args .s)) (c .before .before .before .before .before .before .before .before .before .before .before .before .before .before .before .before .before .before .args .at) (seen fieldRead (c .before .before .before .before .before .before .before .before .before .before .before .before .before .before .before .before .byte-at .ensures) (c .before .before .before .before .before .before .before .before .before .before .before .before .before .before .bits .given .1))
+    (skip _ _ _ _ refl _ _ (found little _ (seen wideRead (c .before .before .before .before .before .before .before .before .before .before .before .before .mask-at .ensures) (c .before .before .before .before .before .before .before .before .before .before .members .given .1)) .is)
+    (skip _ _ _ _ (half-of _ 2) _ _ (found first _ (seen fieldRead (c .before .before .before .before .before .before .before .before .opt-at .ensures) (c .before .before .before .before .before .before .condition .given .1)) .is)
+    (skip _ _ _ _ (half-of _ 4) _ _ (found first _ (seen fieldRead (c .before .before .before .before .opt-at2 .ensures) (c .before .before .citation .given .1)) .is)
+    (unknown _ _ _ (c .if1 .left)))))))
+
+pub bar-at-spec : {M : Type 1} → statement M
+bar-at-spec =
+    tie.close
+    (tie.spec
+    byte-at-requires
+    enum-known-bits
+    enum-told
+    returns
+    mask-at-requires
+    enum-known-members
+    enum-told-2
+    returns-2
+    opt-at-requires
+    enum-known-condition
+    enum-told-3
+    returns-3
+    opt-at-requires-2
+    enum-known-citation
+    enum-told-4
+    returns-4
+    returns-5
+    returns-6)

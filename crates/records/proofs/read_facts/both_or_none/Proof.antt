@@ -1,0 +1,18 @@
+-- Both bits or none. Assumes nothing.
+use borrow.Author.Tests.{eq-eqb, ne-eqb}
+use borrow.Author.Needs.{needs}
+use Rattle.records.proofs.read_facts.both_or_none.Statement.{statement}
+use Rattle.records.proofs.read_facts.both_or_none.Tie as tie
+use Rattle.records.proofs.read_facts.both_or_none.Reads as reads
+use Rattle.records.proofs.read_facts.both_or_none.Lts as lts
+
+-- src/read_facts.rt:101:9
+returns : tie.Need-returns
+returns c = rw (eq-eqb _ _ (c .if1 .taken))
+
+-- src/read_facts.rt:97:1
+returns-2 : tie.Need-returns-2
+returns-2 c = rw (ne-eqb _ _ (c .if1 .left))
+
+pub both-or-none-spec : {M : Type 1} → statement M
+both-or-none-spec = tie.close (tie.spec returns returns-2)

@@ -1,0 +1,146 @@
+// Bars: one record from its bit map on, and the pass over all of them.
+use crate::fields::Field;
+use crate::fields::Wide;
+use crate::fields::byte_at;
+use crate::fields::mask_at;
+use crate::fields::opt_at;
+use crate::judge::judged;
+use crate::plan::Bar;
+use crate::plan::Bars;
+ghost use mathlib.Core.Path.{_≡_};
+ghost use mathlib.Core.List.{[]};
+ghost use Prim.Native.Nat.{_≤_, _+_};
+ghost use lib.ListN.{length};
+ghost use Rattle.records.specs.Readers.{mapRead};
+ghost use Rattle.records.specs.Passes.{rawAt, seenBy, Passed, barRead, barFrom, barsOf, withBars};
+
+pub enum BarSeen {
+    Got {
+        bits: u8,
+        members: u64,
+        condition: u8,
+        citation: u8,
+        next: usize,
+    },
+    Bad,
+}
+
+pub fn bar_at(s: &[u8], at: usize) -> BarSeen
+    ensures { λ r. ⌜ barRead r ≡ mapRead (seenBy barFrom) (rawAt 7 (now (s .entry)) at) ⌝ }
+{
+    let Field::Got {
+        value: bits,
+        next: p,
+    } = byte_at(s, at, 0, 255)
+    else {
+        return BarSeen::Bad;
+    };
+    let Wide::Got {
+        value: members,
+        next: p0,
+    } = mask_at(s, p, bits % 2 == 1)
+    else {
+        return BarSeen::Bad;
+    };
+    let Field::Got {
+        value: condition,
+        next: p1,
+    } = opt_at(s, p0, bits / 2 % 2 == 1, 0, 255)
+    else {
+        return BarSeen::Bad;
+    };
+    let Field::Got {
+        value: citation,
+        next: next,
+    } = opt_at(s, p1, bits / 4 % 2 == 1, 0, 63)
+    else {
+        return BarSeen::Bad;
+    };
+    if bits / 8 == 0 {
+        return BarSeen::Got {
+            bits: bits,
+            members: members,
+            condition: condition,
+            citation: citation,
+            next: next,
+        };
+    }
+    BarSeen::Bad
+}
+
+// number 0: all were read, and `at` is the place after them
+pub struct BarsRead {
+    pub number: u8,
+    pub record: usize,
+    pub at: usize,
+    pub bars: Bars,
+}
+
+pub fn no_bars() -> Bars
+    ensures { λ r. ⌜ (barsOf r ≡ []) × (r .count ≡ 0) × (length (r .items) ≡ 32) ⌝ }
+{
+    let blank = Bar {
+        members: 0,
+        condition: 0,
+        citation: 0,
+    };
+    Bars {
+        count: 0,
+        items: [blank; 32],
+    }
+}
+
+pub fn read_bars(s: &[u8], start: usize, before: usize, headed: bool) -> BarsRead
+    requires { ⌜ before ≤ start ⌝ }
+    ensures { λ r.
+        ⌜ Passed withBars 7 (now (s .entry)) headed start before (r .number) (r .record) (r .at) (barsOf (r .bars))
+        × (r .record ≤ r .at) ⌝ }
+{
+    let mut bars = no_bars();
+    let mut at = start;
+    let mut k = before;
+    while at < s.len() {
+        if s[at] != 7 {
+            break;
+        }
+        let BarSeen::Got {
+            bits,
+            members,
+            condition,
+            citation,
+            next,
+        } = bar_at(s, at + 1)
+        else {
+            return BarsRead {
+                number: 1,
+                record: k,
+                at: at,
+                bars: bars,
+            };
+        };
+        let n = bars.count;
+        let number = judged(n, 32, false, bits & 7 == 7, headed, true);
+        if number != 0 {
+            return BarsRead {
+                number: number,
+                record: k,
+                at: at,
+                bars: bars,
+            };
+        }
+        bars.items[n] = Bar {
+            members: members,
+            condition: condition,
+            citation: citation,
+        };
+        bars.count = n + 1;
+        at = next;
+        k = k + 1;
+    }
+    BarsRead {
+        number: 0,
+        record: k,
+        at: at,
+        bars: bars,
+    }
+}

@@ -1,0 +1,255 @@
+// Cuts: one record from its bit map on, and the pass over all of them.
+use crate::decisions::decided_once;
+use crate::decisions::unresolved_in;
+use crate::fields::Elected;
+use crate::fields::Field;
+use crate::fields::Listed;
+use crate::fields::Wide;
+use crate::fields::byte_at;
+use crate::fields::election_at;
+use crate::fields::list_at;
+use crate::fields::mask_at;
+use crate::fields::opt_at;
+use crate::fields::pairs_at;
+use crate::judge::judged;
+use crate::lists::decisions_from;
+use crate::lists::numbers_from;
+use crate::plan::Cut;
+use crate::plan::Cuts;
+use crate::plan::Decisions;
+use crate::plan::Election;
+use crate::plan::Numbers;
+ghost use mathlib.Core.Path.{_≡_};
+ghost use mathlib.Core.Bool.{true, false};
+ghost use mathlib.Core.List.{[]};
+ghost use Prim.Native.Nat.{_≤_};
+ghost use lib.ListN.{length};
+ghost use lib.Dec.{ltb};
+ghost use Rattle.records.specs.Sets.{allOf};
+ghost use Rattle.records.specs.Plan as paper;
+ghost use Rattle.records.specs.Readers.{mapRead};
+ghost use Rattle.records.specs.Passes.{rawAt, seenBy, Passed, cutRead, cutFits, cutsOf, withCuts};
+
+// `elector` and `source` are the election's actor and citation; `pairs` and `decided`, `first` and `count`: where the decisions and the cuts
+// it precedes stand
+pub enum CutSeen {
+    Got {
+        bits: u8,
+        members: u64,
+        condition: u8,
+        citation: u8,
+        given: bool,
+        fact: u8,
+        elector: u8,
+        policy: u8,
+        source: u8,
+        pairs: usize,
+        decided: u8,
+        first: usize,
+        count: u8,
+        next: usize,
+    },
+    Bad,
+}
+
+pub fn cut_at(s: &[u8], at: usize) -> CutSeen
+    ensures { λ r. ⌜ (cutRead (now (s .entry)) r ≡ mapRead (seenBy paper.cutOf) (rawAt 5 (now (s .entry)) at)) × cutFits (now (s .entry)) r ⌝ }
+{
+    let Field::Got {
+        value: bits,
+        next: p,
+    } = byte_at(s, at, 0, 255)
+    else {
+        return CutSeen::Bad;
+    };
+    let Wide::Got {
+        value: members,
+        next: p0,
+    } = mask_at(s, p, bits % 2 == 1)
+    else {
+        return CutSeen::Bad;
+    };
+    let Field::Got {
+        value: condition,
+        next: p1,
+    } = opt_at(s, p0, bits / 2 % 2 == 1, 0, 255)
+    else {
+        return CutSeen::Bad;
+    };
+    let Field::Got {
+        value: citation,
+        next: p2,
+    } = opt_at(s, p1, bits / 4 % 2 == 1, 0, 63)
+    else {
+        return CutSeen::Bad;
+    };
+    let Elected::Got {
+        given,
+        fact,
+        actor: elector,
+        policy,
+        citation: source,
+        next: p3,
+    } = election_at(s, p2, bits / 8 % 2 == 1)
+    else {
+        return CutSeen::Bad;
+    };
+    let Listed::Got {
+        first: pairs,
+        count: decided,
+        next: p4,
+    } = pairs_at(s, p3, bits / 16 % 2 == 1, 64, 255, 1, 3)
+    else {
+        return CutSeen::Bad;
+    };
+    let Listed::Got { first, count, next } = list_at(s, p4, bits / 32 % 2 == 1, 16, 255) else {
+        return CutSeen::Bad;
+    };
+    if bits / 64 == 0 {
+        return CutSeen::Got {
+            bits: bits,
+            members: members,
+            condition: condition,
+            citation: citation,
+            given: given,
+            fact: fact,
+            elector: elector,
+            policy: policy,
+            source: source,
+            pairs: pairs,
+            decided: decided,
+            first: first,
+            count: count,
+            next: next,
+        };
+    }
+    CutSeen::Bad
+}
+
+// number 0: all were read, and `at` is the place after them
+pub struct CutsRead {
+    pub number: u8,
+    pub record: usize,
+    pub at: usize,
+    pub cuts: Cuts,
+}
+
+pub fn no_cuts() -> Cuts
+    ensures { λ r. ⌜ (cutsOf r ≡ []) × (r .count ≡ 0) × (length (r .items) ≡ 16) ⌝ }
+{
+    let election = Election {
+        given: false,
+        fact: 0,
+        actor: 0,
+        policy: 0,
+        citation: 0,
+    };
+    let decisions = Decisions {
+        count: 0,
+        edges: [0; 64],
+        verdicts: [0; 64],
+    };
+    let precedes = Numbers {
+        count: 0,
+        items: [0; 16],
+    };
+    let blank = Cut {
+        members: 0,
+        condition: 0,
+        citation: 0,
+        election: election,
+        decisions: decisions,
+        precedes: precedes,
+    };
+    Cuts {
+        count: 0,
+        items: [blank; 16],
+    }
+}
+
+pub fn read_cuts(s: &[u8], start: usize, before: usize, headed: bool) -> CutsRead
+    requires { ⌜ before ≤ start ⌝ }
+    ensures { λ r.
+        ⌜ Passed withCuts 5 (now (s .entry)) headed start before (r .number) (r .record) (r .at) (cutsOf (r .cuts))
+        × (r .record ≤ r .at) × (ltb 16 (paper.unresolved (cutsOf (r .cuts))) ≡ false)
+        × (allOf (λ c. paper.decidedOnce (c .decisions)) (cutsOf (r .cuts)) ≡ true) ⌝ }
+{
+    let mut cuts = no_cuts();
+    let mut pending: usize = 0;
+    let mut at = start;
+    let mut k = before;
+    while at < s.len() {
+        if s[at] != 5 {
+            break;
+        }
+        let CutSeen::Got {
+            bits,
+            members,
+            condition,
+            citation,
+            given,
+            fact,
+            elector,
+            policy,
+            source,
+            pairs,
+            decided,
+            first,
+            count,
+            next,
+        } = cut_at(s, at + 1)
+        else {
+            return CutsRead {
+                number: 1,
+                record: k,
+                at: at,
+                cuts: cuts,
+            };
+        };
+        let n = cuts.count;
+        let decisions = decisions_from(s, pairs, decided);
+        let total = pending + unresolved_in(decisions);
+        let number = judged(
+            n,
+            16,
+            16 < total,
+            bits & 7 == 7,
+            headed,
+            decided_once(decisions),
+        );
+        if number != 0 {
+            return CutsRead {
+                number: number,
+                record: k,
+                at: at,
+                cuts: cuts,
+            };
+        }
+        let election = Election {
+            given: given,
+            fact: fact,
+            actor: elector,
+            policy: policy,
+            citation: source,
+        };
+        let precedes = numbers_from(s, first, count);
+        cuts.items[n] = Cut {
+            members: members,
+            condition: condition,
+            citation: citation,
+            election: election,
+            decisions: decisions,
+            precedes: precedes,
+        };
+        cuts.count = n + 1;
+        pending = total;
+        at = next;
+        k = k + 1;
+    }
+    CutsRead {
+        number: 0,
+        record: k,
+        at: at,
+        cuts: cuts,
+    }
+}

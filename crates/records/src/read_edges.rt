@@ -1,0 +1,180 @@
+// Edges: one record from its bit map on, and the pass over all of them.
+use crate::fields::Field;
+use crate::fields::Listed;
+use crate::fields::byte_at;
+use crate::fields::list_at;
+use crate::fields::opt_at;
+use crate::judge::judged;
+use crate::lists::numbers_from;
+use crate::plan::Edge;
+use crate::plan::Edges;
+use crate::plan::Numbers;
+ghost use mathlib.Core.Path.{_≡_};
+ghost use mathlib.Core.List.{[]};
+ghost use Prim.Native.Nat.{_≤_, _+_};
+ghost use lib.ListN.{length};
+ghost use Rattle.records.specs.Plan as paper;
+ghost use Rattle.records.specs.Readers.{mapRead};
+ghost use Rattle.records.specs.Passes.{rawAt, seenBy, Passed, edgeRead, edgeFits, edgesOf, withEdges};
+
+// `first` and `count`: where the defeaters stand
+pub enum EdgeSeen {
+    Got {
+        bits: u8,
+        left: u8,
+        right: u8,
+        condition: u8,
+        citation: u8,
+        first: usize,
+        count: u8,
+        next: usize,
+    },
+    Bad,
+}
+
+pub fn edge_at(s: &[u8], at: usize) -> EdgeSeen
+    ensures { λ r. ⌜ (edgeRead (now (s .entry)) r ≡ mapRead (seenBy paper.edgeOf) (rawAt 4 (now (s .entry)) at)) × edgeFits (now (s .entry)) r ⌝ }
+{
+    let Field::Got {
+        value: bits,
+        next: p,
+    } = byte_at(s, at, 0, 255)
+    else {
+        return EdgeSeen::Bad;
+    };
+    let Field::Got {
+        value: left,
+        next: p0,
+    } = opt_at(s, p, bits % 2 == 1, 0, 63)
+    else {
+        return EdgeSeen::Bad;
+    };
+    let Field::Got {
+        value: right,
+        next: p1,
+    } = opt_at(s, p0, bits / 2 % 2 == 1, 0, 63)
+    else {
+        return EdgeSeen::Bad;
+    };
+    let Field::Got {
+        value: condition,
+        next: p2,
+    } = opt_at(s, p1, bits / 4 % 2 == 1, 0, 255)
+    else {
+        return EdgeSeen::Bad;
+    };
+    let Field::Got {
+        value: citation,
+        next: p3,
+    } = opt_at(s, p2, bits / 8 % 2 == 1, 0, 63)
+    else {
+        return EdgeSeen::Bad;
+    };
+    let Listed::Got { first, count, next } = list_at(s, p3, bits / 16 % 2 == 1, 16, 255) else {
+        return EdgeSeen::Bad;
+    };
+    if bits / 64 == 0 {
+        return EdgeSeen::Got {
+            bits: bits,
+            left: left,
+            right: right,
+            condition: condition,
+            citation: citation,
+            first: first,
+            count: count,
+            next: next,
+        };
+    }
+    EdgeSeen::Bad
+}
+
+// number 0: all were read, and `at` is the place after them
+pub struct EdgesRead {
+    pub number: u8,
+    pub record: usize,
+    pub at: usize,
+    pub edges: Edges,
+}
+
+pub fn no_edges() -> Edges
+    ensures { λ r. ⌜ (edgesOf r ≡ []) × (r .count ≡ 0) × (length (r .items) ≡ 64) ⌝ }
+{
+    let none = Numbers {
+        count: 0,
+        items: [0; 16],
+    };
+    let blank = Edge {
+        left: 0,
+        right: 0,
+        condition: 0,
+        citation: 0,
+        defeaters: none,
+        combination: false,
+    };
+    Edges {
+        count: 0,
+        items: [blank; 64],
+    }
+}
+
+pub fn read_edges(s: &[u8], start: usize, before: usize, headed: bool) -> EdgesRead
+    requires { ⌜ before ≤ start ⌝ }
+    ensures { λ r.
+        ⌜ Passed withEdges 4 (now (s .entry)) headed start before (r .number) (r .record) (r .at) (edgesOf (r .edges))
+        × (r .record ≤ r .at) ⌝ }
+{
+    let mut edges = no_edges();
+    let mut at = start;
+    let mut k = before;
+    while at < s.len() {
+        if s[at] != 4 {
+            break;
+        }
+        let EdgeSeen::Got {
+            bits,
+            left,
+            right,
+            condition,
+            citation,
+            first,
+            count,
+            next,
+        } = edge_at(s, at + 1)
+        else {
+            return EdgesRead {
+                number: 1,
+                record: k,
+                at: at,
+                edges: edges,
+            };
+        };
+        let n = edges.count;
+        let number = judged(n, 64, false, bits & 15 == 15, headed, true);
+        if number != 0 {
+            return EdgesRead {
+                number: number,
+                record: k,
+                at: at,
+                edges: edges,
+            };
+        }
+        let defeaters = numbers_from(s, first, count);
+        edges.items[n] = Edge {
+            left: left,
+            right: right,
+            condition: condition,
+            citation: citation,
+            defeaters: defeaters,
+            combination: bits / 32 % 2 == 1,
+        };
+        edges.count = n + 1;
+        at = next;
+        k = k + 1;
+    }
+    EdgesRead {
+        number: 0,
+        record: k,
+        at: at,
+        edges: edges,
+    }
+}

@@ -1,0 +1,126 @@
+// A plan out of its bytes, kind after kind: the plan, or the first refusal of 1, 2, 3 and 5.
+use crate::plan::Plan;
+use crate::read_attachments::no_attachments;
+use crate::read_attachments::read_attachments;
+use crate::read_bars::no_bars;
+use crate::read_bars::read_bars;
+use crate::read_cuts::no_cuts;
+use crate::read_cuts::read_cuts;
+use crate::read_edges::no_edges;
+use crate::read_edges::read_edges;
+use crate::read_facts::no_facts;
+use crate::read_facts::read_facts;
+use crate::read_heading::read_heading;
+use crate::read_nodes::no_nodes;
+use crate::read_nodes::read_nodes;
+use crate::read_statuses::no_statuses;
+use crate::read_statuses::read_statuses;
+ghost use mathlib.Core.Path.{_≡_};
+ghost use Rattle.records.specs.Plan as paper;
+ghost use Rattle.records.specs.PlanRead.{planReadOf};
+
+// number 0: the plan was read; else the refusal's number and record
+pub struct PlanRead {
+    pub number: u8,
+    pub record: usize,
+    pub plan: Plan,
+}
+
+fn refused(number: u8, k: usize) -> PlanRead
+    ensures { λ r. ⌜ (r .number ≡ number) × (r .record ≡ k) ⌝ }
+{
+    let facts = no_facts();
+    let nodes = no_nodes();
+    let edges = no_edges();
+    let cuts = no_cuts();
+    let attachments = no_attachments();
+    let bars = no_bars();
+    let statuses = no_statuses();
+    let plan = Plan {
+        headings: 0,
+        relation: 0,
+        chained: false,
+        chain: 0,
+        facts: facts,
+        nodes: nodes,
+        edges: edges,
+        cuts: cuts,
+        attachments: attachments,
+        bars: bars,
+        statuses: statuses,
+    };
+    PlanRead {
+        number: number,
+        record: k,
+        plan: plan,
+    }
+}
+
+pub fn read_plan(s: &[u8]) -> PlanRead
+    ensures { λ r. ⌜ planReadOf r ≡ paper.planRecords (now (s .entry)) ⌝ }
+{
+    let h = read_heading(s);
+    if h.number != 0 {
+        return refused(h.number, h.record);
+    }
+    let headed = h.headings == 1;
+    let f = read_facts(s, h.at, h.record, headed);
+    if f.number != 0 {
+        return refused(f.number, f.record);
+    }
+    let n = read_nodes(s, f.at, f.record, headed);
+    if n.number != 0 {
+        return refused(n.number, n.record);
+    }
+    let e = read_edges(s, n.at, n.record, headed);
+    if e.number != 0 {
+        return refused(e.number, e.record);
+    }
+    let c = read_cuts(s, e.at, e.record, headed);
+    if c.number != 0 {
+        return refused(c.number, c.record);
+    }
+    let a = read_attachments(s, c.at, c.record, headed);
+    if a.number != 0 {
+        return refused(a.number, a.record);
+    }
+    let b = read_bars(s, a.at, a.record, headed);
+    if b.number != 0 {
+        return refused(b.number, b.record);
+    }
+    let t = read_statuses(s, b.at, b.record, headed);
+    if t.number != 0 {
+        return refused(t.number, t.record);
+    }
+    if t.at < s.len() {
+        return refused(1, t.record);
+    }
+    if t.record == 0 {
+        return refused(3, 0);
+    }
+    let facts = f.facts;
+    let nodes = n.nodes;
+    let edges = e.edges;
+    let cuts = c.cuts;
+    let attachments = a.attachments;
+    let bars = b.bars;
+    let statuses = t.statuses;
+    let plan = Plan {
+        headings: h.headings,
+        relation: h.relation,
+        chained: h.chained,
+        chain: h.chain,
+        facts: facts,
+        nodes: nodes,
+        edges: edges,
+        cuts: cuts,
+        attachments: attachments,
+        bars: bars,
+        statuses: statuses,
+    };
+    PlanRead {
+        number: 0,
+        record: 0,
+        plan: plan,
+    }
+}
