@@ -98,7 +98,7 @@ module _ (s : List ℕ) (at m : ℕ) (f : Shape) (fs : List Shape) {vs : List (L
   outer true e = first-of (fieldAt s at f) (λ v q h. field-next s at f h) e
   outer false e = inner [] at (native.Mathlib.Nat.le-refl at) (fieldsAt s at (m / 2) fs) refl e
 
-fields-next : (s : List ℕ) (at m : ℕ) (fs : List Shape) {vs : List (List ℕ)} {p : ℕ} → fieldsAt s at m fs ≡ got vs p → at ≤ p
+pub fields-next : (s : List ℕ) (at m : ℕ) (fs : List Shape) {vs : List (List ℕ)} {p : ℕ} → fieldsAt s at m fs ≡ got vs p → at ≤ p
 unfolding fieldsAt
 fields-next s at m [] {vs = vs} {p = p} = pick (eqb m 0)
   where

@@ -70,7 +70,7 @@ needs-test b m = pick (subset m b) refl
 
 -- ---- one more of a kind
 
-length-more : {A : Type 0} (xs : List A) (x : A) → length (xs ++ (x ∷ [])) ≡ suc (length xs)
+pub length-more : {A : Type 0} (xs : List A) (x : A) → length (xs ++ (x ∷ [])) ≡ suc (length xs)
 length-more [] x = refl
 length-more (y ∷ xs) x = ap suc (length-more xs x)
 
@@ -78,7 +78,7 @@ length-more (y ∷ xs) x = ap suc (length-more xs x)
 pub made-more : {A B : Type 0} (f : A → B) (xs : List A) (n : ℕ) (x : A) → n < length xs → map f (take (n + 1) (set xs n x)) ≡ map f (take n xs) ++ (f x ∷ [])
 made-more f xs n x h = ap (λ (k : ℕ). map f (take k (set xs n x))) (add-one n) ∙ ap (map f) (take-suc-set xs n x h) ∙ map-more f (take n xs) x
 
-past : (limit n : ℕ) → ltb limit (suc n) ≡ leb limit n
+pub past : (limit n : ℕ) → ltb limit (suc n) ≡ leb limit n
 past limit n = lib.Dec.leb·suc-suc limit n
 
 plain : (t f h : Bool) (z : ℕ) → cond t 2 (cond (not f || not h) 3 z) ≡ cond t 2 (cond (f && h) z 3)

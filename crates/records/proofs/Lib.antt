@@ -17,10 +17,15 @@ pub mod AcceptedCase
 pub mod MemberLaws
 pub mod Local
 pub mod Reading
-pub mod Listing
 pub mod Chain
-pub mod Passing
+pub mod RawLaws
 pub mod KindLaws
+pub mod CaseKinds
+pub mod CaseLoop
+pub mod CaseFaults
+pub mod Pairs
+pub mod Listing
+pub mod Passing
 pub mod FactLaws
 pub mod DecisionLaws
 pub mod PlanLaws

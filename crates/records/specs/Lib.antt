@@ -5,6 +5,8 @@ pub mod Case
 pub mod Decoded
 pub mod Readers
 pub mod Passes
+pub mod CaseSteps
+pub mod CaseNamed
 pub mod PlanRead
 pub mod Sound
 pub mod Check

@@ -1,5 +1,8 @@
 // Bytes to plan and case, and the sets of persons that everything above uses.
 pub mod case;
+pub mod case_naming;
+pub mod case_records;
+pub mod case_steps;
 pub mod check;
 pub mod checked;
 pub mod counts;
@@ -14,6 +17,7 @@ pub mod naming;
 pub mod plan;
 pub mod read_attachments;
 pub mod read_bars;
+pub mod read_case;
 pub mod read_cuts;
 pub mod read_edges;
 pub mod read_facts;
