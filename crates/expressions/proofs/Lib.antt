@@ -1,2 +1,4 @@
 pub mod BindingLaws
 pub mod InfluenceLaws
+pub mod ListLaws
+pub mod NodeLaws

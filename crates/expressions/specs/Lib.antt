@@ -1,5 +1,6 @@
 pub mod Rules
 pub mod Nodes
+pub mod Coded
 pub mod Influence
 pub mod Bindings
 pub mod Variables

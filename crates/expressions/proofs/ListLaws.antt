@@ -1,0 +1,106 @@
+-- Laws of lists that a loop goes through: what is left from an index on, of the entries in use of an array. Assumes nothing.
+use mathlib.Core.Path.{_≡_, refl, sym, ap, ap₂, _∙_, subst}
+use mathlib.Core.Bool.{Bool, true, false, _&&_, _||_}
+use mathlib.Core.List.{List, [], _∷_, _++_, map}
+use Prim.Native.Nat.{ℕ, zero, suc, _+_, _≤_, _<_, min}
+use native.Mathlib.Numerals.{add-one}
+use native.Mathlib.Omega.{arith}
+use lib.ListN.{length, getD, take, drop, set, replicate, length-take, length-map, List·getD-map, drop-of-length-le}
+use lib.Seq.{drop-cons, getD-take, take-suc, take-all, length-take-le}
+use Rattle.records.specs.Sets.{allOf, anyOf}
+use Rattle.expressions.specs.Coded.{Holds}
+
+-- ---- the entries in use: n of them, as many as the count says and no more than there are
+
+module _ {A : Type 0} (xs : List A) (count most n : ℕ) (long : length xs ≡ most) (some : n ≡ min count most) where
+  pub used-length : length (take count xs) ≡ n
+  used-length = length-take count xs ∙ ap (min count) long ∙ sym some
+
+  pub used-at : (i : ℕ) (d : A) → i < n → getD (take count xs) i d ≡ getD xs i d
+  used-at i d h = getD-take count xs i d (omega arith)
+
+  -- one entry more, at the code's i + 1
+  pub used-next : (i : ℕ) (d k : A) → i < n → k ≡ getD xs i d → drop i (take count xs) ≡ k ∷ drop (i + 1) (take count xs)
+  used-next i d k h e =
+      let l = used-length in
+      drop-cons (take count xs) i d (omega arith) ∙ ap₂ _∷_ (used-at i d h ∙ sym e) (ap (λ (j : ℕ). drop j (take count xs)) (sym (add-one i)))
+
+  pub used-end : (i : ℕ) → n ≤ i → drop i (take count xs) ≡ []
+  used-end i h = let l = used-length in let k : length (take count xs) ≤ i = omega arith in drop-of-length-le (take count xs) k
+
+-- ---- a list made from the entries in use, one entry at a time
+
+module _ {A B : Type 0} (f : A → B) (xs : List A) (count most n : ℕ) (long : length xs ≡ most) (some : n ≡ min count most) where
+  pub made-length : length (map f (take count xs)) ≡ n
+  made-length = length-map (take count xs) f ∙ used-length xs count most n long some
+
+  pub made-at : (i : ℕ) (d : A) → i < n → getD (map f (take count xs)) i (f d) ≡ f (getD xs i d)
+  made-at i d h = List·getD-map f (take count xs) i d ∙ ap f (used-at xs count most n long some i d h)
+
+  pub made-next : (i : ℕ) (d : A) → i < n → take (i + 1) (map f (take count xs)) ≡ take i (map f (take count xs)) ++ (f (getD xs i d) ∷ [])
+  made-next i d h =
+      let l = made-length in
+      let all = map f (take count xs) in
+      ap (λ (j : ℕ). take j all) (add-one i) ∙ take-suc all i (f d) (omega arith) ∙ ap (λ (x : B). take i all ++ (x ∷ [])) (made-at i d h)
+
+  pub made-part : (i : ℕ) → i ≤ n → length (take i (map f (take count xs))) ≡ i
+  made-part i h = let l = made-length in length-take-le i (map f (take count xs)) (omega arith)
+
+  pub made-all : (i : ℕ) → n ≤ i → take i (map f (take count xs)) ≡ map f (take count xs)
+  made-all i h = let l = made-length in take-all i (map f (take count xs)) (omega arith)
+
+-- ---- a test of all or any of the entries, by the first of them
+
+module _ {A : Type 0} (f : A → Bool) (k : A) (rest : List A) where
+  pub all-go : f k ≡ true → allOf f (k ∷ rest) ≡ allOf f rest
+  unfolding allOf
+  all-go e = ap (λ (b : Bool). b && allOf f rest) e
+
+  pub all-stop : f k ≡ false → allOf f (k ∷ rest) ≡ false
+  unfolding allOf
+  all-stop e = ap (λ (b : Bool). b && allOf f rest) e
+
+  pub any-go : f k ≡ false → anyOf f (k ∷ rest) ≡ anyOf f rest
+  unfolding anyOf
+  any-go e = ap (λ (b : Bool). b || anyOf f rest) e
+
+  pub any-stop : f k ≡ true → anyOf f (k ∷ rest) ≡ true
+  unfolding anyOf
+  any-stop e = ap (λ (b : Bool). b || anyOf f rest) e
+
+-- ---- equal tests give equal answers
+
+module _ {A : Type 0} (f g : A → Bool) (same : (x : A) → f x ≡ g x) where
+  pub all-agree : (xs : List A) → allOf f xs ≡ allOf g xs
+  unfolding allOf
+  all-agree [] = refl
+  all-agree (x ∷ xs) = ap₂ _&&_ (same x) (all-agree xs)
+
+  pub any-agree : (xs : List A) → anyOf f xs ≡ anyOf g xs
+  unfolding anyOf
+  any-agree [] = refl
+  any-agree (x ∷ xs) = ap₂ _||_ (same x) (any-agree xs)
+
+-- ---- an array that holds a list
+
+pub holds-none : {A : Type 0} (n : ℕ) (d : A) → Holds d (replicate n d) []
+holds-none n d = record { at = λ i. at n i }
+  where
+    at : (n i : ℕ) → getD (replicate n d) i d ≡ d
+    at zero i = refl
+    at (suc n) zero = refl
+    at (suc n) (suc i) = at n i
+
+-- an entry stored at the list's end
+stored : {A : Type 0} (d : A) (out done : List A) (v : A) → length done < length out → ((k : ℕ) → getD out k d ≡ getD done k d)
+    → (k : ℕ) → getD (set out (length done) v) k d ≡ getD (done ++ (v ∷ [])) k d
+stored d [] done v l h k = absurd (omega arith)
+stored d (x ∷ out) [] v l h zero = refl
+stored d (x ∷ out) [] v l h (suc k) = h (suc k)
+stored d (x ∷ out) (y ∷ done) v l h zero = h zero
+stored d (x ∷ out) (y ∷ done) v l h (suc k) = stored d out done v (omega arith) (λ j. h (suc j)) k
+
+pub holds-next : {A : Type 0} (d : A) (out done : List A) (i : ℕ) (v : A) → length done ≡ i → i < length out → Holds d out done
+    → Holds d (set out i v) (done ++ (v ∷ []))
+holds-next d out done i v e l h =
+    subst (λ (j : ℕ). Holds d (set out j v) (done ++ (v ∷ []))) e (record { at = stored d out done v (omega arith) (λ k. h .at k) })
