@@ -1,4 +1,5 @@
 pub mod BindingLaws
 pub mod InfluenceLaws
 pub mod ListLaws
+pub mod UnionLaws
 pub mod NodeLaws

@@ -1,13 +1,15 @@
 -- Laws of lists that a loop goes through: what is left from an index on, of the entries in use of an array. Assumes nothing.
+use Prim.Native.Nat.{ℕ, zero, suc, _+_, _≤_, _<_, min}
 use mathlib.Core.Path.{_≡_, refl, sym, ap, ap₂, _∙_, subst}
 use mathlib.Core.Bool.{Bool, true, false, _&&_, _||_}
 use mathlib.Core.List.{List, [], _∷_, _++_, map}
-use Prim.Native.Nat.{ℕ, zero, suc, _+_, _≤_, _<_, min}
 use native.Mathlib.Numerals.{add-one}
 use native.Mathlib.Omega.{arith}
 use lib.ListN.{length, getD, take, drop, set, replicate, length-take, length-map, List·getD-map, drop-of-length-le}
 use lib.Seq.{drop-cons, getD-take, take-suc, take-all, length-take-le}
 use Rattle.records.specs.Sets.{allOf, anyOf}
+use Rattle.records.specs.Sound.{All}
+use Rattle.records.proofs.LoopLaws.{all-at}
 use Rattle.expressions.specs.Coded.{Holds}
 
 -- ---- the entries in use: n of them, as many as the count says and no more than there are
@@ -48,6 +50,10 @@ module _ {A B : Type 0} (f : A → B) (xs : List A) (count most n : ℕ) (long :
 
   pub made-all : (i : ℕ) → n ≤ i → take i (map f (take count xs)) ≡ map f (take count xs)
   made-all i h = let l = made-length in take-all i (map f (take count xs)) (omega arith)
+
+  -- what holds of each
+  pub made-each : (Q : B → Type 0) (i : ℕ) (d : A) → i < n → All Q (map f (take count xs)) → Q (f (getD xs i d))
+  made-each Q i d h q = let l = made-length in subst Q (made-at i d h) (all-at Q (map f (take count xs)) (f d) i q (omega arith))
 
 -- ---- a test of all or any of the entries, by the first of them
 

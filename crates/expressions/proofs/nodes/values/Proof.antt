@@ -1,18 +1,18 @@
 -- `nodes::values`: after i nodes the array holds the values of the first i. Assumes nothing.
-use Rattle.records.specs.Plan.{Node}
-use Rattle.records.proofs.plan.Node.{the-type}
-use Prim.Native.Nat.{_≤_, _-_}
+use Prim.Native.Nat.{_+_, _≤_, _-_}
 use mathlib.Core.Path.{_≡_, refl, sym, _∙_, subst}
 use mathlib.Core.Bool.{false}
 use mathlib.Core.List.{List, []}
 use native.Mathlib.Omega.{arith}
 use lib.ListN.{length, take, set, length-map, length-set}
+use borrow.Author.Needs.{needs}
+use Rattle.records.specs.Plan.{Node}
+use Rattle.records.proofs.plan.Node.{the-type}
 use Rattle.records.specs.Decoded.{nodeOf}
 use Rattle.expressions.specs.Nodes.{valuesFrom}
 use Rattle.expressions.specs.Coded.{Holds, nodesOf}
 use Rattle.expressions.proofs.ListLaws.{made-next, made-part, made-all, holds-none}
 use Rattle.expressions.proofs.NodeLaws.{values-next}
-use borrow.Author.Needs.{needs}
 use Rattle.expressions.proofs.nodes.values.Statement.{statement}
 use Rattle.expressions.proofs.nodes.values.Tie as tie
 
@@ -58,9 +58,10 @@ loop-again c =
     let s = a .before in
     let xs = s .args .t1 .items in
     let count = s .args .t1 .count in
+    let more : l .loop .i + 1 ≤ a .upto .result = search needs in
     let next = made-next nodeOf xs count 256 (a .upto .result) (long s) (a .upto .ensures .0) (l .loop .i) _ (search needs) in
     let part = made-part nodeOf xs count 256 (a .upto .result) (long s) (a .upto .ensures .0) (l .loop .i) (l .loop .inv .1) in
-    (simp length-set (l .loop .inv .0), search needs, subst (λ (ns : List Node). Holds false (set (l .loop .out) (l .loop .i) (c .value .result)) (valuesFrom (s .args .facts) ns [])) (sym next) (values-next (s .args .facts) _ _ (l .loop .out) (l .loop .i) (c .value .result) part (omega arith) (l .loop .inv .2) (c .value .ensures)))
+    (simp length-set (l .loop .inv .0), more, subst (λ (ns : List Node). Holds false (set (l .loop .out) (l .loop .i) (c .value .result)) (valuesFrom (s .args .facts) ns [])) (sym next) (values-next (s .args .facts) _ _ (l .loop .out) (l .loop .i) (c .value .result) part (omega arith) (l .loop .inv .2) (c .value .ensures)))
 
 returns : tie.Need-returns Inv-loop μ-loop
 unfolding nodesOf
