@@ -3,3 +3,4 @@ pub mod InfluenceLaws
 pub mod ListLaws
 pub mod UnionLaws
 pub mod NodeLaws
+pub mod RuleLaws

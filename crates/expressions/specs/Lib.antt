@@ -1,6 +1,7 @@
 pub mod Rules
 pub mod Nodes
 pub mod Coded
+pub mod Listed
 pub mod Influence
 pub mod Bindings
 pub mod Variables

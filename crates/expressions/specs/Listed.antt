@@ -1,0 +1,69 @@
+-- All rules of a plan in one list, in the order edges, cuts, attachments, bars, statuses: the facts that each uses, and whom it holds.
+use mathlib.Core.Path.{_≡_}
+use mathlib.Core.List.{List, [], _∷_, _++_, map}
+use Prim.Native.Nat.{ℕ, _+_}
+use lib.ListN.{length, getD, take}
+use Rattle.records.specs.Sets.{one, union, unionOf, has, only}
+use Rattle.records.specs.Plan.{Plan, Edge, Cut, Attachment, Bar, Status}
+use Rattle.expressions.specs.declared.rules.Rules.{Rules}
+
+-- what a list of nodes' uses says of a node
+abbrev pub usedAt : List ℕ → ℕ → ℕ
+usedAt us i = getD us i 0
+
+-- ---- one rule
+
+unfoldable pub endsOf : Edge → ℕ
+endsOf e = union (one (e .left)) (one (e .right))
+
+unfoldable pub spanOf : Attachment → ℕ
+spanOf a = union (a .members) (one (a .anchor))
+
+unfoldable pub edgeUsed : (ℕ → ℕ) → Edge → ℕ
+edgeUsed at e = union (at (e .condition)) (unionOf at (e .defeaters))
+
+abbrev pub cutUsed : (ℕ → ℕ) → Cut → ℕ
+cutUsed at c = at (c .condition)
+
+abbrev pub cutHolds : Cut → ℕ
+cutHolds c = c .members
+
+abbrev pub attachmentUsed : (ℕ → ℕ) → Attachment → ℕ
+attachmentUsed at a = at (a .condition)
+
+abbrev pub barUsed : (ℕ → ℕ) → Bar → ℕ
+barUsed at b = at (b .condition)
+
+abbrev pub barHolds : Bar → ℕ
+barHolds b = b .members
+
+abbrev pub statusUsed : (ℕ → ℕ) → Status → ℕ
+statusUsed at t = at (t .condition)
+
+abbrev pub statusHolds : Status → ℕ
+statusHolds t = one (t .person)
+
+-- ---- the rules of a plan
+
+unfoldable pub ruleUses : (ℕ → ℕ) → Plan → List ℕ
+ruleUses at P =
+    map (edgeUsed at) (P .edges) ++ (map (cutUsed at) (P .cuts) ++ (map (attachmentUsed at) (P .attachments)
+    ++ (map (barUsed at) (P .bars) ++ map (statusUsed at) (P .statuses))))
+
+unfoldable pub rulePersons : Plan → List ℕ
+rulePersons P =
+    map endsOf (P .edges) ++ (map cutHolds (P .cuts) ++ (map spanOf (P .attachments) ++ (map barHolds (P .bars) ++ map statusHolds (P .statuses))))
+
+-- ---- the code's list of rules
+
+abbrev pub usesOf : Rules → List ℕ
+usesOf r = take (r .count) (r .uses)
+
+abbrev pub personsOf : Rules → List ℕ
+personsOf r = take (r .count) (r .persons)
+
+-- rules put behind those that are there
+pub record Added (before after : Rules) (us ps : List ℕ) : Type 0 where
+  pub count : after .count ≡ before .count + length us
+  pub uses : usesOf after ≡ usesOf before ++ us
+  pub persons : personsOf after ≡ personsOf before ++ ps
