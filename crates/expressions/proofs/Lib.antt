@@ -3,4 +3,5 @@ pub mod InfluenceLaws
 pub mod ListLaws
 pub mod UnionLaws
 pub mod NodeLaws
+pub mod FitLaws
 pub mod RuleLaws

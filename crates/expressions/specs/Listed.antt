@@ -1,10 +1,11 @@
 -- All rules of a plan in one list, in the order edges, cuts, attachments, bars, statuses: the facts that each uses, and whom it holds.
 use mathlib.Core.Path.{_≡_}
 use mathlib.Core.List.{List, [], _∷_, _++_, map}
-use Prim.Native.Nat.{ℕ, _+_}
+use Prim.Native.Nat.{ℕ, _+_, _≤_}
 use lib.ListN.{length, getD, take}
-use Rattle.records.specs.Sets.{one, union, unionOf, has, only}
+use Rattle.records.specs.Sets.{one, union, unionOf}
 use Rattle.records.specs.Plan.{Plan, Edge, Cut, Attachment, Bar, Status}
+use Rattle.expressions.specs.Rules.{ruleSets}
 use Rattle.expressions.specs.declared.rules.Rules.{Rules}
 
 -- what a list of nodes' uses says of a node
@@ -45,14 +46,15 @@ statusHolds t = one (t .person)
 
 -- ---- the rules of a plan
 
+-- of those that a closing goes by: their sets are `ruleSets`
+unfoldable pub joiningUses : (ℕ → ℕ) → Plan → List ℕ
+joiningUses at P = map (edgeUsed at) (P .edges) ++ (map (cutUsed at) (P .cuts) ++ (map (attachmentUsed at) (P .attachments) ++ map (barUsed at) (P .bars)))
+
 unfoldable pub ruleUses : (ℕ → ℕ) → Plan → List ℕ
-ruleUses at P =
-    map (edgeUsed at) (P .edges) ++ (map (cutUsed at) (P .cuts) ++ (map (attachmentUsed at) (P .attachments)
-    ++ (map (barUsed at) (P .bars) ++ map (statusUsed at) (P .statuses))))
+ruleUses at P = joiningUses at P ++ map (statusUsed at) (P .statuses)
 
 unfoldable pub rulePersons : Plan → List ℕ
-rulePersons P =
-    map endsOf (P .edges) ++ (map cutHolds (P .cuts) ++ (map spanOf (P .attachments) ++ (map barHolds (P .bars) ++ map statusHolds (P .statuses))))
+rulePersons P = ruleSets P ++ map statusHolds (P .statuses)
 
 -- ---- the code's list of rules
 
@@ -67,3 +69,13 @@ pub record Added (before after : Rules) (us ps : List ℕ) : Type 0 where
   pub count : after .count ≡ before .count + length us
   pub uses : usesOf after ≡ usesOf before ++ us
   pub persons : personsOf after ≡ personsOf before ++ ps
+
+-- the rules that a closing goes by, and all rules of a plan
+pub record Joining (P : Plan) (at : ℕ → ℕ) (r : Rules) : Type 0 where
+  pub uses : usesOf r ≡ joiningUses at P
+  pub persons : personsOf r ≡ ruleSets P
+  pub few : r .count ≤ 144
+
+pub record Listed (P : Plan) (at : ℕ → ℕ) (r : Rules) : Type 0 where
+  pub uses : usesOf r ≡ ruleUses at P
+  pub persons : personsOf r ≡ rulePersons P

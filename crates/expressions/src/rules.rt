@@ -8,6 +8,7 @@ use records::plan::Bars;
 use records::plan::Cuts;
 use records::plan::Edge;
 use records::plan::Edges;
+use records::plan::Plan;
 use records::plan::Statuses;
 use records::sets::bit;
 use records::sets::union;
@@ -15,10 +16,10 @@ ghost use mathlib.Core.Path.{_≡_};
 ghost use mathlib.Core.List.{[], _∷_, map};
 ghost use Prim.Native.Nat.{_<_, _≤_, _+_};
 ghost use Rattle.records.specs.Sets.{one};
-ghost use Rattle.records.specs.Sound.{All};
-ghost use Rattle.records.specs.Decoded.{edgeOf, attachmentOf};
+ghost use Rattle.records.specs.Sound.{All, Sound};
+ghost use Rattle.records.specs.Decoded.{edgeOf, attachmentOf, planOf};
 ghost use Rattle.expressions.specs.Coded.{edgesOf, cutsOf, attachmentsOf, barsOf, statusesOf, EndsFit, AnchorFits, PersonFits};
-ghost use Rattle.expressions.specs.Listed.{usedAt, endsOf, spanOf, edgeUsed, cutUsed, cutHolds, attachmentUsed, barUsed, barHolds, statusUsed, statusHolds, Added};
+ghost use Rattle.expressions.specs.Listed.{Joining, Listed, usedAt, endsOf, spanOf, edgeUsed, cutUsed, cutHolds, attachmentUsed, barUsed, barHolds, statusUsed, statusHolds, Added};
 
 pub struct Rules {
     pub count: usize,
@@ -150,4 +151,33 @@ fn add_statuses(rules: Rules, statuses: Statuses, nodes: &[u64; 256]) -> Rules
         i = i + 1;
     }
     all
+}
+
+// The rules that a closing goes by: edges, cuts, attachments with anchor, bars.
+pub fn joining(plan: Plan, nodes: &[u64; 256]) -> Rules
+    requires { ⌜ Sound (planOf plan) ⌝ }
+    ensures { λ r. ⌜ Joining (planOf plan) (usedAt (now (nodes .entry))) r ⌝ }
+{
+    let edges = plan.edges;
+    let cuts = plan.cuts;
+    let attachments = plan.attachments;
+    let bars = plan.bars;
+    let none = Rules {
+        count: 0,
+        uses: [0; 176],
+        persons: [0; 176],
+    };
+    let first = add_edges(none, edges, nodes);
+    let second = add_cuts(first, cuts, nodes);
+    let third = add_attachments(second, attachments, nodes);
+    add_bars(third, bars, nodes)
+}
+
+// All rules: statuses come last.
+pub fn all_rules(plan: Plan, joined: Rules, nodes: &[u64; 256]) -> Rules
+    requires { ⌜ Sound (planOf plan) × Joining (planOf plan) (usedAt (now nodes)) joined ⌝ }
+    ensures { λ r. ⌜ Listed (planOf plan) (usedAt (now (nodes .entry))) r ⌝ }
+{
+    let statuses = plan.statuses;
+    add_statuses(joined, statuses, nodes)
 }
