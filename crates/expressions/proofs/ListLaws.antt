@@ -2,14 +2,16 @@
 use Prim.Native.Nat.{ℕ, zero, suc, _+_, _≤_, _<_, min}
 use mathlib.Core.Path.{_≡_, refl, sym, ap, ap₂, _∙_, subst}
 use mathlib.Core.Bool.{Bool, true, false, _&&_, _||_}
+use mathlib.Core.Logic.{_⊎_, inl, inr}
 use mathlib.Core.List.{List, [], _∷_, _++_, map}
 use native.Mathlib.Numerals.{add-one}
 use native.Mathlib.Omega.{arith}
 use lib.ListN.{length, getD, take, drop, set, replicate, length-take, length-map, List·getD-map, drop-of-length-le}
-use lib.Seq.{drop-cons, getD-take, take-suc, take-all, length-take-le}
+use lib.Seq.{take-suc-set, drop-cons, getD-take, take-suc, take-all, length-take-le}
 use Rattle.records.specs.Sets.{allOf, anyOf}
 use Rattle.records.specs.Sound.{All}
 use Rattle.records.proofs.LoopLaws.{all-at}
+use Rattle.records.proofs.SetLaws.{lt-or-le}
 use Rattle.expressions.specs.Coded.{Holds}
 
 -- ---- the entries in use: n of them, as many as the count says and no more than there are
@@ -29,6 +31,19 @@ module _ {A : Type 0} (xs : List A) (count most n : ℕ) (long : length xs ≡ m
 
   pub used-end : (i : ℕ) → n ≤ i → drop i (take count xs) ≡ []
   used-end i h = let l = used-length in let k : length (take count xs) ≤ i = omega arith in drop-of-length-le (take count xs) k
+
+  pub used-take : take n xs ≡ take count xs
+  used-take = pick (lt-or-le count most)
+    where
+      pick : (count < most) ⊎ (most ≤ count) → take n xs ≡ take count xs
+      pick (inl h) = let e : n ≡ count = omega arith in ap (λ (k : ℕ). take k xs) e
+      pick (inr h) = take-all n xs (omega arith) ∙ sym (take-all count xs (omega arith))
+
+-- the front of one array copied to another
+pub copy-next : {A : Type 0} (xs ys : List A) (i : ℕ) (d : A) → i < length xs → i < length ys → take i xs ≡ take i ys
+    → take (i + 1) (set xs i (getD ys i d)) ≡ take (i + 1) ys
+copy-next xs ys i d h k e =
+    rw add-one (take-suc-set xs i (getD ys i d) h ∙ ap (λ (l : List _). l ++ (getD ys i d ∷ [])) e ∙ sym (take-suc ys i d k))
 
 -- ---- a list made from the entries in use, one entry at a time
 
