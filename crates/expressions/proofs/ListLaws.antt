@@ -23,6 +23,10 @@ module _ {A : Type 0} (xs : List A) (count most n : ℕ) (long : length xs ≡ m
   pub used-at : (i : ℕ) (d : A) → i < n → getD (take count xs) i d ≡ getD xs i d
   used-at i d h = getD-take count xs i d (omega arith)
 
+  -- what holds of each
+  pub used-each : (Q : A → Type 0) (i : ℕ) (d : A) → i < n → All Q (take count xs) → Q (getD xs i d)
+  used-each Q i d h q = let l = used-length in subst Q (used-at i d h) (all-at Q (take count xs) d i q (omega arith))
+
   -- one entry more, at the code's i + 1
   pub used-next : (i : ℕ) (d k : A) → i < n → k ≡ getD xs i d → drop i (take count xs) ≡ k ∷ drop (i + 1) (take count xs)
   used-next i d k h e =

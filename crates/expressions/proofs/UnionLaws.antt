@@ -3,8 +3,9 @@ use Prim.Native.Nat.{ℕ}
 use mathlib.Core.Path.{_≡_, refl, sym, ap, ap₂, _∙_}
 use mathlib.Core.Bool.{Bool, true, false, _||_}
 use mathlib.Core.List.{List, [], _∷_, _++_}
-use Rattle.records.specs.Sets.{has, union, unionOf}
+use Rattle.records.specs.Sets.{has, one, union, only, setOf, unionOf}
 use Rattle.records.proofs.SetLaws.{ext, has-union, has-none}
+use Rattle.expressions.specs.Listed.{usersIn}
 
 or-assoc : (x y z : Bool) → ((x || y) || z) ≡ (x || (y || z))
 or-assoc true y z = refl
@@ -40,3 +41,19 @@ union-append f (x ∷ xs) ys = ap (union (f x)) (union-append f xs ys) ∙ sym (
 pub union-go : {A : Type 0} (f : A → ℕ) (m : ℕ) (x : A) (rest : List A) → union (union m (f x)) (unionOf f rest) ≡ union m (unionOf f (x ∷ rest))
 unfolding unionOf
 union-go f m x rest = union-assoc m (f x) (unionOf f rest)
+
+pub set-union : (ps : List ℕ) → setOf ps ≡ unionOf one ps
+unfolding setOf unionOf
+set-union [] = refl
+set-union (p ∷ ps) = ap (union (one p)) (set-union ps)
+
+-- a set that comes in where the test holds
+pub joined-if : (m p : ℕ) (b : Bool) → b ≡ true → union m p ≡ union m (only b p)
+joined-if m p b e = ap (λ (x : Bool). union m (only x p)) (sym e)
+
+pub left-if : (m p : ℕ) (b : Bool) → b ≡ false → m ≡ union m (only b p)
+left-if m p b e = sym (union-none m) ∙ ap (λ (x : Bool). union m (only x p)) (sym e)
+
+pub users-go : (f m n u p : ℕ) (us ps : List ℕ) → n ≡ union m (only (has u f) p) → union n (usersIn f us ps) ≡ union m (usersIn f (u ∷ us) (p ∷ ps))
+unfolding usersIn
+users-go f m n u p us ps e = ap (λ (x : ℕ). union x (usersIn f us ps)) e ∙ union-assoc m (only (has u f) p) (usersIn f us ps)

@@ -3,8 +3,10 @@ use mathlib.Core.Path.{_≡_}
 use mathlib.Core.List.{List, [], _∷_, map}
 use Prim.Native.Nat.{ℕ, _<_}
 use lib.ListN.{getD, take}
-use Rattle.records.specs.Plan.{Node, literal, fact, conj, disj, neg, Edge, Cut, Attachment, Bar, Status}
-use Rattle.records.specs.Decoded.{nodeOf, edgeOf, cutOf, attachmentOf, barOf, statusOf}
+use Rattle.records.specs.Sound.{All}
+use Rattle.records.specs.Plan.{Fact, Node, literal, fact, conj, disj, neg, Edge, Cut, Attachment, Bar, Status}
+use Rattle.records.specs.Decoded.{factOf, nodeOf, edgeOf, cutOf, attachmentOf, barOf, statusOf}
+use Rattle.records.specs.declared.plan.Facts.{Facts}
 use Rattle.records.specs.declared.plan.Nodes.{Nodes}
 use Rattle.records.specs.declared.plan.Edges.{Edges}
 use Rattle.records.specs.declared.plan.Cuts.{Cuts}
@@ -15,6 +17,9 @@ use Rattle.records.specs.declared.plan.Statuses.{Statuses}
 -- an array holds the list's entries, and d past them
 pub record Holds {A : Type 0} (d : A) (array list : List A) : Type 0 where
   pub at : (i : ℕ) → getD array i d ≡ getD list i d
+
+unfoldable pub factsOf : Facts → List Fact
+factsOf n = map factOf (take (n .count) (n .items))
 
 unfoldable pub nodesOf : Nodes → List Node
 nodesOf n = map nodeOf (take (n .count) (n .items))
@@ -51,3 +56,6 @@ AnchorFits a = a .anchor < 64
 
 abbrev pub PersonFits : Status → Type 0
 PersonFits t = t .person < 64
+
+abbrev pub TupleFits : Fact → Type 0
+TupleFits f = All (λ p. p < 64) (f .tuple)

@@ -3,8 +3,8 @@ use mathlib.Core.Path.{_≡_}
 use mathlib.Core.List.{List, [], _∷_, _++_, map}
 use Prim.Native.Nat.{ℕ, _+_, _≤_}
 use lib.ListN.{length, getD, take}
-use Rattle.records.specs.Sets.{one, union, unionOf}
-use Rattle.records.specs.Plan.{Plan, Edge, Cut, Attachment, Bar, Status}
+use Rattle.records.specs.Sets.{one, union, unionOf, setOf, has, only}
+use Rattle.records.specs.Plan.{Plan, Fact, Edge, Cut, Attachment, Bar, Status}
 use Rattle.expressions.specs.Rules.{ruleSets}
 use Rattle.expressions.specs.declared.rules.Rules.{Rules}
 
@@ -55,6 +55,16 @@ ruleUses at P = joiningUses at P ++ map (statusUsed at) (P .statuses)
 
 unfoldable pub rulePersons : Plan → List ℕ
 rulePersons P = ruleSets P ++ map statusHolds (P .statuses)
+
+-- "all persons of rules using it", from the two lists
+unfoldable pub usersIn : ℕ → List ℕ → List ℕ → ℕ
+usersIn f [] ps = 0
+usersIn f (u ∷ us) [] = 0
+usersIn f (u ∷ us) (p ∷ ps) = union (only (has u f) p) (usersIn f us ps)
+
+-- whom the fact x of number f touches, where these facts are the constraints'
+unfoldable pub touchedBy : List ℕ → List ℕ → ℕ → ℕ → ℕ → Fact → ℕ
+touchedBy us ps constraints roster f x = union (setOf (x .tuple)) (union (only (has constraints f) roster) (usersIn f us ps))
 
 -- ---- the code's list of rules
 

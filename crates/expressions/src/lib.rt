@@ -3,4 +3,5 @@ pub mod counts;
 pub mod groups;
 pub mod nodes;
 pub mod rules;
+pub mod touch;
 pub mod uses;
