@@ -5,3 +5,4 @@ pub mod UnionLaws
 pub mod NodeLaws
 pub mod FitLaws
 pub mod RuleLaws
+pub mod TouchLaws

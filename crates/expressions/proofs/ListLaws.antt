@@ -5,12 +5,13 @@ use mathlib.Core.Bool.{Bool, true, false, _&&_, _||_}
 use mathlib.Core.Logic.{_⊎_, inl, inr}
 use mathlib.Core.List.{List, [], _∷_, _++_, map}
 use native.Mathlib.Numerals.{add-one}
+use native.Mathlib.Nat.{add-zero, zero-add}
 use native.Mathlib.Omega.{arith}
-use lib.ListN.{length, getD, take, drop, set, replicate, length-take, length-map, List·getD-map, drop-of-length-le}
+use lib.ListN.{length, getD, take, drop, set, replicate, length-take, length-map, drop-of-length-le}
 use lib.Seq.{take-suc-set, drop-cons, getD-take, take-suc, take-all, length-take-le}
-use Rattle.records.specs.Sets.{allOf, anyOf}
+use Rattle.records.specs.Sets.{allOf, anyOf, numbers, below}
 use Rattle.records.specs.Sound.{All}
-use Rattle.records.proofs.LoopLaws.{all-at}
+use Rattle.records.proofs.LoopLaws.{length-below, all-at, getD-made}
 use Rattle.records.proofs.SetLaws.{lt-or-le}
 use Rattle.expressions.specs.Coded.{Holds}
 
@@ -55,14 +56,15 @@ module _ {A B : Type 0} (f : A → B) (xs : List A) (count most n : ℕ) (long :
   pub made-length : length (map f (take count xs)) ≡ n
   made-length = length-map (take count xs) f ∙ used-length xs count most n long some
 
-  pub made-at : (i : ℕ) (d : A) → i < n → getD (map f (take count xs)) i (f d) ≡ f (getD xs i d)
-  made-at i d h = List·getD-map f (take count xs) i d ∙ ap f (used-at xs count most n long some i d h)
+  pub made-at : (i : ℕ) (d : A) (e : B) → i < n → getD (map f (take count xs)) i e ≡ f (getD xs i d)
+  made-at i d e h =
+      ap (λ (l : List A). getD (map f l) i e) (sym (used-take xs count most n long some)) ∙ getD-made f xs n i d e h (omega arith)
 
   pub made-next : (i : ℕ) (d : A) → i < n → take (i + 1) (map f (take count xs)) ≡ take i (map f (take count xs)) ++ (f (getD xs i d) ∷ [])
   made-next i d h =
       let l = made-length in
       let all = map f (take count xs) in
-      ap (λ (j : ℕ). take j all) (add-one i) ∙ take-suc all i (f d) (omega arith) ∙ ap (λ (x : B). take i all ++ (x ∷ [])) (made-at i d h)
+      ap (λ (j : ℕ). take j all) (add-one i) ∙ take-suc all i (f d) (omega arith) ∙ ap (λ (x : B). take i all ++ (x ∷ [])) (made-at i d (f d) h)
 
   pub made-part : (i : ℕ) → i ≤ n → length (take i (map f (take count xs))) ≡ i
   made-part i h = let l = made-length in length-take-le i (map f (take count xs)) (omega arith)
@@ -72,7 +74,7 @@ module _ {A B : Type 0} (f : A → B) (xs : List A) (count most n : ℕ) (long :
 
   -- what holds of each
   pub made-each : (Q : B → Type 0) (i : ℕ) (d : A) → i < n → All Q (map f (take count xs)) → Q (f (getD xs i d))
-  made-each Q i d h q = let l = made-length in subst Q (made-at i d h) (all-at Q (map f (take count xs)) (f d) i q (omega arith))
+  made-each Q i d h q = let l = made-length in subst Q (made-at i d (f d) h) (all-at Q (map f (take count xs)) (f d) i q (omega arith))
 
 -- ---- a test of all or any of the entries, by the first of them
 
@@ -129,3 +131,27 @@ pub holds-next : {A : Type 0} (d : A) (out done : List A) (i : ℕ) (v : A) → 
     → Holds d (set out i v) (done ++ (v ∷ []))
 holds-next d out done i v e l h =
     subst (λ (j : ℕ). Holds d (set out j v) (done ++ (v ∷ []))) e (record { at = stored d out done v (omega arith) (λ k. h .at k) })
+
+-- ---- f 0 … f (n − 1), one more at the end
+
+numbers-last : (n k : ℕ) → numbers (suc n) k ≡ numbers n k ++ ((k + n) ∷ [])
+unfolding numbers
+numbers-last zero k = ap (λ (x : ℕ). x ∷ []) (sym (add-zero k))
+numbers-last (suc n) k =
+    let e : suc k + n ≡ k + suc n = omega arith in
+    ap (λ (l : List ℕ). k ∷ l) (numbers-last n (suc k) ∙ ap (λ (x : ℕ). numbers n (suc k) ++ (x ∷ [])) e)
+
+pub map-append : {A B : Type 0} (f : A → B) (xs ys : List A) → map f (xs ++ ys) ≡ map f xs ++ map f ys
+map-append f [] ys = refl
+map-append f (x ∷ xs) ys = ap (λ (l : List _). f x ∷ l) (map-append f xs ys)
+
+pub below-last : {A : Type 0} (n : ℕ) (f : ℕ → A) → below (suc n) f ≡ below n f ++ (f n ∷ [])
+unfolding below
+below-last n f = ap (map f) (numbers-last n 0) ∙ map-append f (numbers n 0) ((0 + n) ∷ []) ∙ ap (λ (x : ℕ). map f (numbers n 0) ++ (f x ∷ [])) (zero-add n)
+
+-- an array filled by number
+pub fill-next : {A : Type 0} (d : A) (f : ℕ → A) (out : List A) (i : ℕ) (v : A) → i < length out → Holds d out (below i f) → v ≡ f i
+    → Holds d (set out i v) (below (i + 1) f)
+fill-next d f out i v l h e =
+    subst (Holds d (set out i v)) (ap (λ (x : _). below i f ++ (x ∷ [])) e ∙ sym (ap (λ (k : ℕ). below k f) (add-one i) ∙ below-last i f))
+    (holds-next d out (below i f) i v (length-below i f) l h)

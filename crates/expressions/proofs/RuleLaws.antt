@@ -1,7 +1,7 @@
 -- Laws of the list of a plan's rules, as it is put together. Assumes nothing.
+use Prim.Native.Nat.{ℕ, zero, suc, _+_}
 use mathlib.Core.Path.{_≡_, refl, sym, ap, ap₂, _∙_, subst₂}
 use mathlib.Core.List.{List, [], _∷_, _++_, map, append-assoc, append-nil}
-use Prim.Native.Nat.{ℕ, zero, suc, _+_}
 use native.Mathlib.Nat.{add-zero}
 use native.Mathlib.Omega.{arith}
 use lib.ListN.{length, getD, length-append}
@@ -10,6 +10,7 @@ use Rattle.records.specs.Plan.{Plan}
 use Rattle.expressions.specs.Rules.{ruleSets, pair, span, edge, cut, attachment, bar}
 use Rattle.expressions.specs.declared.rules.Rules.{Rules}
 use Rattle.expressions.specs.Listed.{Added, usesOf, personsOf, endsOf, spanOf, cutHolds, barHolds}
+use Rattle.expressions.proofs.ListLaws.{map-append}
 
 pub added-none : (r : Rules) → Added r r [] []
 added-none r = record { count = sym (add-zero (r .count)); uses = sym (append-nil (usesOf r)); persons = sym (append-nil (personsOf r)) }
@@ -25,10 +26,6 @@ added-then {a} {b} {c} {us} {ps} {vs} {qs} h k =
       persons = k .persons ∙ ap (λ (l : List ℕ). l ++ qs) (h .persons) ∙ append-assoc (personsOf a) ps qs;
     }
 
-map-last : {A : Type 0} (f : A → ℕ) (xs : List A) (x : A) → map f (xs ++ (x ∷ [])) ≡ map f xs ++ (f x ∷ [])
-map-last f [] x = refl
-map-last f (y ∷ xs) x = ap (λ (l : List ℕ). f y ∷ l) (map-last f xs x)
-
 -- a rule that stands for x, behind those that stand for xs
 pub added-next : {A : Type 0} (g h : A → ℕ) {a b c : Rules} (xs ys : List A) (x : A) {u p : ℕ} → Added a b (map g xs) (map h xs) → Added b c (u ∷ []) (p ∷ [])
     → u ≡ g x → p ≡ h x → ys ≡ xs ++ (x ∷ []) → Added a c (map g ys) (map h ys)
@@ -36,7 +33,7 @@ added-next g h {a} {b} {c} xs ys x {u} {p} before one e k s =
     subst₂ (Added a c) (last g e) (last h k) (added-then before one)
   where
     last : (f : _ → ℕ) {v : ℕ} → v ≡ f x → map f xs ++ (v ∷ []) ≡ map f ys
-    last f e = ap (λ (v : ℕ). map f xs ++ (v ∷ [])) e ∙ sym (map-last f xs x) ∙ ap (map f) (sym s)
+    last f e = ap (λ (v : ℕ). map f xs ++ (v ∷ [])) e ∙ sym (map-append f xs (x ∷ [])) ∙ ap (map f) (sym s)
 
 -- ---- rules by number, as a list of them
 

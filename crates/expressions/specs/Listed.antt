@@ -3,7 +3,7 @@ use mathlib.Core.Path.{_≡_}
 use mathlib.Core.List.{List, [], _∷_, _++_, map}
 use Prim.Native.Nat.{ℕ, _+_, _≤_}
 use lib.ListN.{length, getD, take}
-use Rattle.records.specs.Sets.{one, union, unionOf, setOf, has, only}
+use Rattle.records.specs.Sets.{one, union, unionOf, setOf, has, only, below}
 use Rattle.records.specs.Plan.{Plan, Fact, Edge, Cut, Attachment, Bar, Status}
 use Rattle.expressions.specs.Rules.{ruleSets}
 use Rattle.expressions.specs.declared.rules.Rules.{Rules}
@@ -65,6 +65,14 @@ usersIn f (u ∷ us) (p ∷ ps) = union (only (has u f) p) (usersIn f us ps)
 -- whom the fact x of number f touches, where these facts are the constraints'
 unfoldable pub touchedBy : List ℕ → List ℕ → ℕ → ℕ → ℕ → Fact → ℕ
 touchedBy us ps constraints roster f x = union (setOf (x .tuple)) (union (only (has constraints f) roster) (usersIn f us ps))
+
+-- of each fact; nobody for one that is not among the bound
+unfoldable pub touchBy : List ℕ → List ℕ → ℕ → ℕ → ℕ → List Fact → ℕ → ℕ
+touchBy us ps constraints roster bound fs f =
+    only (has bound f) (touchedBy us ps constraints roster f (getD fs f (record { family = []; tuple = [] })))
+
+unfoldable pub touchesBy : List ℕ → List ℕ → ℕ → ℕ → ℕ → List Fact → List ℕ
+touchesBy us ps constraints roster bound fs = below (length fs) (touchBy us ps constraints roster bound fs)
 
 -- ---- the code's list of rules
 

@@ -5,6 +5,7 @@ use crate::rules::Rules;
 use crate::uses::used_by;
 use records::case::Constraints;
 use records::plan::Fact;
+use records::plan::Facts;
 use records::plan::Numbers;
 use records::sets::bit;
 use records::sets::contains;
@@ -12,9 +13,10 @@ use records::sets::union;
 ghost use mathlib.Core.Path.{_≡_};
 ghost use lib.ListN.{take};
 ghost use Rattle.records.specs.Sets.{union as both, unionOf, setOf};
+ghost use Rattle.records.specs.Sound.{All};
 ghost use Rattle.records.specs.Decoded.{factOf};
-ghost use Rattle.expressions.specs.Coded.{TupleFits};
-ghost use Rattle.expressions.specs.Listed.{usedAt, usesOf, personsOf, usersIn, touchedBy};
+ghost use Rattle.expressions.specs.Coded.{Holds, TupleFits, factsOf};
+ghost use Rattle.expressions.specs.Listed.{usedAt, usesOf, personsOf, usersIn, touchedBy, touchesBy};
 
 // The facts that the constraints use.
 pub fn constraint_uses(constraints: Constraints, nodes: &[u64; 256]) -> u64
@@ -85,4 +87,25 @@ pub fn touched(fact: Fact, f: u8, rules: Rules, constraints: u64, roster: u64) -
         all = roster;
     }
     union(named(fact), union(all, users(rules, f)))
+}
+
+// Whom each fact touches; nobody for a fact that is not bound.
+pub fn touches(facts: Facts, rules: Rules, constraints: u64, roster: u64, bound: u64) -> [u64; 64]
+    requires { ⌜ All TupleFits (factsOf facts) ⌝ }
+    ensures { λ r. ⌜ Holds 0 r (touchesBy (usesOf rules) (personsOf rules) constraints roster bound (factsOf facts)) ⌝ }
+{
+    let n = upto(facts.count, 64);
+    let mut out = [0u64; 64];
+    let mut i: usize = 0;
+    while i < n {
+        let fact = facts.items[i];
+        let f = i as u8;
+        let mut t: u64 = 0;
+        if contains(bound, f) {
+            t = touched(fact, f, rules, constraints, roster);
+        }
+        out[i] = t;
+        i = i + 1;
+    }
+    out
 }
