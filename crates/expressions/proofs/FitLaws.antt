@@ -1,10 +1,10 @@
 -- Of an accepted plan, what the masks ask: facts and persons named by number are below 64. Assumes nothing.
-use mathlib.Core.List.{List, [], _∷_}
 use Prim.Native.Nat.{ℕ, suc}
+use mathlib.Core.List.{List, [], _∷_}
 use native.Mathlib.Omega.{arith}
 use Rattle.records.specs.Plan.{Plan, Node, literal, fact, conj, disj, neg}
-use Rattle.records.specs.Sound.{All, Sound, SoundNode, SoundNodes, SoundEdge, SoundAttachment, SoundStatus}
-use Rattle.expressions.specs.Coded.{FactFits, EndsFit, AnchorFits, PersonFits}
+use Rattle.records.specs.Sound.{All, Sound, SoundFact, SoundNode, SoundNodes, SoundEdge, SoundAttachment, SoundStatus}
+use Rattle.expressions.specs.Coded.{TupleFits, FactFits, EndsFit, AnchorFits, PersonFits}
 
 all-map : {A : Type 0} (Q R : A → Type 0) → ((x : A) → Q x → R x) → (xs : List A) → All Q xs → All R xs
 all-map Q R f [] h = tt
@@ -33,3 +33,6 @@ module _ (P : Plan) (sound : Sound P) where
 
   pub statuses-fit : All PersonFits (P .statuses)
   statuses-fit = all-map (SoundStatus P) PersonFits (λ t h. h .person) (P .statuses) (sound .statuses)
+
+  pub facts-fit : All TupleFits (P .facts)
+  facts-fit = all-map SoundFact TupleFits (λ f h. h .1) (P .facts) (sound .facts)

@@ -1,6 +1,6 @@
 -- Whom a fact touches and which facts are bound, from the list of rules: what document 01 says kind by kind. Assumes nothing.
 use Prim.Native.Nat.{ℕ, zero, suc}
-use mathlib.Core.Path.{_≡_, refl, sym, ap, ap₂, _∙_, fun-ext}
+use mathlib.Core.Path.{_≡_, refl, sym, ap, ap₂, _∙_, subst, fun-ext}
 use mathlib.Core.List.{List, [], _∷_, _++_, map, append-assoc}
 use lib.ListN.{length, getD}
 use Rattle.records.specs.Sets.{has, one, union, only, setOf, below, numbers, unionBelow, unionOf}
@@ -8,6 +8,7 @@ use Rattle.records.specs.Plan.{getFact}
 use Rattle.expressions.specs.Rules.{edge, cut, attachment, bar, status, pair, span}
 use Rattle.expressions.specs.Influence.{Frame, usesAt, edgeUses, cutUses, attachmentUses, barUses, statusUses, usersOf, constraintUses, boundFacts, touched, touch, touches}
 use Rattle.expressions.specs.Listed.{endsOf, spanOf, edgeUsed, cutUsed, cutHolds, attachmentUsed, barUsed, barHolds, statusUsed, statusHolds, joiningUses, ruleUses, rulePersons, usersIn, touchedBy, touchBy, touchesBy}
+use Rattle.expressions.specs.Coded.{Holds}
 use Rattle.expressions.proofs.ListLaws.{below-last}
 use Rattle.expressions.proofs.UnionLaws.{union-assoc, union-none, none-union, union-append}
 use Rattle.expressions.proofs.RuleLaws.{below-list, rule-sets}
@@ -96,3 +97,10 @@ module _ (F : Frame) where
   pub touches-list : touches F ≡ touchesBy (ruleUses (usesAt (F .plan)) (F .plan)) (rulePersons (F .plan)) (constraintUses F) (F .roster) (boundFacts F) (F .plan .facts)
   unfolding touches touch touchesBy touchBy getFact
   touches-list = ap (below (length (F .plan .facts))) (fun-ext (λ f. ap (only (has (boundFacts F) f)) (touched-list f)))
+
+  -- what the code's lists and masks make of it
+  pub touches-from : (us ps : List ℕ) (used bound : ℕ) (out : List ℕ) → us ≡ ruleUses (usesAt (F .plan)) (F .plan) → ps ≡ rulePersons (F .plan)
+      → used ≡ constraintUses F → bound ≡ boundFacts F → Holds 0 out (touchesBy us ps used (F .roster) bound (F .plan .facts)) → Holds 0 out (touches F)
+  touches-from us ps used bound out e k u b h =
+      subst (Holds 0 out) (ap₂ (λ (x y : List ℕ). touchesBy x y used (F .roster) bound (F .plan .facts)) e k
+      ∙ ap₂ (λ (x y : ℕ). touchesBy (ruleUses (usesAt (F .plan)) (F .plan)) (rulePersons (F .plan)) x (F .roster) y (F .plan .facts)) u b ∙ sym touches-list) h

@@ -5,7 +5,10 @@ use Prim.Native.Nat.{ℕ, _<_}
 use lib.ListN.{getD, take}
 use Rattle.records.specs.Sound.{All}
 use Rattle.records.specs.Plan.{Fact, Node, literal, fact, conj, disj, neg, Edge, Cut, Attachment, Bar, Status}
-use Rattle.records.specs.Decoded.{factOf, nodeOf, edgeOf, cutOf, attachmentOf, barOf, statusOf}
+use Rattle.records.specs.Decoded.{factOf, nodeOf, edgeOf, cutOf, attachmentOf, barOf, statusOf, planOf}
+use Rattle.expressions.specs.Influence.{Frame}
+use Rattle.records.specs.declared.case.Constraints.{Constraints}
+use Rattle.records.specs.declared.plan.Plan.{Plan as Coded}
 use Rattle.records.specs.declared.plan.Facts.{Facts}
 use Rattle.records.specs.declared.plan.Nodes.{Nodes}
 use Rattle.records.specs.declared.plan.Edges.{Edges}
@@ -59,3 +62,7 @@ PersonFits t = t .person < 64
 
 abbrev pub TupleFits : Fact → Type 0
 TupleFits f = All (λ p. p < 64) (f .tuple)
+
+-- plan, roster and constraints, from which touch and circles follow
+unfoldable pub frameBy : Coded → ℕ → Constraints → Frame
+frameBy plan roster constraints = record { plan = planOf plan; roster = roster; constraints = take (constraints .count) (constraints .items) }

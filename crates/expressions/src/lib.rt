@@ -2,6 +2,7 @@
 pub mod counts;
 pub mod groups;
 pub mod nodes;
+pub mod reach;
 pub mod rules;
 pub mod touch;
 pub mod uses;
