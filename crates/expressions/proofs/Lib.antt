@@ -6,3 +6,4 @@ pub mod NodeLaws
 pub mod FitLaws
 pub mod RuleLaws
 pub mod TouchLaws
+pub mod DecisionLaws

@@ -3,6 +3,7 @@ pub mod Nodes
 pub mod Coded
 pub mod Listed
 pub mod Reached
+pub mod Undecided
 pub mod Influence
 pub mod Bindings
 pub mod Variables

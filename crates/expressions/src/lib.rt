@@ -1,5 +1,6 @@
 // Conditions, bindings, variables and influence.
 pub mod counts;
+pub mod decisions;
 pub mod groups;
 pub mod nodes;
 pub mod reach;
