@@ -1,21 +1,20 @@
 -- Laws of the unresolved decisions: searched by number, listed one by one, and how many there are. Assumes nothing.
+use Prim.Native.Nat.{ℕ, zero, suc, _+_, _<_}
 use mathlib.Core.Path.{_≡_, refl, sym, ap, ap₂, _∙_, subst}
-use mathlib.Core.Bool.{Bool, true, false, _&&_, _||_, cond}
-use mathlib.Core.Logic.{_⊎_, inl, inr, ⊎-elim}
+use mathlib.Core.Bool.{Bool, true, false, _&&_, _||_}
+use mathlib.Core.Logic.{_⊎_, ⊎-elim}
 use mathlib.Core.List.{List, [], _∷_, _++_}
-use Prim.Native.Nat.{ℕ, zero, suc, _+_, _≤_, _<_}
 use native.Mathlib.Nat.{le-of-suc-le-suc, not-suc-le-zero, eq-or-lt-of-le}
 use native.Mathlib.Numerals.{add-one}
 use native.Mathlib.Omega.{arith}
-use lib.ListN.{length, getD, set, List·getD-eq-default}
+use lib.ListN.{length, set}
 use lib.Seq.{ext-getD, getD-set-same, getD-set-other}
 use lib.Dec.{eqb}
-use borrow.Author.Tests.{eqb-true, eqb-false, eq-eqb, ne-eqb}
-use Rattle.records.specs.Sets.{below, numbers, anyOf, anyBelow}
-use Rattle.records.specs.Plan.{Plan, Decision, Cut, unresolvedIn, unresolved}
+use borrow.Author.Tests.{eq-eqb, ne-eqb}
+use Rattle.records.specs.Sets.{below, numbers, anyOf}
 use Rattle.records.proofs.LoopLaws.{length-below, getD-below}
 use Rattle.expressions.specs.Influence.{Open}
-use Rattle.expressions.specs.Undecided.{decides, pairOf, openAt, opensOf}
+use Rattle.expressions.specs.Undecided.{pairOf, openAt}
 use Rattle.expressions.proofs.ListLaws.{below-last}
 
 -- ---- any of f 0 … f (n − 1)

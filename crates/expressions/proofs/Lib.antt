@@ -7,3 +7,4 @@ pub mod FitLaws
 pub mod RuleLaws
 pub mod TouchLaws
 pub mod DecisionLaws
+pub mod OpenLaws

@@ -1,11 +1,11 @@
 -- The unresolved decisions as the code lists them.
-use mathlib.Core.Bool.{Bool, _&&_}
-use mathlib.Core.List.{List}
-use Prim.Native.Nat.{ℕ}
+use mathlib.Core.Bool.{Bool, _&&_, cond}
+use mathlib.Core.List.{List, [], _∷_, _++_}
+use Prim.Native.Nat.{ℕ, zero, suc}
 use lib.ListN.{getD}
 use lib.Dec.{eqb}
 use Rattle.records.specs.Sets.{below, anyOf}
-use Rattle.records.specs.Plan.{Decision}
+use Rattle.records.specs.Plan.{Cut, Decision}
 use Rattle.expressions.specs.Influence.{Open}
 use Rattle.expressions.specs.declared.decisions.Undecided.{Undecided}
 
@@ -21,3 +21,15 @@ openAt cuts edges i = pairOf (getD cuts i 0) (getD edges i 0)
 
 unfoldable pub opensOf : Undecided → List Open
 opensOf u = below (u .count) (openAt (u .cuts) (u .edges))
+
+-- those of a cut with these decisions, with edges below n
+unfoldable pub openOf : List Decision → ℕ → ℕ → List Open
+openOf ds c zero = []
+openOf ds c (suc n) = openOf ds c n ++ cond (decides n 3 ds) (pairOf c n ∷ []) []
+
+-- those of the cuts below n
+unfoldable pub openAll : List Cut → ℕ → ℕ → List Open
+openAll cs edges zero = []
+openAll cs edges (suc n) =
+    openAll cs edges n
+    ++ openOf (getD cs n (record { members = 0; condition = 256; citation = 0; election = []; decisions = []; precedes = [] }) .decisions) n edges

@@ -1,12 +1,19 @@
 // The unresolved decisions of a plan, by cut and edge.
 use crate::counts::upto;
 use crate::counts::wide;
+use records::plan::Cuts;
 use records::plan::Decisions;
+use records::plan::Edges;
+use records::plan::Plan;
 ghost use mathlib.Core.Path.{_≡_};
 ghost use mathlib.Core.List.{[], _∷_, _++_};
-ghost use Prim.Native.Nat.{_<_};
-ghost use Rattle.records.specs.Decoded.{decisionsOf};
-ghost use Rattle.expressions.specs.Undecided.{decides, opensOf, pairOf};
+ghost use Prim.Native.Nat.{_+_, _<_, _≤_};
+ghost use lib.ListN.{length};
+ghost use Rattle.records.specs.Decoded.{decisionsOf, planOf};
+ghost use Rattle.records.specs.Sound.{Sound};
+ghost use Rattle.expressions.specs.Coded.{cutsOf, edgesOf};
+ghost use Rattle.expressions.specs.Influence.{openDecisions};
+ghost use Rattle.expressions.specs.Undecided.{decides, opensOf, openOf, openAll, pairOf};
 
 pub struct Undecided {
     pub count: usize,
@@ -43,4 +50,58 @@ fn put(mut found: Undecided, cut: u8, edge: u8) -> Undecided
     found.edges[i] = edge;
     found.count = i + 1;
     found
+}
+
+// The unresolved decisions of the cut c, on edges below the count.
+fn open_in(found: Undecided, decisions: Decisions, c: u8, edges: usize) -> Undecided
+    requires { ⌜ (edges ≤ 64) × (found .count + length (openOf (decisionsOf decisions) c edges) ≤ 16) ⌝ }
+    ensures { λ r. ⌜ opensOf r ≡ opensOf found ++ openOf (decisionsOf decisions) c edges ⌝ }
+{
+    let mut out = found;
+    let mut e: usize = 0;
+    while e < edges {
+        let k = e as u8;
+        if says(decisions, k, 3) {
+            out = put(out, c, k);
+        }
+        e = e + 1;
+    }
+    out
+}
+
+fn open_over(cuts: Cuts, edges: usize) -> Undecided
+    requires { ⌜ (edges ≤ 64) × (length (openAll (cutsOf cuts) edges (length (cutsOf cuts))) ≤ 16) ⌝ }
+    ensures { λ r. ⌜ opensOf r ≡ openAll (cutsOf cuts) edges (length (cutsOf cuts)) ⌝ }
+{
+    let n = upto(cuts.count, 16);
+    let mut out = Undecided {
+        count: 0,
+        cuts: [0; 16],
+        edges: [0; 16],
+    };
+    let mut i: usize = 0;
+    while i < n {
+        let cut = cuts.items[i];
+        let decisions = cut.decisions;
+        let c = i as u8;
+        out = open_in(out, decisions, c, edges);
+        i = i + 1;
+    }
+    out
+}
+
+fn edge_count(edges: Edges) -> usize
+    ensures { λ r. ⌜ (r ≡ length (edgesOf edges)) × (r ≤ 64) ⌝ }
+{
+    upto(edges.count, 64)
+}
+
+// All unresolved decisions, by cut and edge.
+pub fn open_decisions(plan: Plan) -> Undecided
+    requires { ⌜ Sound (planOf plan) ⌝ }
+    ensures { λ r. ⌜ opensOf r ≡ openDecisions (planOf plan) ⌝ }
+{
+    let edges = plan.edges;
+    let cuts = plan.cuts;
+    open_over(cuts, edge_count(edges))
 }
