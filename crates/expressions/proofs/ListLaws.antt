@@ -149,6 +149,14 @@ pub below-last : {A : Type 0} (n : ℕ) (f : ℕ → A) → below (suc n) f ≡ 
 unfolding below
 below-last n f = ap (map f) (numbers-last n 0) ∙ map-append f (numbers n 0) ((0 + n) ∷ []) ∙ ap (λ (x : ℕ). map f (numbers n 0) ++ (f x ∷ [])) (zero-add n)
 
+pub below-map : {A B : Type 0} (g : A → B) (n : ℕ) (f : ℕ → A) → map g (below n f) ≡ below n (λ i. g (f i))
+unfolding below
+below-map g n f = twice (numbers n 0)
+  where
+    twice : (ns : List ℕ) → map g (map f ns) ≡ map (λ i. g (f i)) ns
+    twice [] = refl
+    twice (i ∷ ns) = ap (λ (l : List _). g (f i) ∷ l) (twice ns)
+
 -- an array filled by number
 pub fill-next : {A : Type 0} (d : A) (f : ℕ → A) (out : List A) (i : ℕ) (v : A) → i < length out → Holds d out (below i f) → v ≡ f i
     → Holds d (set out i v) (below (i + 1) f)

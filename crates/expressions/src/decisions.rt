@@ -1,19 +1,21 @@
 // The unresolved decisions of a plan, by cut and edge.
 use crate::counts::upto;
 use crate::counts::wide;
+use crate::rules::ends;
 use records::plan::Cuts;
 use records::plan::Decisions;
 use records::plan::Edges;
 use records::plan::Plan;
+use records::sets::union;
 ghost use mathlib.Core.Path.{_≡_};
-ghost use mathlib.Core.List.{[], _∷_, _++_};
+ghost use mathlib.Core.List.{[], _∷_, _++_, map};
 ghost use Prim.Native.Nat.{_+_, _<_, _≤_};
 ghost use lib.ListN.{length};
 ghost use Rattle.records.specs.Decoded.{decisionsOf, planOf};
-ghost use Rattle.records.specs.Sound.{Sound};
-ghost use Rattle.expressions.specs.Coded.{cutsOf, edgesOf};
+ghost use Rattle.records.specs.Sound.{All, Sound};
+ghost use Rattle.expressions.specs.Coded.{Holds, EndsFit, cutsOf, edgesOf};
 ghost use Rattle.expressions.specs.Influence.{openDecisions};
-ghost use Rattle.expressions.specs.Undecided.{decides, opensOf, openOf, openAll, pairOf};
+ghost use Rattle.expressions.specs.Undecided.{decides, opensOf, openOf, openAll, pairOf, Named, openTouch};
 
 pub struct Undecided {
     pub count: usize,
@@ -104,4 +106,33 @@ pub fn open_decisions(plan: Plan) -> Undecided
     let edges = plan.edges;
     let cuts = plan.cuts;
     open_over(cuts, edge_count(edges))
+}
+
+// Whom a decision touches: the cut's members and the edge's ends.
+fn open_touch(cuts: Cuts, edges: Edges, c: u8, e: u8) -> u64
+    requires { ⌜ Named (length (cutsOf cuts)) (length (edgesOf edges)) (pairOf c e) × All EndsFit (edgesOf edges) ⌝ }
+    ensures { λ r. ⌜ r ≡ openTouch (cutsOf cuts) (edgesOf edges) (pairOf c e) ⌝ }
+{
+    let i = wide(c);
+    let cut = cuts.items[i];
+    let k = wide(e);
+    let edge = edges.items[k];
+    union(cut.members, ends(edge))
+}
+
+fn touches_over(cuts: Cuts, edges: Edges, found: Undecided) -> [u64; 16]
+    requires { ⌜ (found .count ≤ 16) × All (Named (length (cutsOf cuts)) (length (edgesOf edges))) (opensOf found) × All EndsFit (edgesOf edges) ⌝ }
+    ensures { λ r. ⌜ Holds 0 r (map (openTouch (cutsOf cuts) (edgesOf edges)) (opensOf found)) ⌝ }
+{
+    let n = upto(found.count, 16);
+    let mut out = [0u64; 16];
+    let mut i: usize = 0;
+    while i < n {
+        let c = found.cuts[i];
+        let e = found.edges[i];
+        let t = open_touch(cuts, edges, c, e);
+        out[i] = t;
+        i = i + 1;
+    }
+    out
 }
