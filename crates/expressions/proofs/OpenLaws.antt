@@ -2,7 +2,7 @@
 use Prim.Native.Nat.{ℕ, zero, suc, _+_, _≤_, _<_, zero-le}
 use mathlib.Core.Path.{_≡_, refl, sym, ap, ap₂, _∙_, subst, fun-ext}
 use mathlib.Core.Bool.{Bool, true, false, _&&_, _||_, cond}
-use mathlib.Core.List.{List, [], _∷_, _++_, append-nil}
+use mathlib.Core.List.{List, [], _∷_, _++_, map, append-nil}
 use native.Mathlib.Nat.{le-refl}
 use native.Mathlib.Decide.{le-ind}
 use native.Mathlib.Numerals.{add-one}
@@ -11,14 +11,16 @@ use lib.ListN.{length, getD, take, length-append}
 use lib.Seq.{take-suc, take-length}
 use lib.Dec.{eqb}
 use borrow.Author.Tests.{eqb-true, ne-eqb}
-use Rattle.records.specs.Sets.{anyOf}
+use Rattle.records.specs.Sets.{below, anyOf}
 use Rattle.records.specs.Plan.{Plan, Decision, Cut, unresolvedIn, unresolved}
-use Rattle.records.specs.Sound.{Sound}
-use Rattle.records.proofs.LoopLaws.{length-below}
-use Rattle.expressions.specs.Rules.{cut, cutCount, edgeCount}
-use Rattle.expressions.specs.Influence.{Open, openIn, openBelow, openDecisions}
-use Rattle.expressions.specs.Undecided.{decides, pairOf, openAt, opensOf, openOf, openAll}
+use Rattle.records.specs.Sound.{All, Sound}
+use Rattle.records.proofs.LoopLaws.{length-below, all-append}
+use Rattle.expressions.specs.Listed.{endsOf}
+use Rattle.expressions.specs.Rules.{pair, edge, cut, cutCount, edgeCount}
+use Rattle.expressions.specs.Influence.{Open, openIn, openBelow, openDecisions, openDecision, decisionTouch}
+use Rattle.expressions.specs.Undecided.{decides, pairOf, openAt, opensOf, openOf, openAll, Named, openTouch}
 use Rattle.expressions.specs.declared.decisions.Undecided.{Undecided}
+use Rattle.expressions.proofs.RuleLaws.{below-list}
 
 -- ---- how many numbers below n pass a test
 
@@ -190,3 +192,28 @@ room-all cs edges k n u os e s h r =
 pub all-few : (P : Plan) → Sound P → length (openAll (P .cuts) (edgeCount P) (cutCount P)) ≤ 16
 unfolding openDecisions
 all-few P sound = let e = ap length (open-all P (cutCount P)) in let f = open-few P in let d = sound .decisionLimit in omega arith
+
+-- ---- they name cuts and edges of the plan
+
+some-named : (k n c m : ℕ) (ds : List Decision) → c < k → m ≤ n → All (Named k n) (openOf ds c m)
+unfolding openOf
+some-named k n c zero ds h l = tt
+some-named k n c (suc m) ds h l = all-append (Named k n) (openOf ds c m) _ (some-named k n c m ds h (omega arith)) (pick (decides m 3 ds))
+  where
+    pick : (b : Bool) → All (Named k n) (cond b (pairOf c m ∷ []) [])
+    pick true = ((h, l), tt)
+    pick false = tt
+
+below-named : (cs : List Cut) (k n m : ℕ) → m ≤ k → All (Named k n) (openAll cs n m)
+unfolding openAll
+below-named cs k n zero l = tt
+below-named cs k n (suc m) l = all-append (Named k n) (openAll cs n m) _ (below-named cs k n m (omega arith)) (some-named k n m n _ l (le-refl n))
+
+pub all-named : (P : Plan) → All (Named (cutCount P) (edgeCount P)) (openDecisions P)
+unfolding openDecisions
+all-named P = subst (All (Named (cutCount P) (edgeCount P))) (sym (open-all P (cutCount P))) (below-named (P .cuts) (cutCount P) (edgeCount P) (cutCount P) (le-refl (cutCount P)))
+
+-- "for a decision, the cut's members and the edge's ends"
+pub open-touches : (P : Plan) → map (openTouch (P .cuts) (P .edges)) (openDecisions P) ≡ below (length (openDecisions P)) (decisionTouch P)
+unfolding decisionTouch openDecision openTouch cut pair edge endsOf
+open-touches P = sym (below-list (openTouch (P .cuts) (P .edges)) _ (openDecisions P))

@@ -11,10 +11,11 @@ ghost use mathlib.Core.Path.{_≡_};
 ghost use mathlib.Core.List.{[], _∷_, _++_, map};
 ghost use Prim.Native.Nat.{_+_, _<_, _≤_};
 ghost use lib.ListN.{length};
+ghost use Rattle.records.specs.Sets.{below};
 ghost use Rattle.records.specs.Decoded.{decisionsOf, planOf};
 ghost use Rattle.records.specs.Sound.{All, Sound};
 ghost use Rattle.expressions.specs.Coded.{Holds, EndsFit, cutsOf, edgesOf};
-ghost use Rattle.expressions.specs.Influence.{openDecisions};
+ghost use Rattle.expressions.specs.Influence.{openDecisions, decisionCount, decisionTouch};
 ghost use Rattle.expressions.specs.Undecided.{decides, opensOf, openOf, openAll, pairOf, Named, openTouch};
 
 pub struct Undecided {
@@ -135,4 +136,14 @@ fn touches_over(cuts: Cuts, edges: Edges, found: Undecided) -> [u64; 16]
         i = i + 1;
     }
     out
+}
+
+// Whom each unresolved decision touches.
+pub fn decision_touches(plan: Plan, found: Undecided) -> [u64; 16]
+    requires { ⌜ Sound (planOf plan) × (opensOf found ≡ openDecisions (planOf plan)) ⌝ }
+    ensures { λ r. ⌜ Holds 0 r (below (decisionCount (planOf plan)) (decisionTouch (planOf plan))) ⌝ }
+{
+    let cuts = plan.cuts;
+    let edges = plan.edges;
+    touches_over(cuts, edges, found)
 }
