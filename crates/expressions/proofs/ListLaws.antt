@@ -3,7 +3,7 @@ use Prim.Native.Nat.{ℕ, zero, suc, _+_, _≤_, _<_, min}
 use mathlib.Core.Path.{_≡_, refl, sym, ap, ap₂, _∙_, subst}
 use mathlib.Core.Bool.{Bool, true, false, _&&_, _||_}
 use mathlib.Core.Logic.{_⊎_, inl, inr}
-use mathlib.Core.List.{List, [], _∷_, _++_, map}
+use mathlib.Core.List.{append-assoc, List, [], _∷_, _++_, map}
 use native.Mathlib.Numerals.{add-one}
 use native.Mathlib.Nat.{add-zero, zero-add}
 use native.Mathlib.Omega.{arith}
@@ -163,3 +163,11 @@ pub fill-next : {A : Type 0} (d : A) (f : ℕ → A) (out : List A) (i : ℕ) (v
 fill-next d f out i v l h e =
     subst (Holds d (set out i v)) (ap (λ (x : _). below i f ++ (x ∷ [])) e ∙ sym (ap (λ (k : ℕ). below k f) (add-one i) ∙ below-last i f))
     (holds-next d out (below i f) i v (length-below i f) l h)
+
+-- ---- a list put together behind another, by number
+
+pub behind-next : {A : Type 0} (f : ℕ → A) (before : List A) (i : ℕ) {xs ys : List A} {v : A} → xs ≡ before ++ below i f → ys ≡ xs ++ (v ∷ []) → v ≡ f i
+    → ys ≡ before ++ below (i + 1) f
+behind-next f before i {xs} {ys} {v} e k s =
+    k ∙ ap₂ (λ (l : List _) (x : _). l ++ (x ∷ [])) e s ∙ append-assoc before (below i f) (f i ∷ [])
+    ∙ ap (λ (l : List _). before ++ l) (sym (ap (λ (n : ℕ). below n f) (add-one i) ∙ below-last i f))

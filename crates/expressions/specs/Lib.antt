@@ -4,6 +4,7 @@ pub mod Coded
 pub mod Listed
 pub mod Reached
 pub mod Undecided
+pub mod Influences
 pub mod Influence
 pub mod Bindings
 pub mod Variables

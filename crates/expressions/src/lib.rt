@@ -2,6 +2,7 @@
 pub mod counts;
 pub mod decisions;
 pub mod groups;
+pub mod influence;
 pub mod nodes;
 pub mod reach;
 pub mod rules;

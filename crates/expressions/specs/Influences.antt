@@ -1,0 +1,16 @@
+-- The influence of facts and decisions as the code lists it: a closing of what touches.
+use mathlib.Core.List.{List}
+use Prim.Native.Nat.{ℕ}
+use lib.ListN.{getD, take}
+use Rattle.records.specs.Sets.{has, only, closeOf}
+use Rattle.expressions.specs.declared.influence.Influence.{Influence}
+
+unfoldable pub closed : List ℕ → List ℕ → ℕ → ℕ
+closed groups touches d = closeOf groups (getD touches d 0)
+
+-- nobody for a fact that is no variable
+unfoldable pub closedIf : List ℕ → ℕ → List ℕ → ℕ → ℕ
+closedIf groups variables touches f = only (has variables f) (closed groups touches f)
+
+unfoldable pub setsOf : Influence → List ℕ
+setsOf i = take (i .count) (i .sets)
