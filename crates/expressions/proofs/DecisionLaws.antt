@@ -1,6 +1,6 @@
 -- Laws of the unresolved decisions: searched by number, listed one by one, and how many there are. Assumes nothing.
 use Prim.Native.Nat.{ℕ, zero, suc, _+_, _<_}
-use mathlib.Core.Path.{_≡_, refl, sym, ap, ap₂, _∙_, subst}
+use mathlib.Core.Path.{_≡_, refl, sym, ap, ap₂, _∙_}
 use mathlib.Core.Bool.{Bool, true, false, _&&_, _||_}
 use mathlib.Core.Logic.{_⊎_, ⊎-elim}
 use mathlib.Core.List.{List, [], _∷_, _++_}
@@ -8,14 +8,13 @@ use native.Mathlib.Nat.{le-of-suc-le-suc, not-suc-le-zero, eq-or-lt-of-le}
 use native.Mathlib.Numerals.{add-one}
 use native.Mathlib.Omega.{arith}
 use lib.ListN.{length, set}
-use lib.Seq.{ext-getD, getD-set-same, getD-set-other}
+use lib.Seq.{getD-set-same, getD-set-other}
 use lib.Dec.{eqb}
 use borrow.Author.Tests.{eq-eqb, ne-eqb}
 use Rattle.records.specs.Sets.{below, numbers, anyOf}
-use Rattle.records.proofs.LoopLaws.{length-below, getD-below}
 use Rattle.expressions.specs.Influence.{Open}
 use Rattle.expressions.specs.Undecided.{pairOf, openAt}
-use Rattle.expressions.proofs.ListLaws.{below-last}
+use Rattle.expressions.proofs.ListLaws.{below-last, below-same}
 
 -- ---- any of f 0 … f (n − 1)
 
@@ -51,12 +50,6 @@ module _ {A : Type 0} (g : A → Bool) (f : ℕ → A) where
       ap (anyOf g) (below-last n f) ∙ any-append g (below n f) (f n) ∙ ap₂ _||_ (any-miss n (λ i k. h i (omega arith))) (h n (omega arith))
 
 -- ---- the list of open decisions, one more at the end
-
-below-same : {A : Type 0} (d : A) (n : ℕ) (f g : ℕ → A) → ((i : ℕ) → i < n → f i ≡ g i) → below n f ≡ below n g
-below-same d n f g h =
-    ext-getD d (below n f) (below n g) (length-below n f ∙ sym (length-below n g)) (λ i l.
-    let k : i < n = subst (λ (m : ℕ). i < m) (length-below n f) l in
-    getD-below n f d i k ∙ h i k ∙ sym (getD-below n g d i k))
 
 pub open-next : (cuts edges : List ℕ) (i c e : ℕ) → i < length cuts → i < length edges →
     below (i + 1) (openAt (set cuts i c) (set edges i e)) ≡ below i (openAt cuts edges) ++ (pairOf c e ∷ [])

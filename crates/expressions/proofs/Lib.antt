@@ -8,3 +8,4 @@ pub mod RuleLaws
 pub mod TouchLaws
 pub mod DecisionLaws
 pub mod OpenLaws
+pub mod ReachLaws

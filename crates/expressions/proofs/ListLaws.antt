@@ -8,10 +8,10 @@ use native.Mathlib.Numerals.{add-one}
 use native.Mathlib.Nat.{add-zero, zero-add}
 use native.Mathlib.Omega.{arith}
 use lib.ListN.{length, getD, take, drop, set, replicate, length-take, length-map, drop-of-length-le}
-use lib.Seq.{take-suc-set, drop-cons, getD-take, take-suc, take-all, length-take-le}
+use lib.Seq.{ext-getD, take-suc-set, drop-cons, getD-take, take-suc, take-all, length-take-le}
 use Rattle.records.specs.Sets.{allOf, anyOf, numbers, below}
 use Rattle.records.specs.Sound.{All}
-use Rattle.records.proofs.LoopLaws.{length-below, all-at, getD-made}
+use Rattle.records.proofs.LoopLaws.{getD-below, length-below, all-at, getD-made}
 use Rattle.records.proofs.SetLaws.{lt-or-le}
 use Rattle.expressions.specs.Coded.{Holds}
 
@@ -156,6 +156,13 @@ below-map g n f = twice (numbers n 0)
     twice : (ns : List ℕ) → map g (map f ns) ≡ map (λ i. g (f i)) ns
     twice [] = refl
     twice (i ∷ ns) = ap (λ (l : List _). g (f i) ∷ l) (twice ns)
+
+-- equal entries make equal lists
+pub below-same : {A : Type 0} (d : A) (n : ℕ) (f g : ℕ → A) → ((i : ℕ) → i < n → f i ≡ g i) → below n f ≡ below n g
+below-same d n f g h =
+    ext-getD d (below n f) (below n g) (length-below n f ∙ sym (length-below n g)) (λ i l.
+    let k : i < n = subst (λ (m : ℕ). i < m) (length-below n f) l in
+    getD-below n f d i k ∙ h i k ∙ sym (getD-below n g d i k))
 
 -- an array filled by number
 pub fill-next : {A : Type 0} (d : A) (f : ℕ → A) (out : List A) (i : ℕ) (v : A) → i < length out → Holds d out (below i f) → v ≡ f i

@@ -1,13 +1,14 @@
 // The influence of facts and decisions: whom they touch, closed under the rules.
 use crate::groups::Groups;
 use crate::groups::closing;
+use crate::reach::Reach;
 use records::sets::contains;
 ghost use mathlib.Core.Path.{_≡_};
 ghost use mathlib.Core.List.{[], _∷_, _++_};
 ghost use Prim.Native.Nat.{_+_, _<_, _≤_};
 ghost use lib.ListN.{take};
 ghost use Rattle.records.specs.Sets.{below};
-ghost use Rattle.expressions.specs.Influences.{setsOf, closedIf, closed};
+ghost use Rattle.expressions.specs.Influences.{setsOf, closedIf, closed, influenceBy};
 
 // The sets of the facts, then those of the unresolved decisions.
 pub struct Influence {
@@ -60,4 +61,17 @@ fn decision_sets(facts: Influence, groups: Groups, touches: [u64; 16], n: usize)
         i = i + 1;
     }
     known
+}
+
+// The influence of each fact that is a variable, then of each unresolved decision.
+pub fn influence_of(reach: Reach, variables: u64) -> Influence
+    requires { ⌜ (reach .count ≤ 64) × (reach .undecided .count ≤ 16) ⌝ }
+    ensures { λ r. ⌜ setsOf r ≡ influenceBy reach variables ⌝ }
+{
+    let groups = reach.groups;
+    let facts = reach.facts;
+    let undecided = reach.undecided;
+    let decisions = reach.decisions;
+    let first = fact_sets(groups, facts, reach.count, variables);
+    decision_sets(first, groups, decisions, undecided.count)
 }

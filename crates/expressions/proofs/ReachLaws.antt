@@ -1,0 +1,39 @@
+-- What the code lists as influence is the influence that document 01 gives each variable. Assumes nothing.
+use Prim.Native.Nat.{ℕ, _<_}
+use mathlib.Core.Path.{_≡_, ap, ap₂, _∙_}
+use mathlib.Core.List.{List, _++_}
+use lib.ListN.{take}
+use Rattle.records.specs.Sets.{has, only, closeOf, below}
+use Rattle.records.proofs.LoopLaws.{getD-below}
+use Rattle.expressions.specs.Rules.{factCount, ruleSets}
+use Rattle.expressions.specs.Influence.{Frame, touch, touches, decisionCount, decisionTouch, decisionTouches, openDecisions}
+use Rattle.expressions.specs.Bindings.{Bound, bindingAt}
+use Rattle.expressions.specs.Variables.{isVariable, factInfluence, decisionInfluence, influence}
+use Rattle.expressions.specs.Reached.{Reached}
+use Rattle.expressions.specs.Influences.{closed, closedIf, influenceBy}
+use Rattle.expressions.specs.declared.reach.Reach.{Reach}
+use Rattle.expressions.proofs.ListLaws.{below-same}
+use Rattle.expressions.proofs.OpenLaws.{opens-number}
+
+module _ (F : Frame) (r : Reach) (reached : Reached F r) where
+  abbrev groups : List ℕ
+  groups = take (r .groups .count) (r .groups .sets)
+
+  fact-closed : (f : ℕ) → f < factCount (F .plan) → closed groups (r .facts) f ≡ closeOf (ruleSets (F .plan)) (touch F f)
+  unfolding closed touches
+  fact-closed f h = ap₂ closeOf (reached .groups) (reached .facts .at f ∙ getD-below (factCount (F .plan)) (touch F) 0 f h)
+
+  decision-closed : (d : ℕ) → d < decisionCount (F .plan) → closed groups (r .decisions) d ≡ decisionInfluence F d
+  unfolding closed decisionTouches decisionInfluence
+  decision-closed d h = ap₂ closeOf (reached .groups) (reached .decisions .at d ∙ getD-below (decisionCount (F .plan)) (decisionTouch (F .plan)) 0 d h)
+
+  -- where the set of variables is that of the bindings
+  pub influence-list : (bs : List Bound) (variables : ℕ) → ((f : ℕ) → f < factCount (F .plan) → has variables f ≡ isVariable (bindingAt bs f))
+      → influenceBy r variables ≡ influence F bs .facts ++ influence F bs .decisions
+  unfolding influenceBy influence closedIf factInfluence
+  influence-list bs variables same =
+      ap₂ _++_
+      (ap (λ (n : ℕ). below n (closedIf groups variables (r .facts))) (reached .count)
+      ∙ below-same 0 (factCount (F .plan)) (closedIf groups variables (r .facts)) (factInfluence F bs) (λ f h. ap₂ only (same f h) (fact-closed f h)))
+      (ap (λ (n : ℕ). below n (closed groups (r .decisions))) (opens-number (r .undecided) (openDecisions (F .plan)) (reached .opens))
+      ∙ below-same 0 (decisionCount (F .plan)) (closed groups (r .decisions)) (decisionInfluence F) decision-closed)
