@@ -1,13 +1,19 @@
--- What the code lists as influence is the influence that document 01 gives each variable. Assumes nothing.
-use Prim.Native.Nat.{ℕ, _<_}
-use mathlib.Core.Path.{_≡_, ap, ap₂, _∙_}
-use mathlib.Core.List.{List, _++_}
-use lib.ListN.{take}
+-- What the code lists as influence is the influence that document 01 gives each variable; the frame of a case. Assumes nothing.
+use Prim.Native.Nat.{ℕ, zero, suc, _<_}
+use mathlib.Core.Path.{_≡_, refl, sym, ap, ap₂, _∙_}
+use mathlib.Core.List.{List, [], _∷_, _++_}
+use native.Mathlib.Omega.{arith}
+use lib.ListN.{length, getD, take}
 use Rattle.records.specs.Sets.{has, only, closeOf, below}
 use Rattle.records.proofs.LoopLaws.{getD-below}
+use Rattle.records.specs.Case.{CaseHeading, caseHeading}
+use Rattle.records.specs.Decoded.{planOf, caseOf, caseHeadingOf}
+use Rattle.records.specs.declared.plan.Plan.{Plan}
+use Rattle.records.specs.declared.case.Case.{Case}
 use Rattle.expressions.specs.Rules.{factCount, ruleSets}
 use Rattle.expressions.specs.Influence.{Frame, touch, touches, decisionCount, decisionTouch, decisionTouches, openDecisions}
-use Rattle.expressions.specs.Bindings.{Bound, bindingAt}
+use Rattle.expressions.specs.Coded.{frameBy}
+use Rattle.expressions.specs.Bindings.{Bound, bindingAt, frameOf}
 use Rattle.expressions.specs.Variables.{isVariable, factInfluence, decisionInfluence, influence}
 use Rattle.expressions.specs.Reached.{Reached}
 use Rattle.expressions.specs.Influences.{closed, closedIf, influenceBy}
@@ -37,3 +43,14 @@ module _ (F : Frame) (r : Reach) (reached : Reached F r) where
       ∙ below-same 0 (factCount (F .plan)) (closedIf groups variables (r .facts)) (factInfluence F bs) (λ f h. ap₂ only (same f h) (fact-closed f h)))
       (ap (λ (n : ℕ). below n (closed groups (r .decisions))) (opens-number (r .undecided) (openDecisions (F .plan)) (reached .opens))
       ∙ below-same 0 (decisionCount (F .plan)) (closed groups (r .decisions)) (decisionInfluence F) decision-closed)
+
+-- the frame of a case that has its heading
+heading-first : (n : ℕ) (h : CaseHeading) → length (take n (h ∷ [])) ≡ 1 → (d : CaseHeading) → getD (take n (h ∷ [])) 0 d ≡ h
+heading-first zero h e d = absurd (omega arith)
+heading-first (suc n) h e d = refl
+
+pub frame-of : (plan : Plan) (case : Case) → length (caseOf case .headings) ≡ 1
+    → frameBy plan (case .heading .roster) (case .constraints) ≡ frameOf (planOf plan) (caseOf case)
+unfolding frameBy caseOf caseHeading caseHeadingOf
+frame-of plan case e =
+    ap (λ (h : CaseHeading). record { plan = planOf plan; roster = h .roster; constraints = caseOf case .constraints }) (sym (heading-first (case .headings) (caseHeadingOf (case .heading)) e _))
