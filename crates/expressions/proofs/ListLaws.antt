@@ -178,3 +178,17 @@ pub behind-next : {A : Type 0} (f : ℕ → A) (before : List A) (i : ℕ) {xs y
 behind-next f before i {xs} {ys} {v} e k s =
     k ∙ ap₂ (λ (l : List _) (x : _). l ++ (x ∷ [])) e s ∙ append-assoc before (below i f) (f i ∷ [])
     ∙ ap (λ (l : List _). before ++ l) (sym (ap (λ (n : ℕ). below n f) (add-one i) ∙ below-last i f))
+
+-- an entry of one list stored behind the front of another
+pub store-next : {A : Type 0} (d : A) (sets before ms : List A) (k i : ℕ) → k < length sets → i < length ms → take k sets ≡ before ++ take i ms
+    → take (k + 1) (set sets k (getD ms i d)) ≡ before ++ take (i + 1) ms
+store-next d sets before ms k i h l e =
+    ap (λ (n : ℕ). take n (set sets k (getD ms i d))) (add-one k) ∙ take-suc-set sets k (getD ms i d) h ∙ ap (λ (x : List _). x ++ (getD ms i d ∷ [])) e
+    ∙ append-assoc before (take i ms) (getD ms i d ∷ []) ∙ ap (λ (x : List _). before ++ x) (sym (ap (λ (n : ℕ). take n ms) (add-one i) ∙ take-suc ms i d l))
+
+-- the front of an array, by number
+pub front-below : {A : Type 0} (d : A) (xs : List A) (n : ℕ) → n ≤ length xs → take n xs ≡ below n (λ i. getD xs i d)
+front-below d xs n h =
+    ext-getD d (take n xs) (below n (λ i. getD xs i d)) (length-take-le n xs h ∙ sym (length-below n (λ i. getD xs i d))) (λ i l.
+    let k : i < n = subst (λ (m : ℕ). i < m) (length-take-le n xs h) l in
+    getD-take n xs i d k ∙ sym (getD-below n (λ i. getD xs i d) d i k))

@@ -1,4 +1,4 @@
--- What the code lists as influence is the influence that document 01 gives each variable; the frame of a case. Assumes nothing.
+-- What the code lists as influence is the influence that document 01 gives each variable, and what it joins is what makes a circle; the frame of a case. Assumes nothing.
 use Prim.Native.Nat.{ℕ, zero, suc, _<_}
 use mathlib.Core.Path.{_≡_, refl, sym, ap, ap₂, _∙_}
 use mathlib.Core.List.{List, [], _∷_, _++_}
@@ -11,10 +11,11 @@ use Rattle.records.specs.Decoded.{planOf, caseOf, caseHeadingOf}
 use Rattle.records.specs.declared.plan.Plan.{Plan}
 use Rattle.records.specs.declared.case.Case.{Case}
 use Rattle.expressions.specs.Rules.{factCount, ruleSets}
-use Rattle.expressions.specs.Influence.{Frame, touch, touches, decisionCount, decisionTouch, decisionTouches, openDecisions}
+use Rattle.expressions.specs.Influence.{Frame, touch, touches, decisionCount, decisionTouch, decisionTouches, openDecisions, joins}
 use Rattle.expressions.specs.Coded.{frameBy}
 use Rattle.expressions.specs.Bindings.{Bound, bindingAt, frameOf}
 use Rattle.expressions.specs.Variables.{isVariable, factInfluence, decisionInfluence, influence}
+use Rattle.expressions.specs.Listed.{usedAt}
 use Rattle.expressions.specs.Reached.{Reached}
 use Rattle.expressions.specs.Influences.{closed, closedIf, influenceBy}
 use Rattle.expressions.specs.declared.reach.Reach.{Reach}
@@ -43,6 +44,18 @@ module _ (F : Frame) (r : Reach) (reached : Reached F r) where
       ∙ below-same 0 (factCount (F .plan)) (closedIf groups variables (r .facts)) (factInfluence F bs) (λ f h. ap₂ only (same f h) (fact-closed f h)))
       (ap (λ (n : ℕ). below n (closed groups (r .decisions))) (opens-number (r .undecided) (openDecisions (F .plan)) (reached .opens))
       ∙ below-same 0 (decisionCount (F .plan)) (closed groups (r .decisions)) (decisionInfluence F) decision-closed)
+
+  -- "joined if one edge, cut, attachment with anchor, bar, or unresolved decision's cut and edge holds both, or one fact touches both"
+  pub joins-list : groups ++ (below (r .count) (usedAt (r .facts)) ++ below (r .undecided .count) (usedAt (r .decisions))) ≡ joins F
+  unfolding joins touches decisionTouches
+  joins-list =
+      ap₂ _++_ (reached .groups)
+      (ap₂ _++_
+      (ap (λ (n : ℕ). below n (usedAt (r .facts))) (reached .count)
+      ∙ below-same 0 (factCount (F .plan)) (usedAt (r .facts)) (touch F) (λ f h. reached .facts .at f ∙ getD-below (factCount (F .plan)) (touch F) 0 f h))
+      (ap (λ (n : ℕ). below n (usedAt (r .decisions))) (opens-number (r .undecided) (openDecisions (F .plan)) (reached .opens))
+      ∙ below-same 0 (decisionCount (F .plan)) (usedAt (r .decisions)) (decisionTouch (F .plan)) (λ d h.
+      reached .decisions .at d ∙ getD-below (decisionCount (F .plan)) (decisionTouch (F .plan)) 0 d h)))
 
 -- the frame of a case that has its heading
 heading-first : (n : ℕ) (h : CaseHeading) → length (take n (h ∷ [])) ≡ 1 → (d : CaseHeading) → getD (take n (h ∷ [])) 0 d ≡ h

@@ -5,6 +5,7 @@ pub mod Listed
 pub mod Reached
 pub mod Undecided
 pub mod Influences
+pub mod Joined
 pub mod Influence
 pub mod Bindings
 pub mod Variables

@@ -1,4 +1,5 @@
 // Conditions, bindings, variables and influence.
+pub mod circle;
 pub mod counts;
 pub mod decisions;
 pub mod groups;
