@@ -9,3 +9,4 @@ pub mod TouchLaws
 pub mod DecisionLaws
 pub mod OpenLaws
 pub mod ReachLaws
+pub mod GroupLaws
