@@ -3,3 +3,13 @@ pub mod InfluenceLaws
 pub mod Follow
 pub mod Circles
 pub mod Similar
+pub mod ListLaws
+pub mod UnionLaws
+pub mod NodeLaws
+pub mod FitLaws
+pub mod RuleLaws
+pub mod TouchLaws
+pub mod DecisionLaws
+pub mod OpenLaws
+pub mod ReachLaws
+pub mod GroupLaws

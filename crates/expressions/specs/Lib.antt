@@ -1,5 +1,11 @@
 pub mod Rules
 pub mod Nodes
+pub mod Coded
+pub mod Listed
+pub mod Reached
+pub mod Undecided
+pub mod Influences
+pub mod Joined
 pub mod Influence
 pub mod Bindings
 pub mod Variables
