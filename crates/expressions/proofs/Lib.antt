@@ -3,3 +3,5 @@ pub mod InfluenceLaws
 pub mod Follow
 pub mod Circles
 pub mod Similar
+pub mod Rests
+pub mod SeenLaws

@@ -28,13 +28,20 @@ frameOf P C = record { plan = P; roster = caseHeading C .roster; constraints = C
 -- ---- what the case says of a fact
 
 -- its observations, from booleans and relations alike
+unfoldable pub observedInBooleans : List Boolean → ℕ → List Observation
+observedInBooleans bs f = flatMap (λ b. cond (eqb (b .fact) f) (b .observations) []) bs
+
+unfoldable pub observedInRelations : List Relation → ℕ → List Observation
+observedInRelations rs f = flatMap (λ r. cond (eqb (r .fact) f) (r .observation ∷ []) []) rs
+
 abbrev pub observed : Case → ℕ → List Observation
-observed C f =
-    flatMap (λ b. cond (eqb (b .fact) f) (b .observations) []) (C .booleans)
-    ++ flatMap (λ r. cond (eqb (r .fact) f) (r .observation ∷ []) []) (C .relations)
+observed C f = observedInBooleans (C .booleans) f ++ observedInRelations (C .relations) f
+
+unfoldable pub unknownIn : List Boolean → ℕ → List ℕ
+unknownIn bs f = flatMap (λ b. cond (eqb (b .fact) f) (b .unknown) []) bs
 
 abbrev pub saidUnknown : Case → ℕ → List ℕ
-saidUnknown C f = flatMap (λ b. cond (eqb (b .fact) f) (b .unknown) []) (C .booleans)
+saidUnknown C f = unknownIn (C .booleans) f
 
 -- "Evidence is all the case gives for the election's fact, bound or not"
 unfoldable pub evidenceOf : Case → ℕ → ℕ

@@ -2,4 +2,5 @@ pub mod Rules
 pub mod Nodes
 pub mod Influence
 pub mod Bindings
+pub mod Seen
 pub mod Variables

@@ -1,1 +1,3 @@
 // Conditions, bindings, variables and influence.
+pub mod counts;
+pub mod observations;

@@ -1,0 +1,42 @@
+-- What is left of a list from its entry i on: one entry and the rest, or nothing. Assumes nothing.
+use mathlib.Core.Path.{_≡_, refl, sym, ap, _∙_}
+use mathlib.Core.List.{List, [], _∷_, map}
+use Prim.Native.Nat.{ℕ, zero, suc, _+_, _≤_, _<_, min}
+use native.Mathlib.Nat.{le-of-suc-le-suc, not-suc-le-zero}
+use native.Mathlib.Numerals.{add-one}
+use native.Mathlib.Omega.{arith}
+use lib.ListN.{length, getD, take, drop, length-map, length-take, drop-of-length-le}
+use lib.Seq.{drop-cons}
+use Rattle.records.specs.Sets.{below}
+use Rattle.records.proofs.LoopLaws.{length-below, getD-below}
+
+-- of any list, in the code's `i + 1`
+pub rest-next : {A : Type 0} (xs : List A) (i : ℕ) (d : A) → i < length xs → drop i xs ≡ getD xs i d ∷ drop (i + 1) xs
+rest-next xs i d h = drop-cons xs i d h ∙ ap (λ (k : ℕ). getD xs i d ∷ drop k xs) (sym (add-one i))
+
+-- of a list made from the first n of another
+pub made-length : {A B : Type 0} (g : A → B) (xs : List A) (n : ℕ) → length (map g (take n xs)) ≡ min n (length xs)
+made-length g xs n = length-map (take n xs) g ∙ length-take n xs
+
+pub made-next : {A B : Type 0} (g : A → B) (xs : List A) (n i : ℕ) (d : A) → i < min n (length xs)
+    → drop i (map g (take n xs)) ≡ g (getD xs i d) ∷ drop (i + 1) (map g (take n xs))
+made-next g xs n i d h = made g xs n i d (omega arith) (omega arith) ∙ ap (λ (k : ℕ). g (getD xs i d) ∷ drop k (map g (take n xs))) (sym (add-one i))
+  where
+    made : {A B : Type 0} (g : A → B) (xs : List A) (n i : ℕ) (d : A) → i < n → i < length xs
+        → drop i (map g (take n xs)) ≡ g (getD xs i d) ∷ drop (suc i) (map g (take n xs))
+    made g [] n i d h l = absurd (not-suc-le-zero l)
+    made g (x ∷ xs) zero i d h l = absurd (not-suc-le-zero h)
+    made g (x ∷ xs) (suc n) zero d h l = refl
+    made g (x ∷ xs) (suc n) (suc i) d h l = made g xs n i d (le-of-suc-le-suc h) (le-of-suc-le-suc l)
+
+pub made-none : {A B : Type 0} (g : A → B) (xs : List A) (n i : ℕ) → min n (length xs) ≤ i → drop i (map g (take n xs)) ≡ []
+made-none g xs n i h = let e = made-length g xs n in drop-of-length-le (map g (take n xs)) {i = i} (omega arith)
+
+-- of f 0 … f (n − 1)
+pub below-next : {A : Type 0} (n : ℕ) (f : ℕ → A) (i : ℕ) → i < n → drop i (below n f) ≡ f i ∷ drop (i + 1) (below n f)
+below-next n f i h =
+    let e = length-below n f in
+    rest-next (below n f) i (f 0) (omega arith) ∙ ap (λ x. x ∷ drop (i + 1) (below n f)) (getD-below n f (f 0) i h)
+
+pub below-none : {A : Type 0} (n : ℕ) (f : ℕ → A) (i : ℕ) → n ≤ i → drop i (below n f) ≡ []
+below-none n f i h = let e = length-below n f in drop-of-length-le (below n f) {i = i} (omega arith)
