@@ -5,3 +5,4 @@ pub mod Circles
 pub mod Similar
 pub mod Rests
 pub mod SeenLaws
+pub mod EvidenceLaws

@@ -8,6 +8,7 @@ use native.Mathlib.Omega.{arith}
 use lib.ListN.{length, getD, take, drop, length-map, length-take, drop-of-length-le}
 use lib.Seq.{drop-cons}
 use Rattle.records.specs.Sets.{below}
+use Rattle.records.specs.Sound.{All}
 use Rattle.records.proofs.LoopLaws.{length-below, getD-below}
 
 -- of any list, in the code's `i + 1`
@@ -40,3 +41,13 @@ below-next n f i h =
 
 pub below-none : {A : Type 0} (n : ℕ) (f : ℕ → A) (i : ℕ) → n ≤ i → drop i (below n f) ≡ []
 below-none n f i h = let e = length-below n f in drop-of-length-le (below n f) {i = i} (omega arith)
+
+-- what holds of each entry of a made list
+pub all-made : {A B : Type 0} (Q : B → Type 0) (g : A → B) (xs : List A) (n i : ℕ) (d : A) → All Q (map g (take n xs)) → i < min n (length xs) → Q (g (getD xs i d))
+all-made Q g xs n i d a h = made Q g xs n i d a (omega arith) (omega arith)
+  where
+    made : {A B : Type 0} (Q : B → Type 0) (g : A → B) (xs : List A) (n i : ℕ) (d : A) → All Q (map g (take n xs)) → i < n → i < length xs → Q (g (getD xs i d))
+    made Q g [] n i d a h l = absurd (not-suc-le-zero l)
+    made Q g (x ∷ xs) zero i d a h l = absurd (not-suc-le-zero h)
+    made Q g (x ∷ xs) (suc n) zero d a h l = a .0
+    made Q g (x ∷ xs) (suc n) (suc i) d a h l = made Q g xs n i d (a .1) (le-of-suc-le-suc h) (le-of-suc-le-suc l)

@@ -3,4 +3,5 @@ pub mod Nodes
 pub mod Influence
 pub mod Bindings
 pub mod Seen
+pub mod Evident
 pub mod Variables

@@ -1,3 +1,4 @@
 // Conditions, bindings, variables and influence.
 pub mod counts;
+pub mod evidence;
 pub mod observations;
