@@ -6,3 +6,4 @@ pub mod Similar
 pub mod Rests
 pub mod SeenLaws
 pub mod EvidenceLaws
+pub mod ElectionLaws

@@ -5,11 +5,13 @@ use records::case::Booleans;
 use records::case::Case;
 use records::case::Observations;
 use records::case::Relations;
+use records::sets::bit;
+use records::sets::union;
 ghost use mathlib.Core.Path.{_≡_};
 ghost use mathlib.Core.List.{map};
 ghost use Prim.Native.Nat.{_<_};
 ghost use lib.ListN.{take};
-ghost use Rattle.records.specs.Sets.{one, union, unionOf, setOf};
+ghost use Rattle.records.specs.Sets.{one, union as both, unionOf, setOf};
 ghost use Rattle.records.specs.Sound.{All};
 ghost use Rattle.records.specs.Decoded.{observationsOf, booleanOf, relationOf, caseOf};
 ghost use Rattle.expressions.specs.Bindings.{observedInBooleans, observedInRelations, unknownIn, evidenceOf};
@@ -17,14 +19,14 @@ ghost use Rattle.expressions.specs.Evident.{evidenceMark, Evident, Evide
 
 fn mark(m: u64, e: u8) -> u64
     requires { ⌜ e < 64 ⌝ }
-    ensures { λ r. ⌜ r ≡ union m (one e) ⌝ }
+    ensures { λ r. ⌜ r ≡ both m (one e) ⌝ }
 {
-    m | (1u64 << e)
+    union(m, bit(e))
 }
 
 fn mark_all(m: u64, o: Observations) -> u64
     requires { ⌜ All Evident (observationsOf o) ⌝ }
-    ensures { λ r. ⌜ r ≡ union m (unionOf evidenceMark (observationsOf o)) ⌝ }
+    ensures { λ r. ⌜ r ≡ both m (unionOf evidenceMark (observationsOf o)) ⌝ }
 {
     let mut all = m;
     let n = o.count;
@@ -39,7 +41,7 @@ fn mark_all(m: u64, o: Observations) -> u64
 
 fn mark_booleans(m: u64, booleans: Booleans, fact: u8) -> u64
     requires { ⌜ All EvidentBoolean (map booleanOf (take (booleans .count) (booleans .items))) ⌝ }
-    ensures { λ r. ⌜ r ≡ union m (unionOf evidenceMark (observedInBooleans (map booleanOf (take (booleans .count) (booleans .items))) fact)) ⌝ }
+    ensures { λ r. ⌜ r ≡ both m (unionOf evidenceMark (observedInBooleans (map booleanOf (take (booleans .count) (booleans .items))) fact)) ⌝ }
 {
     let mut all = m;
     let n = upto(booleans.count, 64);
@@ -57,7 +59,7 @@ fn mark_booleans(m: u64, booleans: Booleans, fact: u8) -> u64
 
 fn mark_unknown(m: u64, booleans: Booleans, fact: u8) -> u64
     requires { ⌜ All EvidentBoolean (map booleanOf (take (booleans .count) (booleans .items))) ⌝ }
-    ensures { λ r. ⌜ r ≡ union m (setOf (unknownIn (map booleanOf (take (booleans .count) (booleans .items))) fact)) ⌝ }
+    ensures { λ r. ⌜ r ≡ both m (setOf (unknownIn (map booleanOf (take (booleans .count) (booleans .items))) fact)) ⌝ }
 {
     let mut all = m;
     let n = upto(booleans.count, 64);
@@ -74,7 +76,7 @@ fn mark_unknown(m: u64, booleans: Booleans, fact: u8) -> u64
 
 fn mark_relations(m: u64, relations: Relations, fact: u8) -> u64
     requires { ⌜ All EvidentRelation (map relationOf (take (relations .count) (relations .items))) ⌝ }
-    ensures { λ r. ⌜ r ≡ union m (unionOf evidenceMark (observedInRelations (map relationOf (take (relations .count) (relations .items))) fact)) ⌝ }
+    ensures { λ r. ⌜ r ≡ both m (unionOf evidenceMark (observedInRelations (map relationOf (take (relations .count) (relations .items))) fact)) ⌝ }
 {
     let mut all = m;
     let n = upto(relations.count, 256);

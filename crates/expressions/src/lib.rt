@@ -1,4 +1,5 @@
 // Conditions, bindings, variables and influence.
 pub mod counts;
+pub mod elections;
 pub mod evidence;
 pub mod observations;
