@@ -98,3 +98,9 @@ elections-of p f =
     ap (λ (ess : List (List paper.Election)). electionsIn ess f)
     (ap₂ _++_ (map-map (λ c. c .election) cutOf (take (p .cuts .count) (p .cuts .items))) (map-map (λ a. a .election) attachmentOf (take (p .attachments .count) (p .attachments .items))))
     ∙ elections-append (map (λ c. electionOf (c .election)) (take (p .cuts .count) (p .cuts .items))) (map (λ a. electionOf (a .election)) (take (p .attachments .count) (p .attachments .items))) f
+
+-- the first election has the default
+pub default-first : (es : List paper.Election) → defaultOf (take 1 es) ≡ defaultOf es
+unfolding defaultOf
+default-first [] = refl
+default-first (e ∷ es) = refl

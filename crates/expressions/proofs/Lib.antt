@@ -7,3 +7,5 @@ pub mod Rests
 pub mod SeenLaws
 pub mod EvidenceLaws
 pub mod ElectionLaws
+pub mod FamilyLaws
+pub mod FactLaws

@@ -5,7 +5,7 @@ use Prim.Native.Nat.{ℕ, zero, suc, _+_, _≤_, _<_, min}
 use native.Mathlib.Nat.{le-of-suc-le-suc, not-suc-le-zero}
 use native.Mathlib.Numerals.{add-one}
 use native.Mathlib.Omega.{arith}
-use lib.ListN.{length, getD, take, drop, length-map, length-take, drop-of-length-le}
+use lib.ListN.{length, getD, take, drop, length-map, length-take, drop-of-length-le, List·getD-eq-default}
 use lib.Seq.{drop-cons}
 use Rattle.records.specs.Sets.{below}
 use Rattle.records.specs.Sound.{All}
@@ -51,3 +51,16 @@ all-made Q g xs n i d a h = made Q g xs n i d a (omega arith) (omega arith)
     made Q g (x ∷ xs) zero i d a h l = absurd (not-suc-le-zero h)
     made Q g (x ∷ xs) (suc n) zero d a h l = a .0
     made Q g (x ∷ xs) (suc n) (suc i) d a h l = made Q g xs n i d (a .1) (le-of-suc-le-suc h) (le-of-suc-le-suc l)
+
+-- an entry of a made list, and none past it
+pub made-at : {A B : Type 0} (g : A → B) (xs : List A) (n i : ℕ) (d : A) (e : B) → i < min n (length xs) → getD (map g (take n xs)) i e ≡ g (getD xs i d)
+made-at g xs n i d e h = at g xs n i d e (omega arith) (omega arith)
+  where
+    at : {A B : Type 0} (g : A → B) (xs : List A) (n i : ℕ) (d : A) (e : B) → i < n → i < length xs → getD (map g (take n xs)) i e ≡ g (getD xs i d)
+    at g [] n i d e h l = absurd (not-suc-le-zero l)
+    at g (x ∷ xs) zero i d e h l = absurd (not-suc-le-zero h)
+    at g (x ∷ xs) (suc n) zero d e h l = refl
+    at g (x ∷ xs) (suc n) (suc i) d e h l = at g xs n i d e (le-of-suc-le-suc h) (le-of-suc-le-suc l)
+
+pub made-past : {A B : Type 0} (g : A → B) (xs : List A) (n i : ℕ) (e : B) → min n (length xs) ≤ i → getD (map g (take n xs)) i e ≡ e
+made-past g xs n i e h = let k = made-length g xs n in List·getD-eq-default (map g (take n xs)) e {n = i} (omega arith)

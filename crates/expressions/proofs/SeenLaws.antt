@@ -5,7 +5,7 @@ use mathlib.Core.List.{List, [], _∷_, _++_, map, flatMap}
 use Prim.Native.Nat.{ℕ, zero, suc, _+_, _≤_, _<_, min}
 use lib.ListN.{length, getD, take, drop}
 use lib.Dec.{eqb, eqb·suc-zero}
-use borrow.Author.Tests.{eq-eqb, ne-eqb}
+use borrow.Author.Tests.{eqb-true, eqb-false, eq-eqb, ne-eqb}
 use Rattle.records.specs.Sets.{allOf, below}
 use Rattle.records.specs.Case as paper
 use Rattle.records.specs.Case.{Observation}
@@ -150,3 +150,75 @@ module _ (items : List Boolean) (n f i : ℕ) (d : Boolean) (h : i < min n (leng
 pub said-none : (items : List Boolean) (n f i : ℕ) → min n (length items) ≤ i → said (drop i (map booleanOf (take n items))) f ≡ false
 unfolding unknownIn flatMap
 said-none items n f i h = ap (λ (bs : List paper.Boolean). said bs f) (made-none booleanOf items n i h)
+
+-- ---- what was seen binds as the definition weighs it
+
+eqb-swap : (a b : ℕ) → eqb a b ≡ eqb b a
+eqb-swap a b = pick (eqb a b) refl
+  where
+    pick : (t : Bool) → eqb a b ≡ t → eqb a b ≡ eqb b a
+    pick true e = e ∙ sym (eq-eqb b a (sym (eqb-true a b e)))
+    pick false e = e ∙ sym (ne-eqb b a (λ k. eqb-false a b e (sym k)))
+
+or-true : (b : Bool) → (b || true) ≡ true
+or-true true = refl
+or-true false = refl
+
+or-none : (b : Bool) → (b || false) ≡ b
+or-none true = refl
+or-none false = refl
+
+module _ (v e : ℕ) where
+  -- what is kept once the first pair was value v with evidence e
+  abbrev from : Bool → Bool → Seen
+  from d t = record { any = true; value = v; evidence = e; differs = d; both = t }
+
+  abbrev same : List Observation → Bool
+  same os = allOf (sameObservation (record { value = v; evidence = e })) os
+
+  abbrev agree : List Observation → Bool
+  agree os = allOf (λ o. eqb (o .value) v) os
+
+  module _ (d t : Bool) (o : Observation) where
+    at-other : eqb (o .value) v ≡ false → lookAt (from d t) o ≡ from true true
+    unfolding lookAt
+    at-other x = rw x
+
+    at-differs : eqb (o .value) v ≡ true → eqb (o .evidence) e ≡ false → lookAt (from d t) o ≡ from true t
+    unfolding lookAt
+    at-differs x y = rw (x, y)
+
+    at-same : eqb (o .value) v ≡ true → eqb (o .evidence) e ≡ true → lookAt (from d t) o ≡ from d t
+    unfolding lookAt
+    at-same x y = rw (x, y)
+
+  look-result : (d t : Bool) (os : List Observation) → lookAll (from d t) os ≡ from (d || not (same os)) (t || not (agree os))
+  unfolding lookAll allOf
+  look-result d t [] = ap₂ from (sym (or-none d)) (sym (or-none t))
+  look-result d t (o ∷ os) = pick (eqb (o .value) v) (eqb (o .evidence) e) refl refl (λ d t. look-result d t os)
+    where
+      pick : (x y : Bool) → eqb (o .value) v ≡ x → eqb (o .evidence) e ≡ y
+          → ((d t : Bool) → lookAll (from d t) os ≡ from (d || not (same os)) (t || not (agree os)))
+          → lookAll (lookAt (from d t) o) os ≡ from (d || not ((eqb v (o .value) && eqb e (o .evidence)) && same os)) (t || not (eqb (o .value) v && agree os))
+      pick false y x k ih =
+          ap (λ (s : Seen). lookAll s os) (at-other d t o x) ∙ ih true true
+          ∙ rw (eqb-swap v (o .value), x) (ap₂ from (sym (or-true d)) (sym (or-true t)))
+      pick true false x k ih =
+          ap (λ (s : Seen). lookAll s os) (at-differs d t o x k) ∙ ih true t
+          ∙ rw (eqb-swap v (o .value), eqb-swap e (o .evidence), x, k) (ap (λ (b : Bool). from b (t || not (agree os))) (sym (or-true d)))
+      pick true true x k ih = ap (λ (s : Seen). lookAll s os) (at-same d t o x k) ∙ ih d t ∙ rw (eqb-swap v (o .value), eqb-swap e (o .evidence), x, k)
+
+pub look-bound : (os : List Observation) (silent : Bound) → boundBy (lookAll nothing os) silent ≡ weighed os silent
+unfolding boundBy weighed lookAll lookAt valuesSeen
+look-bound [] silent = refl
+look-bound (o ∷ os) silent =
+    ap (λ (s : Seen). boundBy s silent) (look-result (o .value) (o .evidence) false false os)
+    ∙ pick (same (o .value) (o .evidence) os) (agree (o .value) (o .evidence) os)
+  where
+    pick : (a b : Bool)
+        → cond (not a) (conflict (cond (not b) both (just (eqb (o .value) 1)))) (known (eqb (o .value) 1))
+        ≡ cond a (known (eqb (o .value) 1)) (conflict (cond b (just (eqb (o .value) 1)) both))
+    pick true true = refl
+    pick true false = refl
+    pick false true = refl
+    pick false false = refl

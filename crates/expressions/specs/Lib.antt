@@ -4,4 +4,5 @@ pub mod Influence
 pub mod Bindings
 pub mod Seen
 pub mod Evident
+pub mod Codes
 pub mod Variables
