@@ -222,3 +222,9 @@ look-bound (o ∷ os) silent =
     pick true false = refl
     pick false true = refl
     pick false false = refl
+
+-- whether anything was seen
+pub look-any : (os : List Observation) → lookAll nothing os .any ≡ not (eqb (length os) 0)
+unfolding lookAll lookAt
+look-any [] = refl
+look-any (o ∷ os) = ap (λ (s : Seen). s .any) (look-result (o .value) (o .evidence) false false os) ∙ sym (ap not (eqb·suc-zero (length os)))

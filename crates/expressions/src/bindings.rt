@@ -13,7 +13,7 @@ use records::plan::Facts;
 use records::plan::Plan;
 use records::sets::contains;
 ghost use mathlib.Core.Path.{_≡_};
-ghost use mathlib.Core.Bool.{Bool, not};
+ghost use mathlib.Core.Bool.{not, _&&_};
 ghost use mathlib.Core.List.{List, [], _∷_, map};
 ghost use Prim.Native.Nat.{ℕ};
 ghost use lib.Dec.{eqb};
@@ -21,7 +21,7 @@ ghost use lib.ListN.{length, getD, take};
 ghost use Rattle.records.specs.Plan.{getFact};
 ghost use Rattle.records.specs.Case.{caseHeading};
 ghost use Rattle.records.specs.Decoded.{planOf, caseOf, factOf, electionOf, familyOf};
-ghost use Rattle.expressions.specs.Bindings.{byDefault, defaultOf, observed, inFamily, boundBoolean, boundRelation, scoped, bindingBy, bindingsBy, bindingAt, tookDefaultBy};
+ghost use Rattle.expressions.specs.Bindings.{saidUnknown, byDefault, defaultOf, observed, inFamily, boundBoolean, boundRelation, scoped, bindingBy, bindingsBy, bindingAt, tookDefaultBy};
 ghost use Rattle.expressions.specs.Seen.{boundBy};
 ghost use Rattle.expressions.specs.Codes.{boundOf, silentCode};
 
@@ -141,4 +141,60 @@ pub fn binding(plan: Plan, case: Case, set: u64, fact: u8) -> u8
     } else {
         bound_relation(case, f.family, fact)
     }
+}
+
+// The binding of each fact; 0 past the last.
+pub fn bindings(plan: Plan, case: Case, set: u64) -> [u8; 64]
+    ensures { λ r. ⌜ ((f : ℕ) → boundOf (getD r f 0) ≡ bindingAt (bindingsBy (planOf plan) (caseOf case) set) f) ⌝ }
+{
+    let mut out = [0u8; 64];
+    let n = upto(plan.facts.count, 64);
+    let mut i: usize = 0;
+    while i < n {
+        out[i] = binding(plan, case, set, i as u8);
+        i = i + 1;
+    }
+    out
+}
+
+fn has_default(e: Election) -> bool
+    ensures { λ r. ⌜ r ≡ not (eqb (length (defaultOf (electionOf e))) 0) ⌝ }
+{
+    if !e.given {
+        return false;
+    }
+    if e.policy == 1 {
+        return true;
+    }
+    e.policy == 2
+}
+
+// Whether the case says nothing of a fact.
+fn is_silent(case: Case, fact: u8) -> bool
+    ensures { λ r. ⌜ r ≡ (eqb (length (saidUnknown (caseOf case) fact)) 0 && eqb (length (observed (caseOf case) fact)) 0) ⌝ }
+{
+    let booleans = case.booleans;
+    if said_unknown(booleans, fact) {
+        return false;
+    }
+    let seen = seen_of(case, fact);
+    !seen.any
+}
+
+// Whether a bound fact took its election's default.
+pub fn took_default(plan: Plan, case: Case, set: u64, fact: u8) -> bool
+    ensures { λ r. ⌜ r ≡ tookDefaultBy (planOf plan) (caseOf case) set fact ⌝ }
+{
+    if !contains(set, fact) {
+        return false;
+    }
+    let facts = plan.facts;
+    let f = fact_at(facts, fact);
+    if !f.boolean {
+        return false;
+    }
+    if !is_silent(case, fact) {
+        return false;
+    }
+    has_default(election_on(plan, fact))
 }
