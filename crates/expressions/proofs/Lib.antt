@@ -9,3 +9,4 @@ pub mod EvidenceLaws
 pub mod ElectionLaws
 pub mod FamilyLaws
 pub mod FactLaws
+pub mod CountLaws

@@ -6,3 +6,4 @@ pub mod Seen
 pub mod Evident
 pub mod Codes
 pub mod Variables
+pub mod Counted

@@ -4,3 +4,4 @@ pub mod counts;
 pub mod elections;
 pub mod evidence;
 pub mod observations;
+pub mod variables;
