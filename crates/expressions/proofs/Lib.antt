@@ -10,3 +10,4 @@ pub mod ElectionLaws
 pub mod FamilyLaws
 pub mod FactLaws
 pub mod CountLaws
+pub mod FaultLaws

@@ -1,4 +1,5 @@
 // Conditions, bindings, variables and influence.
+pub mod bindable;
 pub mod bindings;
 pub mod counts;
 pub mod elections;
