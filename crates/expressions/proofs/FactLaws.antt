@@ -16,7 +16,8 @@ use Rattle.records.specs.Plan.{getFact, isBoolean}
 use Rattle.records.specs.Case.{Case, caseHeading}
 use Rattle.records.specs.Decoded.{factOf}
 use Rattle.records.specs.declared.plan.Fact.{Fact}
-use Rattle.expressions.specs.Bindings.{Bound, unbound, bindingBy, boundBoolean, boundRelation, inScope, scoped, inFamily, observed, saidUnknown, defaultOf, elections, tookDefaultBy}
+use Rattle.expressions.specs.Bindings.{Bound, unbound, bindingBy, boundBoolean, boundRelation, inScope, scoped, inFamily, observed, saidUnknown, defaultOf, elections, tookDefaultBy, tookDefault, bindings, bindingsBy, bindingOf, frameOf}
+use Rattle.expressions.specs.Influence.{boundFacts}
 
 pub boolean-fact : (f : Fact) → isBoolean (factOf f) ≡ f .boolean
 unfolding isBoolean factOf
@@ -103,3 +104,13 @@ module _ (P : paper.Plan) (C : Case) (set f : ℕ) where
   pub default-taken : has set f ≡ true → isBoolean (getFact P f) ≡ true → silentOn ≡ true → not (eqb (length (defaultOf (elections P f))) 0) ≡ tookDefaultBy P C set f
   unfolding tookDefaultBy
   default-taken h b s = rw (h, b, s)
+
+-- ---- the set of the facts to bind is that of those in use
+
+pub bindings-by : (P : paper.Plan) (C : Case) → bindingsBy P C (boundFacts (frameOf P C)) ≡ bindings P C
+unfolding bindings bindingsBy bindingOf
+bindings-by P C = refl
+
+pub default-by : (P : paper.Plan) (C : Case) (f : ℕ) → tookDefaultBy P C (boundFacts (frameOf P C)) f ≡ tookDefault P C f
+unfolding tookDefault
+default-by P C f = refl

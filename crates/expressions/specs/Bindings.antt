@@ -104,9 +104,12 @@ bindingBy P C set f = cond (has set f) (cond (isBoolean (getFact P f)) (boundBoo
 unfoldable pub bindingsBy : Plan → Case → ℕ → List Bound
 bindingsBy P C set = below (factCount P) (bindingBy P C set)
 
+unfoldable pub bindingOf : Plan → Case → ℕ → Bound
+bindingOf P C f = bindingBy P C (boundFacts (frameOf P C)) f
+
 -- the binding of each fact
 unfoldable pub bindings : Plan → Case → List Bound
-bindings P C = bindingsBy P C (boundFacts (frameOf P C))
+bindings P C = below (factCount P) (bindingOf P C)
 
 abbrev pub bindingAt : List Bound → ℕ → Bound
 bindingAt bs f = getD bs f unbound

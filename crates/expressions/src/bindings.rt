@@ -173,8 +173,8 @@ fn has_default(e: Election) -> bool
 fn is_silent(case: Case, fact: u8) -> bool
     ensures { λ r. ⌜ r ≡ (eqb (length (saidUnknown (caseOf case) fact)) 0 && eqb (length (observed (caseOf case) fact)) 0) ⌝ }
 {
-    let booleans = case.booleans;
-    if said_unknown(booleans, fact) {
+    let records = case.booleans;
+    if said_unknown(records, fact) {
         return false;
     }
     let seen = seen_of(case, fact);
