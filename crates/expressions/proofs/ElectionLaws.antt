@@ -1,18 +1,17 @@
 -- Laws of the elections on a fact: the first of them, record by record. Assumes nothing.
 use mathlib.Core.Path.{_≡_, refl, sym, ap, ap₂, _∙_}
-use mathlib.Core.Bool.{Bool, true, false, _&&_, cond, false≢true}
+use mathlib.Core.Bool.{Bool, true, false, cond}
 use mathlib.Core.List.{List, [], _∷_, _++_, map, flatMap, append-assoc}
-use Prim.Native.Nat.{ℕ, zero, suc, _+_, _≤_, _<_, min}
+use Prim.Native.Nat.{ℕ, _+_, _≤_, _<_, min}
 use lib.ListN.{length, getD, take, drop}
 use native.Mathlib.Omega.{arith}
 use lib.Dec.{eqb}
 use borrow.Author.Tests.{eq-eqb, ne-eqb}
 use Rattle.records.specs.Plan as paper
-use Rattle.records.specs.Plan.{electionRecords}
 use Rattle.records.specs.Decoded.{given, planOf, cutOf, attachmentOf, electionOf}
 use Rattle.records.specs.declared.plan.Election.{Election}
 use Rattle.records.specs.declared.plan.Plan.{Plan}
-use Rattle.expressions.specs.Bindings.{elections, electionsIn, defaultOf, byDefault, Bound}
+use Rattle.expressions.specs.Bindings.{elections, electionsIn, defaultOf}
 use Rattle.expressions.proofs.Rests.{made-next, made-none}
 
 -- one record more: its election if it is on the fact

@@ -1,34 +1,26 @@
 -- Laws of the marking of evidence: the union of what each record gives, record by record. Assumes nothing.
 use mathlib.Core.Path.{_≡_, refl, sym, ap, ap₂, _∙_, subst}
-use mathlib.Core.Bool.{Bool, true, false, _&&_, _||_, cond}
-use mathlib.Core.List.{List, [], _∷_, _++_, map, flatMap}
-use Prim.Native.Nat.{ℕ, zero, suc, _+_, _≤_, _<_, _*_, _%_, _^_, min}
-use lib.ListN.{length, getD, take, drop}
+use mathlib.Core.Bool.{Bool, true, false, _||_, cond, or-assoc, or-false}
+use mathlib.Core.List.{List, [], _∷_, _++_, flatMap}
+use Prim.Native.Nat.{ℕ, _+_, _≤_, _<_}
+use lib.ListN.{getD, drop}
 use lib.Dec.{eqb}
 use borrow.Author.Tests.{eq-eqb, ne-eqb}
-use Rattle.records.specs.Sets.{has, one, union, unionOf, setOf, below}
+use Rattle.records.specs.Sets.{has, one, union, unionOf, setOf}
 use Rattle.records.specs.Case as paper
 use Rattle.records.specs.Case.{Case, Observation}
-use Rattle.records.specs.Sound.{All, SoundCase, SoundObservation, SoundBoolean, SoundRelation}
+use Rattle.records.specs.Sound.{All}
 use Rattle.records.specs.Decoded.{observationsOf, booleanOf, relationOf}
 use Rattle.records.specs.declared.case.Observations.{Observations}
 use Rattle.records.specs.declared.case.Boolean.{Boolean}
 use Rattle.records.specs.declared.case.Relation.{Relation}
 use Rattle.records.proofs.LoopLaws.{all-at, getD-below, length-below}
 use Rattle.records.proofs.SetLaws.{ext, has-union, has-none}
-use Rattle.expressions.specs.Bindings.{observed, observedInBooleans, observedInRelations, unknownIn, saidUnknown, evidenceOf}
+use Rattle.expressions.specs.Bindings.{observedInBooleans, observedInRelations, unknownIn, saidUnknown, evidenceOf}
 use Rattle.expressions.specs.Evident.{evidenceMark, Evident, EvidentBoolean, EvidentRelation, ReadCase}
-use Rattle.expressions.proofs.Rests.{below-next, below-none, made-next, made-none}
+use Rattle.expressions.proofs.Rests.{below-next, below-none}
 
 -- ---- union
-
-or-assoc : (a b c : Bool) → ((a || b) || c) ≡ (a || (b || c))
-or-assoc true b c = refl
-or-assoc false b c = refl
-
-or-none : (a : Bool) → (a || false) ≡ a
-or-none true = refl
-or-none false = refl
 
 pub union-assoc : (a b c : ℕ) → union (union a b) c ≡ union a (union b c)
 union-assoc a b c =
@@ -37,7 +29,7 @@ union-assoc a b c =
     ∙ sym (has-union a (union b c) p ∙ ap (λ (x : Bool). has a p || x) (has-union b c p)))
 
 pub union-none : (a : ℕ) → union a 0 ≡ a
-union-none a = ext _ _ (λ p. has-union a 0 p ∙ ap (λ (x : Bool). has a p || x) (has-none p) ∙ or-none (has a p))
+union-none a = ext _ _ (λ p. has-union a 0 p ∙ ap (λ (x : Bool). has a p || x) (has-none p) ∙ or-false (has a p))
 
 pub none-union : (a : ℕ) → union 0 a ≡ a
 none-union a = ext _ _ (λ p. has-union 0 a p ∙ ap (λ (x : Bool). x || has a p) (has-none p))

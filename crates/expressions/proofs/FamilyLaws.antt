@@ -1,8 +1,8 @@
 -- Laws of the families of a number and a scope: what no observation means by the first of them. Assumes nothing.
-use mathlib.Core.Path.{_≡_, refl, sym, ap, ap₂, _∙_}
-use mathlib.Core.Bool.{Bool, true, false, _&&_, cond}
+use mathlib.Core.Path.{_≡_, refl, ap, ap₂, _∙_}
+use mathlib.Core.Bool.{Bool, true, false, _&&_, cond, and-false}
 use mathlib.Core.List.{List, [], _∷_, _++_, map, flatMap}
-use Prim.Native.Nat.{ℕ, zero, suc, _+_, _≤_, _<_, min}
+use Prim.Native.Nat.{ℕ, _+_, _≤_, _<_, min}
 use lib.ListN.{length, getD, take, drop}
 use native.Mathlib.Omega.{arith}
 use lib.Dec.{eqb}
@@ -12,7 +12,7 @@ use Rattle.records.specs.Case as paper
 use Rattle.records.specs.Case.{Observation}
 use Rattle.records.specs.Decoded.{familyOf}
 use Rattle.records.specs.declared.case.Family.{Family}
-use Rattle.expressions.specs.Bindings.{scoped, Bound, unknown, known, weighed, inFamily}
+use Rattle.expressions.specs.Bindings.{scoped, unknown, known, weighed, inFamily}
 use Rattle.expressions.specs.Codes.{boundOf, silentCode}
 use Rattle.expressions.proofs.Rests.{made-next, made-none}
 
@@ -65,10 +65,6 @@ module _ (items : List Family) (n number scope i : ℕ) where
 
     pub silent-scope : eqb (here .scope) scope ≡ false → silentFrom i ≡ silentFrom (i + 1)
     silent-scope s = next false (ap (λ (b : Bool). eqb (here .number) number && b) s ∙ and-false (eqb (here .number) number))
-      where
-        and-false : (b : Bool) → (b && false) ≡ false
-        and-false true = refl
-        and-false false = refl
 
 -- ---- the binding that follows
 

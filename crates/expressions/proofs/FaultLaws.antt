@@ -18,7 +18,7 @@ use Rattle.records.specs.declared.checked.Checked.{Checked}
 use Rattle.records.proofs.CheckLaws.{orElse, fault-then}
 use Rattle.records.specs.declared.case.Boolean.{Boolean}
 use Rattle.records.proofs.LoopLaws.{length-below}
-use Rattle.records.specs.Decoded.{familyOf, booleanOf, observationsOf}
+use Rattle.records.specs.Decoded.{booleanOf, observationsOf}
 use Rattle.expressions.specs.Bindings.{familyFaults, booleanFault, booleanFaults, bindable}
 use Rattle.expressions.proofs.Rests.{made-next, made-none}
 

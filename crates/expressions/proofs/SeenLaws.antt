@@ -1,8 +1,8 @@
 -- Laws of what the code keeps of a fact's observations, and the binding that follows. Assumes nothing.
 use mathlib.Core.Path.{_≡_, refl, sym, ap, ap₂, _∙_}
-use mathlib.Core.Bool.{Bool, true, false, _&&_, _||_, not, cond}
+use mathlib.Core.Bool.{Bool, true, false, _&&_, _||_, not, cond, and-false, or-true, or-false}
 use mathlib.Core.List.{List, [], _∷_, _++_, map, flatMap}
-use Prim.Native.Nat.{ℕ, zero, suc, _+_, _≤_, _<_, min}
+use Prim.Native.Nat.{ℕ, _+_, _≤_, _<_, min}
 use lib.ListN.{length, getD, take, drop}
 use lib.Dec.{eqb, eqb·suc-zero}
 use borrow.Author.Tests.{eqb-true, eqb-false, eq-eqb, ne-eqb}
@@ -13,7 +13,7 @@ use Rattle.records.specs.Decoded.{observationsOf, booleanOf, relationOf}
 use Rattle.records.specs.declared.case.Boolean.{Boolean}
 use Rattle.records.specs.declared.case.Relation.{Relation}
 use Rattle.expressions.specs.declared.observations.Seen.{Seen}
-use Rattle.expressions.specs.Bindings.{Bound, known, conflict, Choice, just, both, sameObservation, valuesSeen, weighed, observedInBooleans, observedInRelations, unknownIn}
+use Rattle.expressions.specs.Bindings.{Bound, known, conflict, just, both, sameObservation, valuesSeen, weighed, observedInBooleans, observedInRelations, unknownIn}
 use Rattle.expressions.specs.Seen.{nothing, lookAt, lookAll, boundBy}
 use Rattle.expressions.proofs.Rests.{below-next, below-none, made-next, made-none}
 
@@ -21,10 +21,6 @@ pub look-append : (s : Seen) (xs ys : List Observation) → lookAll s (xs ++ ys)
 unfolding lookAll
 look-append s [] ys = refl
 look-append s (o ∷ xs) ys = look-append (lookAt s o) xs ys
-
-and-false : (b : Bool) → (b && false) ≡ false
-and-false true = refl
-and-false false = refl
 
 -- ---- so many values beside their evidence
 
@@ -160,14 +156,6 @@ eqb-swap a b = pick (eqb a b) refl
     pick true e = e ∙ sym (eq-eqb b a (sym (eqb-true a b e)))
     pick false e = e ∙ sym (ne-eqb b a (λ k. eqb-false a b e (sym k)))
 
-or-true : (b : Bool) → (b || true) ≡ true
-or-true true = refl
-or-true false = refl
-
-or-none : (b : Bool) → (b || false) ≡ b
-or-none true = refl
-or-none false = refl
-
 module _ (v e : ℕ) where
   -- what is kept once the first pair was value v with evidence e
   abbrev from : Bool → Bool → Seen
@@ -194,7 +182,7 @@ module _ (v e : ℕ) where
 
   look-result : (d t : Bool) (os : List Observation) → lookAll (from d t) os ≡ from (d || not (same os)) (t || not (agree os))
   unfolding lookAll allOf
-  look-result d t [] = ap₂ from (sym (or-none d)) (sym (or-none t))
+  look-result d t [] = ap₂ from (sym (or-false d)) (sym (or-false t))
   look-result d t (o ∷ os) = pick (eqb (o .value) v) (eqb (o .evidence) e) refl refl (λ d t. look-result d t os)
     where
       pick : (x y : Bool) → eqb (o .value) v ≡ x → eqb (o .evidence) e ≡ y

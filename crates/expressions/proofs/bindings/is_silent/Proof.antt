@@ -1,5 +1,5 @@
 -- `expressions::bindings::is_silent` meets its contract. Assumes nothing.
-use mathlib.Core.Bool.{Bool, true, false, not}
+use mathlib.Core.Bool.{not, Bool·not-not}
 use mathlib.Core.Path.{_≡_, refl, sym, ap, _∙_}
 use lib.ListN.{length}
 use lib.Dec.{eqb}
@@ -11,10 +11,6 @@ use Rattle.expressions.specs.declared.observations.Seen.{Seen}
 use Rattle.records.specs.Decoded.{caseOf}
 use Rattle.expressions.proofs.bindings.is_silent.Statement.{statement}
 use Rattle.expressions.proofs.bindings.is_silent.Tie as tie
-
-twice : (b : Bool) → not (not b) ≡ b
-twice true = refl
-twice false = refl
 
 said-unknown-requires : tie.Need-said-unknown-requires
 said-unknown-requires c κs = search needs
@@ -34,7 +30,7 @@ returns-2 c =
     let k = c .before .before .before in
     let a = k .before .before .args in
     rw (not-false (eqb (length (saidUnknown (caseOf (a .case)) (a .fact))) 0) (sym (k .said-unknown .ensures) ∙ c .before .before .if1 .left))
-    (ap not (ap (λ (s : Seen). s .any) (c .before .seen-of .ensures) ∙ look-any (observed (caseOf (a .case)) (a .fact))) ∙ twice (eqb (length (observed (caseOf (a .case)) (a .fact))) 0))
+    (ap not (ap (λ (s : Seen). s .any) (c .before .seen-of .ensures) ∙ look-any (observed (caseOf (a .case)) (a .fact))) ∙ Bool·not-not (eqb (length (observed (caseOf (a .case)) (a .fact))) 0))
 
 pub is-silent-spec : {M : Type 1} → statement M
 is-silent-spec = tie.close (tie.spec said-unknown-requires returns seen-of-requires returns-2)
