@@ -13,3 +13,11 @@ pub mod DecisionLaws
 pub mod OpenLaws
 pub mod ReachLaws
 pub mod GroupLaws
+pub mod Rests
+pub mod SeenLaws
+pub mod EvidenceLaws
+pub mod ElectionLaws
+pub mod FamilyLaws
+pub mod FactLaws
+pub mod CountLaws
+pub mod FaultLaws

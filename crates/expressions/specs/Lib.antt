@@ -8,4 +8,8 @@ pub mod Influences
 pub mod Joined
 pub mod Influence
 pub mod Bindings
+pub mod Seen
+pub mod Evident
+pub mod Codes
 pub mod Variables
+pub mod Counted
