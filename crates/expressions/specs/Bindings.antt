@@ -28,13 +28,20 @@ frameOf P C = record { plan = P; roster = caseHeading C .roster; constraints = C
 -- ---- what the case says of a fact
 
 -- its observations, from booleans and relations alike
+unfoldable pub observedInBooleans : List Boolean → ℕ → List Observation
+observedInBooleans bs f = flatMap (λ b. cond (eqb (b .fact) f) (b .observations) []) bs
+
+unfoldable pub observedInRelations : List Relation → ℕ → List Observation
+observedInRelations rs f = flatMap (λ r. cond (eqb (r .fact) f) (r .observation ∷ []) []) rs
+
 abbrev pub observed : Case → ℕ → List Observation
-observed C f =
-    flatMap (λ b. cond (eqb (b .fact) f) (b .observations) []) (C .booleans)
-    ++ flatMap (λ r. cond (eqb (r .fact) f) (r .observation ∷ []) []) (C .relations)
+observed C f = observedInBooleans (C .booleans) f ++ observedInRelations (C .relations) f
+
+unfoldable pub unknownIn : List Boolean → ℕ → List ℕ
+unknownIn bs f = flatMap (λ b. cond (eqb (b .fact) f) (b .unknown) []) bs
 
 abbrev pub saidUnknown : Case → ℕ → List ℕ
-saidUnknown C f = flatMap (λ b. cond (eqb (b .fact) f) (b .unknown) []) (C .booleans)
+saidUnknown C f = unknownIn (C .booleans) f
 
 -- "Evidence is all the case gives for the election's fact, bound or not"
 unfoldable pub evidenceOf : Case → ℕ → ℕ
@@ -55,8 +62,11 @@ unfoldable pub weighed : List Observation → Bound → Bound
 weighed [] silent = silent
 weighed (o ∷ os) silent = cond (allOf (sameObservation o) os) (known (eqb (o .value) 1)) (conflict (valuesSeen (o .value) os))
 
+unfoldable pub electionsIn : List (List Election) → ℕ → List Election
+electionsIn ess f = flatMap (λ es. flatMap (λ e. cond (eqb (e .fact) f) (e ∷ []) []) es) ess
+
 unfoldable pub elections : Plan → ℕ → List Election
-elections P f = flatMap (λ es. flatMap (λ e. cond (eqb (e .fact) f) (e ∷ []) []) es) (electionRecords P)
+elections P f = electionsIn (electionRecords P) f
 
 -- the default of an election's policy: none, or one
 unfoldable pub defaultOf : List Election → List Bool
@@ -71,10 +81,13 @@ byDefault (b ∷ bs) = known b
 unfoldable pub boundBoolean : Plan → Case → ℕ → Bound
 boundBoolean P C f = cond (eqb (length (saidUnknown C f)) 0) (weighed (observed C f) (byDefault (defaultOf (elections P f)))) unknown
 
+-- the family records of a number (of any, where none is given) that have the scope
+unfoldable pub scoped : List ℕ → ℕ → List Family → List Family
+scoped number scope ms = flatMap (λ m. cond (allOf (eqb (m .number)) number && eqb (m .scope) scope) (m ∷ []) []) ms
+
 -- the family records of a fact that have the roster's scope
 unfoldable pub inScope : Plan → Case → ℕ → List Family
-inScope P C f =
-    flatMap (λ m. cond (allOf (eqb (m .number)) (getFact P f .family) && eqb (m .scope) (caseHeading C .scope)) (m ∷ []) []) (C .families)
+inScope P C f = scoped (getFact P f .family) (caseHeading C .scope) (C .families)
 
 abbrev pub inFamily : List Family → List Observation → Bound
 inFamily [] os = unknown
@@ -84,9 +97,15 @@ inFamily (m ∷ ms) os = weighed os (cond (eqb (length (m .complete)) 0) unknown
 unfoldable pub boundRelation : Plan → Case → ℕ → Bound
 boundRelation P C f = inFamily (inScope P C f) (observed C f)
 
+-- where `set` is the set of the facts to bind
+unfoldable pub bindingBy : Plan → Case → ℕ → ℕ → Bound
+bindingBy P C set f = cond (has set f) (cond (isBoolean (getFact P f)) (boundBoolean P C f) (boundRelation P C f)) unbound
+
+unfoldable pub bindingsBy : Plan → Case → ℕ → List Bound
+bindingsBy P C set = below (factCount P) (bindingBy P C set)
+
 unfoldable pub bindingOf : Plan → Case → ℕ → Bound
-bindingOf P C f =
-    cond (has (boundFacts (frameOf P C)) f) (cond (isBoolean (getFact P f)) (boundBoolean P C f) (boundRelation P C f)) unbound
+bindingOf P C f = bindingBy P C (boundFacts (frameOf P C)) f
 
 -- the binding of each fact
 unfoldable pub bindings : Plan → Case → List Bound
@@ -96,10 +115,13 @@ abbrev pub bindingAt : List Bound → ℕ → Bound
 bindingAt bs f = getD bs f unbound
 
 -- the bound facts that took their default, which event 8 shows
-unfoldable pub tookDefault : Plan → Case → ℕ → Bool
-tookDefault P C f =
-    (has (boundFacts (frameOf P C)) f && isBoolean (getFact P f))
+unfoldable pub tookDefaultBy : Plan → Case → ℕ → ℕ → Bool
+tookDefaultBy P C set f =
+    (has set f && isBoolean (getFact P f))
     && ((eqb (length (saidUnknown C f)) 0 && eqb (length (observed C f)) 0) && not (eqb (length (defaultOf (elections P f))) 0))
+
+unfoldable pub tookDefault : Plan → Case → ℕ → Bool
+tookDefault P C f = tookDefaultBy P C (boundFacts (frameOf P C)) f
 
 -- ---- "Then 5 a family twice; per boolean 10 explicit unknown beside observations, 5 fact twice", the later record
 

@@ -1,5 +1,15 @@
 pub mod Rules
 pub mod Nodes
+pub mod Coded
+pub mod Listed
+pub mod Reached
+pub mod Undecided
+pub mod Influences
+pub mod Joined
 pub mod Influence
 pub mod Bindings
+pub mod Seen
+pub mod Evident
+pub mod Codes
 pub mod Variables
+pub mod Counted

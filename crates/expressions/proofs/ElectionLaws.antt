@@ -1,0 +1,105 @@
+-- Laws of the elections on a fact: the first of them, record by record. Assumes nothing.
+use mathlib.Core.Path.{_≡_, refl, sym, ap, ap₂, _∙_}
+use mathlib.Core.Bool.{Bool, true, false, cond}
+use mathlib.Core.List.{List, [], _∷_, _++_, map, flatMap, append-assoc}
+use Prim.Native.Nat.{ℕ, _+_, _≤_, _<_, min}
+use lib.ListN.{length, getD, take, drop}
+use native.Mathlib.Omega.{arith}
+use lib.Dec.{eqb}
+use borrow.Author.Tests.{eq-eqb, ne-eqb}
+use Rattle.records.specs.Plan as paper
+use Rattle.records.specs.Decoded.{given, planOf, cutOf, attachmentOf, electionOf}
+use Rattle.records.specs.declared.plan.Election.{Election}
+use Rattle.records.specs.declared.plan.Plan.{Plan}
+use Rattle.expressions.specs.Bindings.{elections, electionsIn, defaultOf}
+use Rattle.expressions.proofs.Rests.{made-next, made-none}
+
+-- one record more: its election if it is on the fact
+election-here : (f : ℕ) (e : Election) (ess : List (List paper.Election)) → e .given ≡ true → e .fact ≡ f
+    → electionsIn (electionOf e ∷ ess) f ≡ electionOf e ++ electionsIn ess f
+unfolding electionsIn electionOf flatMap
+election-here f e ess g k = rw (g, eq-eqb (e .fact) f k)
+
+election-other : (f : ℕ) (e : Election) (ess : List (List paper.Election)) → (e .fact ≡ f → ⊥) → electionsIn (electionOf e ∷ ess) f ≡ electionsIn ess f
+unfolding electionsIn electionOf flatMap
+election-other f e ess k = pick (e .given)
+  where
+    pick : (g : Bool) → flatMap (λ x. cond (eqb (x .fact) f) (x ∷ []) []) (cond g (record { fact = e .fact; actor = e .actor; policy = e .policy; citation = e .citation } ∷ []) []) ++ electionsIn ess f
+        ≡ electionsIn ess f
+    pick true = rw (ne-eqb (e .fact) f k)
+    pick false = refl
+
+election-none : (f : ℕ) (e : Election) (ess : List (List paper.Election)) → e .given ≡ false → electionsIn (electionOf e ∷ ess) f ≡ electionsIn ess f
+unfolding electionsIn electionOf flatMap
+election-none f e ess g = rw g
+
+first-given : (e : Election) (ess : List paper.Election) → e .given ≡ true → take 1 (electionOf e ++ ess) ≡ electionOf e
+unfolding electionOf
+first-given e ess g = rw g
+
+-- ---- over the records of a kind, by the election that each has
+
+module _ {A : Type 0} (e : A → Election) (items : List A) (n f i : ℕ) where
+  abbrev pub electedFrom : ℕ → List paper.Election
+  electedFrom k = take 1 (electionsIn (drop k (map (λ x. electionOf (e x)) (take n items))) f)
+
+  pub elected-end : min n (length items) ≤ i → electedFrom i ≡ []
+  unfolding electionsIn flatMap
+  elected-end h = ap (λ (ess : List (List paper.Election)). take 1 (electionsIn ess f)) (made-none (λ x. electionOf (e x)) items n i h)
+
+  module _ (d : A) (h : i < min n (length items)) where
+    next : electedFrom i ≡ take 1 (electionsIn (electionOf (e (getD items i d)) ∷ drop (i + 1) (map (λ x. electionOf (e x)) (take n items))) f)
+    next = ap (λ (ess : List (List paper.Election)). take 1 (electionsIn ess f)) (made-next (λ x. electionOf (e x)) items n i d h)
+
+    pub elected-here : e (getD items i d) .given ≡ true → e (getD items i d) .fact ≡ f → electedFrom i ≡ electionOf (e (getD items i d))
+    elected-here g k = next ∙ ap (take 1) (election-here f (e (getD items i d)) _ g k) ∙ first-given (e (getD items i d)) _ g
+
+    pub elected-other : (e (getD items i d) .fact ≡ f → ⊥) → electedFrom i ≡ electedFrom (i + 1)
+    elected-other k = next ∙ ap (take 1) (election-other f (e (getD items i d)) _ k)
+
+    pub elected-not : e (getD items i d) .given ≡ false → electedFrom i ≡ electedFrom (i + 1)
+    elected-not g = next ∙ ap (take 1) (election-none f (e (getD items i d)) _ g)
+
+-- ---- cuts, then attachments
+
+map-map : {A B C : Type 0} (g : B → C) (f : A → B) (xs : List A) → map g (map f xs) ≡ map (λ x. g (f x)) xs
+map-map g f [] = refl
+map-map g f (x ∷ xs) = ap (λ ys. g (f x) ∷ ys) (map-map g f xs)
+
+elections-append : (xs ys : List (List paper.Election)) (f : ℕ) → electionsIn (xs ++ ys) f ≡ electionsIn xs f ++ electionsIn ys f
+unfolding electionsIn flatMap
+elections-append [] ys f = refl
+elections-append (x ∷ xs) ys f = ap (λ zs. flatMap (λ e. cond (eqb (e .fact) f) (e ∷ []) []) x ++ zs) (elections-append xs ys f) ∙ sym (append-assoc (flatMap (λ e. cond (eqb (e .fact) f) (e ∷ []) []) x) (electionsIn xs f) (electionsIn ys f))
+
+abbrev plain : Election → paper.Election
+plain e = record { fact = e .fact; actor = e .actor; policy = e .policy; citation = e .citation }
+
+no-entry : {A : Type 0} {x : A} {xs : List A} → x ∷ xs ≡ [] → ⊥
+no-entry p = let z : _≡_ {A = ℕ} 0 1 = cc in omega arith
+
+-- where the cuts have none, the first of the attachments; else the first of the cuts
+pub first-of-cuts : (xs ys : List paper.Election) (r : Election) → r .given ≡ true → electionOf r ≡ take 1 xs → electionOf r ≡ take 1 (xs ++ ys)
+unfolding electionOf
+first-of-cuts [] ys r g e = absurd (no-entry (sym (ap (λ (b : Bool). cond b (plain r ∷ []) []) g) ∙ e))
+first-of-cuts (x ∷ xs) ys r g e = e
+
+pub first-of-attachments : (xs ys : List paper.Election) (r : Election) → r .given ≡ false → electionOf r ≡ take 1 xs → take 1 ys ≡ take 1 (xs ++ ys)
+unfolding electionOf
+first-of-attachments [] ys r g e = refl
+first-of-attachments (x ∷ xs) ys r g e = absurd (no-entry (sym e ∙ ap (λ (b : Bool). cond b (plain r ∷ []) []) g))
+
+pub elections-of : (p : Plan) (f : ℕ)
+    → elections (planOf p) f
+    ≡ electionsIn (map (λ c. electionOf (c .election)) (take (p .cuts .count) (p .cuts .items))) f
+    ++ electionsIn (map (λ a. electionOf (a .election)) (take (p .attachments .count) (p .attachments .items))) f
+unfolding elections planOf cutOf attachmentOf
+elections-of p f =
+    ap (λ (ess : List (List paper.Election)). electionsIn ess f)
+    (ap₂ _++_ (map-map (λ c. c .election) cutOf (take (p .cuts .count) (p .cuts .items))) (map-map (λ a. a .election) attachmentOf (take (p .attachments .count) (p .attachments .items))))
+    ∙ elections-append (map (λ c. electionOf (c .election)) (take (p .cuts .count) (p .cuts .items))) (map (λ a. electionOf (a .election)) (take (p .attachments .count) (p .attachments .items))) f
+
+-- the first election has the default
+pub default-first : (es : List paper.Election) → defaultOf (take 1 es) ≡ defaultOf es
+unfolding defaultOf
+default-first [] = refl
+default-first (e ∷ es) = refl

@@ -1,0 +1,38 @@
+-- Of an accepted plan, what the masks ask: facts and persons named by number are below 64. Assumes nothing.
+use Prim.Native.Nat.{ℕ, suc}
+use mathlib.Core.List.{List, [], _∷_}
+use native.Mathlib.Omega.{arith}
+use Rattle.records.specs.Plan.{Plan, Node, literal, fact, conj, disj, neg}
+use Rattle.records.specs.Sound.{All, Sound, SoundFact, SoundNode, SoundNodes, SoundEdge, SoundAttachment, SoundStatus}
+use Rattle.expressions.specs.Coded.{TupleFits, FactFits, EndsFit, AnchorFits, PersonFits}
+
+all-map : {A : Type 0} (Q R : A → Type 0) → ((x : A) → Q x → R x) → (xs : List A) → All Q xs → All R xs
+all-map Q R f [] h = tt
+all-map Q R f (x ∷ xs) h = (f x (h .0), all-map Q R f xs (h .1))
+
+module _ (P : Plan) (sound : Sound P) where
+  node-fits : (k : ℕ) (n : Node) → SoundNode P k n → FactFits n
+  node-fits k (literal b) h = tt
+  node-fits k (fact f) h = omega (arith, sound .factLimit)
+  node-fits k (conj is) h = tt
+  node-fits k (disj is) h = tt
+  node-fits k (neg i) h = tt
+
+  some-fit : (k : ℕ) (ns : List Node) → SoundNodes P k ns → All FactFits ns
+  some-fit k [] h = tt
+  some-fit k (n ∷ ns) h = (node-fits k n (h .0), some-fit (suc k) ns (h .1))
+
+  pub nodes-fit : All FactFits (P .nodes)
+  nodes-fit = some-fit 0 (P .nodes) (sound .nodes)
+
+  pub edges-fit : All EndsFit (P .edges)
+  edges-fit = all-map (SoundEdge P) EndsFit (λ e h. (h .left, h .right)) (P .edges) (sound .edges)
+
+  pub attachments-fit : All AnchorFits (P .attachments)
+  attachments-fit = all-map (SoundAttachment P) AnchorFits (λ a h. h .anchor) (P .attachments) (sound .attachments)
+
+  pub statuses-fit : All PersonFits (P .statuses)
+  statuses-fit = all-map (SoundStatus P) PersonFits (λ t h. h .person) (P .statuses) (sound .statuses)
+
+  pub facts-fit : All TupleFits (P .facts)
+  facts-fit = all-map SoundFact TupleFits (λ f h. h .1) (P .facts) (sound .facts)

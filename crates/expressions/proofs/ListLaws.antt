@@ -1,0 +1,194 @@
+-- Laws of lists that a loop goes through: what is left from an index on, of the entries in use of an array. Assumes nothing.
+use Prim.Native.Nat.{ℕ, zero, suc, _+_, _≤_, _<_, min}
+use mathlib.Core.Path.{_≡_, refl, sym, ap, ap₂, _∙_, subst}
+use mathlib.Core.Bool.{Bool, true, false, _&&_, _||_}
+use mathlib.Core.Logic.{_⊎_, inl, inr}
+use mathlib.Core.List.{append-assoc, List, [], _∷_, _++_, map}
+use native.Mathlib.Numerals.{add-one}
+use native.Mathlib.Nat.{add-zero, zero-add}
+use native.Mathlib.Omega.{arith}
+use lib.ListN.{length, getD, take, drop, set, replicate, length-take, length-map, drop-of-length-le}
+use lib.Seq.{ext-getD, take-suc-set, drop-cons, getD-take, take-suc, take-all, length-take-le}
+use Rattle.records.specs.Sets.{allOf, anyOf, numbers, below}
+use Rattle.records.specs.Sound.{All}
+use Rattle.records.proofs.LoopLaws.{getD-below, length-below, all-at, getD-made}
+use Rattle.records.proofs.SetLaws.{lt-or-le}
+use Rattle.expressions.specs.Coded.{Holds}
+
+-- ---- the entries in use: n of them, as many as the count says and no more than there are
+
+module _ {A : Type 0} (xs : List A) (count most n : ℕ) (long : length xs ≡ most) (some : n ≡ min count most) where
+  pub used-length : length (take count xs) ≡ n
+  used-length = length-take count xs ∙ ap (min count) long ∙ sym some
+
+  pub used-at : (i : ℕ) (d : A) → i < n → getD (take count xs) i d ≡ getD xs i d
+  used-at i d h = getD-take count xs i d (omega arith)
+
+  -- what holds of each
+  pub used-each : (Q : A → Type 0) (i : ℕ) (d : A) → i < n → All Q (take count xs) → Q (getD xs i d)
+  used-each Q i d h q = let l = used-length in subst Q (used-at i d h) (all-at Q (take count xs) d i q (omega arith))
+
+  -- one entry more, at the code's i + 1
+  pub used-next : (i : ℕ) (d k : A) → i < n → k ≡ getD xs i d → drop i (take count xs) ≡ k ∷ drop (i + 1) (take count xs)
+  used-next i d k h e =
+      let l = used-length in
+      drop-cons (take count xs) i d (omega arith) ∙ ap₂ _∷_ (used-at i d h ∙ sym e) (ap (λ (j : ℕ). drop j (take count xs)) (sym (add-one i)))
+
+  pub used-end : (i : ℕ) → n ≤ i → drop i (take count xs) ≡ []
+  used-end i h = let l = used-length in let k : length (take count xs) ≤ i = omega arith in drop-of-length-le (take count xs) k
+
+  pub used-take : take n xs ≡ take count xs
+  used-take = pick (lt-or-le count most)
+    where
+      pick : (count < most) ⊎ (most ≤ count) → take n xs ≡ take count xs
+      pick (inl h) = let e : n ≡ count = omega arith in ap (λ (k : ℕ). take k xs) e
+      pick (inr h) = take-all n xs (omega arith) ∙ sym (take-all count xs (omega arith))
+
+-- the front of one array copied to another
+pub copy-next : {A : Type 0} (xs ys : List A) (i : ℕ) (d : A) → i < length xs → i < length ys → take i xs ≡ take i ys
+    → take (i + 1) (set xs i (getD ys i d)) ≡ take (i + 1) ys
+copy-next xs ys i d h k e =
+    rw add-one (take-suc-set xs i (getD ys i d) h ∙ ap (λ (l : List _). l ++ (getD ys i d ∷ [])) e ∙ sym (take-suc ys i d k))
+
+-- ---- a list made from the entries in use, one entry at a time
+
+module _ {A B : Type 0} (f : A → B) (xs : List A) (count most n : ℕ) (long : length xs ≡ most) (some : n ≡ min count most) where
+  pub made-length : length (map f (take count xs)) ≡ n
+  made-length = length-map (take count xs) f ∙ used-length xs count most n long some
+
+  pub made-at : (i : ℕ) (d : A) (e : B) → i < n → getD (map f (take count xs)) i e ≡ f (getD xs i d)
+  made-at i d e h =
+      ap (λ (l : List A). getD (map f l) i e) (sym (used-take xs count most n long some)) ∙ getD-made f xs n i d e h (omega arith)
+
+  pub made-next : (i : ℕ) (d : A) → i < n → take (i + 1) (map f (take count xs)) ≡ take i (map f (take count xs)) ++ (f (getD xs i d) ∷ [])
+  made-next i d h =
+      let l = made-length in
+      let all = map f (take count xs) in
+      ap (λ (j : ℕ). take j all) (add-one i) ∙ take-suc all i (f d) (omega arith) ∙ ap (λ (x : B). take i all ++ (x ∷ [])) (made-at i d (f d) h)
+
+  pub made-part : (i : ℕ) → i ≤ n → length (take i (map f (take count xs))) ≡ i
+  made-part i h = let l = made-length in length-take-le i (map f (take count xs)) (omega arith)
+
+  pub made-all : (i : ℕ) → n ≤ i → take i (map f (take count xs)) ≡ map f (take count xs)
+  made-all i h = let l = made-length in take-all i (map f (take count xs)) (omega arith)
+
+  -- what holds of each
+  pub made-each : (Q : B → Type 0) (i : ℕ) (d : A) → i < n → All Q (map f (take count xs)) → Q (f (getD xs i d))
+  made-each Q i d h q = let l = made-length in subst Q (made-at i d (f d) h) (all-at Q (map f (take count xs)) (f d) i q (omega arith))
+
+-- ---- a test of all or any of the entries, by the first of them
+
+module _ {A : Type 0} (f : A → Bool) (k : A) (rest : List A) where
+  pub all-go : f k ≡ true → allOf f (k ∷ rest) ≡ allOf f rest
+  unfolding allOf
+  all-go e = ap (λ (b : Bool). b && allOf f rest) e
+
+  pub all-stop : f k ≡ false → allOf f (k ∷ rest) ≡ false
+  unfolding allOf
+  all-stop e = ap (λ (b : Bool). b && allOf f rest) e
+
+  pub any-go : f k ≡ false → anyOf f (k ∷ rest) ≡ anyOf f rest
+  unfolding anyOf
+  any-go e = ap (λ (b : Bool). b || anyOf f rest) e
+
+  pub any-stop : f k ≡ true → anyOf f (k ∷ rest) ≡ true
+  unfolding anyOf
+  any-stop e = ap (λ (b : Bool). b || anyOf f rest) e
+
+-- ---- equal tests give equal answers
+
+module _ {A : Type 0} (f g : A → Bool) (same : (x : A) → f x ≡ g x) where
+  pub all-agree : (xs : List A) → allOf f xs ≡ allOf g xs
+  unfolding allOf
+  all-agree [] = refl
+  all-agree (x ∷ xs) = ap₂ _&&_ (same x) (all-agree xs)
+
+  pub any-agree : (xs : List A) → anyOf f xs ≡ anyOf g xs
+  unfolding anyOf
+  any-agree [] = refl
+  any-agree (x ∷ xs) = ap₂ _||_ (same x) (any-agree xs)
+
+-- ---- an array that holds a list
+
+pub holds-none : {A : Type 0} (n : ℕ) (d : A) → Holds d (replicate n d) []
+holds-none n d = record { at = λ i. at n i }
+  where
+    at : (n i : ℕ) → getD (replicate n d) i d ≡ d
+    at zero i = refl
+    at (suc n) zero = refl
+    at (suc n) (suc i) = at n i
+
+-- an entry stored at the list's end
+stored : {A : Type 0} (d : A) (out done : List A) (v : A) → length done < length out → ((k : ℕ) → getD out k d ≡ getD done k d)
+    → (k : ℕ) → getD (set out (length done) v) k d ≡ getD (done ++ (v ∷ [])) k d
+stored d [] done v l h k = absurd (omega arith)
+stored d (x ∷ out) [] v l h zero = refl
+stored d (x ∷ out) [] v l h (suc k) = h (suc k)
+stored d (x ∷ out) (y ∷ done) v l h zero = h zero
+stored d (x ∷ out) (y ∷ done) v l h (suc k) = stored d out done v (omega arith) (λ j. h (suc j)) k
+
+pub holds-next : {A : Type 0} (d : A) (out done : List A) (i : ℕ) (v : A) → length done ≡ i → i < length out → Holds d out done
+    → Holds d (set out i v) (done ++ (v ∷ []))
+holds-next d out done i v e l h =
+    subst (λ (j : ℕ). Holds d (set out j v) (done ++ (v ∷ []))) e (record { at = stored d out done v (omega arith) (λ k. h .at k) })
+
+-- ---- f 0 … f (n − 1), one more at the end
+
+numbers-last : (n k : ℕ) → numbers (suc n) k ≡ numbers n k ++ ((k + n) ∷ [])
+unfolding numbers
+numbers-last zero k = ap (λ (x : ℕ). x ∷ []) (sym (add-zero k))
+numbers-last (suc n) k =
+    let e : suc k + n ≡ k + suc n = omega arith in
+    ap (λ (l : List ℕ). k ∷ l) (numbers-last n (suc k) ∙ ap (λ (x : ℕ). numbers n (suc k) ++ (x ∷ [])) e)
+
+pub map-append : {A B : Type 0} (f : A → B) (xs ys : List A) → map f (xs ++ ys) ≡ map f xs ++ map f ys
+map-append f [] ys = refl
+map-append f (x ∷ xs) ys = ap (λ (l : List _). f x ∷ l) (map-append f xs ys)
+
+pub below-last : {A : Type 0} (n : ℕ) (f : ℕ → A) → below (suc n) f ≡ below n f ++ (f n ∷ [])
+unfolding below
+below-last n f = ap (map f) (numbers-last n 0) ∙ map-append f (numbers n 0) ((0 + n) ∷ []) ∙ ap (λ (x : ℕ). map f (numbers n 0) ++ (f x ∷ [])) (zero-add n)
+
+pub below-map : {A B : Type 0} (g : A → B) (n : ℕ) (f : ℕ → A) → map g (below n f) ≡ below n (λ i. g (f i))
+unfolding below
+below-map g n f = twice (numbers n 0)
+  where
+    twice : (ns : List ℕ) → map g (map f ns) ≡ map (λ i. g (f i)) ns
+    twice [] = refl
+    twice (i ∷ ns) = ap (λ (l : List _). g (f i) ∷ l) (twice ns)
+
+-- equal entries make equal lists
+pub below-same : {A : Type 0} (d : A) (n : ℕ) (f g : ℕ → A) → ((i : ℕ) → i < n → f i ≡ g i) → below n f ≡ below n g
+below-same d n f g h =
+    ext-getD d (below n f) (below n g) (length-below n f ∙ sym (length-below n g)) (λ i l.
+    let k : i < n = subst (λ (m : ℕ). i < m) (length-below n f) l in
+    getD-below n f d i k ∙ h i k ∙ sym (getD-below n g d i k))
+
+-- an array filled by number
+pub fill-next : {A : Type 0} (d : A) (f : ℕ → A) (out : List A) (i : ℕ) (v : A) → i < length out → Holds d out (below i f) → v ≡ f i
+    → Holds d (set out i v) (below (i + 1) f)
+fill-next d f out i v l h e =
+    subst (Holds d (set out i v)) (ap (λ (x : _). below i f ++ (x ∷ [])) e ∙ sym (ap (λ (k : ℕ). below k f) (add-one i) ∙ below-last i f))
+    (holds-next d out (below i f) i v (length-below i f) l h)
+
+-- ---- a list put together behind another, by number
+
+pub behind-next : {A : Type 0} (f : ℕ → A) (before : List A) (i : ℕ) {xs ys : List A} {v : A} → xs ≡ before ++ below i f → ys ≡ xs ++ (v ∷ []) → v ≡ f i
+    → ys ≡ before ++ below (i + 1) f
+behind-next f before i {xs} {ys} {v} e k s =
+    k ∙ ap₂ (λ (l : List _) (x : _). l ++ (x ∷ [])) e s ∙ append-assoc before (below i f) (f i ∷ [])
+    ∙ ap (λ (l : List _). before ++ l) (sym (ap (λ (n : ℕ). below n f) (add-one i) ∙ below-last i f))
+
+-- an entry of one list stored behind the front of another
+pub store-next : {A : Type 0} (d : A) (sets before ms : List A) (k i : ℕ) → k < length sets → i < length ms → take k sets ≡ before ++ take i ms
+    → take (k + 1) (set sets k (getD ms i d)) ≡ before ++ take (i + 1) ms
+store-next d sets before ms k i h l e =
+    ap (λ (n : ℕ). take n (set sets k (getD ms i d))) (add-one k) ∙ take-suc-set sets k (getD ms i d) h ∙ ap (λ (x : List _). x ++ (getD ms i d ∷ [])) e
+    ∙ append-assoc before (take i ms) (getD ms i d ∷ []) ∙ ap (λ (x : List _). before ++ x) (sym (ap (λ (n : ℕ). take n ms) (add-one i) ∙ take-suc ms i d l))
+
+-- the front of an array, by number
+pub front-below : {A : Type 0} (d : A) (xs : List A) (n : ℕ) → n ≤ length xs → take n xs ≡ below n (λ i. getD xs i d)
+front-below d xs n h =
+    ext-getD d (take n xs) (below n (λ i. getD xs i d)) (length-take-le n xs h ∙ sym (length-below n (λ i. getD xs i d))) (λ i l.
+    let k : i < n = subst (λ (m : ℕ). i < m) (length-take-le n xs h) l in
+    getD-take n xs i d k ∙ sym (getD-below n (λ i. getD xs i d) d i k))

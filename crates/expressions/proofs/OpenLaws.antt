@@ -1,0 +1,219 @@
+-- There are at most as many open decisions as unresolved entries in the plan's lists. Assumes nothing.
+use Prim.Native.Nat.{ℕ, zero, suc, _+_, _≤_, _<_, zero-le}
+use mathlib.Core.Path.{_≡_, refl, sym, ap, ap₂, _∙_, subst, fun-ext}
+use mathlib.Core.Bool.{Bool, true, false, _&&_, _||_, cond}
+use mathlib.Core.List.{List, [], _∷_, _++_, map, append-nil}
+use native.Mathlib.Nat.{le-refl}
+use native.Mathlib.Decide.{le-ind}
+use native.Mathlib.Numerals.{add-one}
+use native.Mathlib.Omega.{arith}
+use lib.ListN.{length, getD, take, length-append}
+use lib.Seq.{take-suc, take-length}
+use lib.Dec.{eqb}
+use borrow.Author.Tests.{eqb-true, ne-eqb}
+use Rattle.records.specs.Sets.{below, anyOf}
+use Rattle.records.specs.Plan.{Plan, Decision, Cut, unresolvedIn, unresolved}
+use Rattle.records.specs.Sound.{All, Sound}
+use Rattle.records.proofs.LoopLaws.{length-below, all-append}
+use Rattle.expressions.specs.Listed.{endsOf}
+use Rattle.expressions.specs.Rules.{pair, edge, cut, cutCount, edgeCount}
+use Rattle.expressions.specs.Influence.{Open, openIn, openBelow, openDecisions, openDecision, decisionTouch}
+use Rattle.expressions.specs.Undecided.{decides, pairOf, openAt, opensOf, openOf, openAll, Named, openTouch}
+use Rattle.expressions.specs.declared.decisions.Undecided.{Undecided}
+use Rattle.expressions.proofs.RuleLaws.{below-list}
+
+-- ---- how many numbers below n pass a test
+
+abbrev tally : Bool → ℕ
+tally b = cond b 1 0
+
+unfoldable countBelow : ℕ → (ℕ → Bool) → ℕ
+countBelow zero f = 0
+countBelow (suc n) f = countBelow n f + tally (f n)
+
+or-tally : (x y : Bool) → tally (x || y) ≤ tally x + tally y
+or-tally true y = omega arith
+or-tally false y = omega arith
+
+count-or : (n : ℕ) (f g : ℕ → Bool) → countBelow n (λ i. f i || g i) ≤ countBelow n f + countBelow n g
+unfolding countBelow
+count-or zero f g = zero-le
+count-or (suc n) f g = let h = count-or n f g in let k = or-tally (f n) (g n) in omega arith
+
+count-none : (n : ℕ) (f : ℕ → Bool) → ((i : ℕ) → i < n → f i ≡ false) → countBelow n f ≡ 0
+unfolding countBelow
+count-none zero f h = refl
+count-none (suc n) f h = ap₂ _+_ (count-none n f (λ i k. h i (omega arith))) (ap tally (h n (omega arith)))
+
+-- one number is met once
+count-one : (n a : ℕ) → countBelow n (λ i. eqb a i) ≤ 1
+unfolding countBelow
+count-one zero a = zero-le
+count-one (suc n) a = pick (eqb a n) refl (count-one n a)
+  where
+    pick : (b : Bool) → eqb a n ≡ b → countBelow n (λ i. eqb a i) ≤ 1 → countBelow n (λ i. eqb a i) + tally (eqb a n) ≤ 1
+    pick true e h =
+        let z = count-none n (λ i. eqb a i) (λ i l. ne-eqb a i (λ q. absurd (omega (arith, eqb-true a n e)))) in
+        let t = ap tally e in omega arith
+    pick false e h = let t = ap tally e in omega arith
+
+-- ---- the open decisions of a cut, and of all cuts
+
+open-count : (ds : List Decision) (c n : ℕ) → length (openOf ds c n) ≡ countBelow n (λ e. decides e 3 ds)
+unfolding openOf countBelow
+open-count ds c zero = refl
+open-count ds c (suc n) =
+    length-append (openOf ds c n) (cond (decides n 3 ds) (pairOf c n ∷ []) []) ∙ ap₂ _+_ (open-count ds c n) (pick (decides n 3 ds))
+  where
+    pick : (b : Bool) → length (cond {A = List Open} b (pairOf c n ∷ []) []) ≡ tally b
+    pick true = refl
+    pick false = refl
+
+count-entry : (n : ℕ) (d : Decision) → countBelow n (λ e. eqb (d .edge) e && eqb (d .verdict) 3) ≤ tally (eqb (d .verdict) 3)
+count-entry n d = pick (eqb (d .verdict) 3)
+  where
+    and-true : (x : Bool) → (x && true) ≡ x
+    and-true true = refl
+    and-true false = refl
+
+    and-false : (x : Bool) → (x && false) ≡ false
+    and-false true = refl
+    and-false false = refl
+
+    pick : (b : Bool) → countBelow n (λ e. eqb (d .edge) e && b) ≤ tally b
+    pick true = subst (λ (f : ℕ → Bool). countBelow n f ≤ 1) (fun-ext (λ e. sym (and-true (eqb (d .edge) e)))) (count-one n (d .edge))
+    pick false = let z = count-none n (λ e. eqb (d .edge) e && false) (λ i l. and-false (eqb (d .edge) i)) in omega arith
+
+count-entries : (n : ℕ) (ds : List Decision) → countBelow n (λ e. decides e 3 ds) ≤ unresolvedIn ds
+unfolding anyOf unresolvedIn
+count-entries n [] = let z = count-none n (λ e. false) (λ i l. refl) in omega arith
+count-entries n (d ∷ ds) =
+    let h = count-or n (λ e. eqb (d .edge) e && eqb (d .verdict) 3) (λ e. decides e 3 ds) in
+    let k = count-entry n d in
+    let r = count-entries n ds in omega arith
+
+open-is : (P : Plan) (c n : ℕ) → openIn P c n ≡ openOf (cut P c .decisions) c n
+unfolding openIn openOf
+open-is P c zero = refl
+open-is P c (suc n) = ap (λ (l : List Open). l ++ cond (decides n 3 (cut P c .decisions)) (pairOf c n ∷ []) []) (open-is P c n)
+
+unresolved-last : (cs : List Cut) (c : Cut) → unresolved (cs ++ (c ∷ [])) ≡ unresolved cs + unresolvedIn (c .decisions)
+unfolding unresolved
+unresolved-last [] c = omega arith
+unresolved-last (d ∷ cs) c = let h = unresolved-last cs c in omega arith
+
+below-few : (P : Plan) (k : ℕ) → k ≤ length (P .cuts) → length (openBelow P k) ≤ unresolved (take k (P .cuts))
+unfolding openBelow cut
+below-few P zero h = zero-le
+below-few P (suc k) h =
+    let l = length-append (openBelow P k) (openIn P k (edgeCount P)) in
+    let a = ap length (open-is P k (edgeCount P)) in
+    let b = open-count (cut P k .decisions) k (edgeCount P) in
+    let c = count-entries (edgeCount P) (cut P k .decisions) in
+    let e = ap unresolved (take-suc (P .cuts) k _ h) ∙ unresolved-last (take k (P .cuts)) (cut P k) in
+    let r = below-few P k (omega arith) in
+    omega arith
+
+pub open-few : (P : Plan) → length (openDecisions P) ≤ unresolved (P .cuts)
+unfolding openDecisions
+open-few P = let h = below-few P (length (P .cuts)) (le-refl (length (P .cuts))) in let e = ap unresolved (take-length (P .cuts)) in omega arith
+
+-- ---- they only grow
+
+grows : (f : ℕ → ℕ) → ((n : ℕ) → f n ≤ f (suc n)) → (m n : ℕ) → m ≤ n → f m ≤ f n
+grows f step m n h = le-ind (λ (k : ℕ). f m ≤ f k) (le-refl (f m)) (λ k l r. let s = step k in omega arith) n h
+
+longer : (xs ys : List Open) → length xs ≤ length (xs ++ ys)
+longer xs ys = let l = length-append xs ys in omega arith
+
+open-more : (ds : List Decision) (c n : ℕ) → length (openOf ds c n) ≤ length (openOf ds c (suc n))
+unfolding openOf
+open-more ds c n = longer (openOf ds c n) (cond (decides n 3 ds) (pairOf c n ∷ []) [])
+
+pub open-grows : (ds : List Decision) (c m n : ℕ) → m ≤ n → length (openOf ds c m) ≤ length (openOf ds c n)
+open-grows ds c = grows (λ n. length (openOf ds c n)) (open-more ds c)
+
+all-more : (cs : List Cut) (edges k : ℕ) → length (openAll cs edges k) ≤ length (openAll cs edges (suc k))
+unfolding openAll
+all-more cs edges k = longer (openAll cs edges k) _
+
+all-grows : (cs : List Cut) (edges m n : ℕ) → m ≤ n → length (openAll cs edges m) ≤ length (openAll cs edges n)
+all-grows cs edges = grows (λ k. length (openAll cs edges k)) (all-more cs edges)
+
+-- ---- one edge more, and one cut more, at the code's + 1
+
+pub open-yes : (ds : List Decision) (c e : ℕ) → decides e 3 ds ≡ true → openOf ds c (e + 1) ≡ openOf ds c e ++ (pairOf c e ∷ [])
+unfolding openOf
+open-yes ds c e h = ap (openOf ds c) (add-one e) ∙ ap (λ (b : Bool). openOf ds c e ++ cond b (pairOf c e ∷ []) []) h
+
+pub open-no : (ds : List Decision) (c e : ℕ) → decides e 3 ds ≡ false → openOf ds c (e + 1) ≡ openOf ds c e
+unfolding openOf
+open-no ds c e h = ap (openOf ds c) (add-one e) ∙ ap (λ (b : Bool). openOf ds c e ++ cond b (pairOf c e ∷ []) []) h ∙ append-nil (openOf ds c e)
+
+pub all-next : (cs : List Cut) (edges k : ℕ) (ds : List Decision) → ((d : Cut) → getD cs k d .decisions ≡ ds)
+    → openAll cs edges (k + 1) ≡ openAll cs edges k ++ openOf ds k edges
+unfolding openAll
+all-next cs edges k ds e = ap (openAll cs edges) (add-one k) ∙ ap (λ (x : List Decision). openAll cs edges k ++ openOf x k edges) (e _)
+
+pub open-all : (P : Plan) (k : ℕ) → openBelow P k ≡ openAll (P .cuts) (edgeCount P) k
+unfolding openBelow openAll cut
+open-all P zero = refl
+open-all P (suc k) = ap₂ _++_ (open-all P k) (open-is P k (edgeCount P))
+
+-- ---- the code's list has room for them
+
+opens-length : (u : Undecided) → length (opensOf u) ≡ u .count
+unfolding opensOf
+opens-length u = length-below (u .count) (openAt (u .cuts) (u .edges))
+
+-- as many as before, and those that came behind them
+pub opens-count : (a b : Undecided) (os : List Open) → opensOf b ≡ opensOf a ++ os → b .count ≡ a .count + length os
+opens-count a b os e = sym (opens-length b) ∙ ap length e ∙ length-append (opensOf a) os ∙ ap (λ (n : ℕ). n + length os) (opens-length a)
+
+pub opens-number : (u : Undecided) (os : List Open) → opensOf u ≡ os → u .count ≡ length os
+opens-number u os e = sym (opens-length u) ∙ ap length e
+
+pub room : (a b : Undecided) (ds : List Decision) (c e n : ℕ) → opensOf b ≡ opensOf a ++ openOf ds c e → decides e 3 ds ≡ true → e < n
+    → a .count + length (openOf ds c n) ≤ 16 → b .count < 16
+room a b ds c e n k h l r =
+    let x = opens-count a b (openOf ds c e) k in
+    let y = ap length (open-yes ds c e h) ∙ length-append (openOf ds c e) (pairOf c e ∷ []) in
+    let g = open-grows ds c (e + 1) n (omega arith) in
+    omega arith
+
+pub room-all : (cs : List Cut) (edges k n : ℕ) (u : Undecided) (os : List Open) → opensOf u ≡ openAll cs edges k
+    → openAll cs edges (k + 1) ≡ openAll cs edges k ++ os → k < n → length (openAll cs edges n) ≤ 16 → u .count + length os ≤ 16
+room-all cs edges k n u os e s h r =
+    let x = opens-number u (openAll cs edges k) e in
+    let y = ap length s ∙ length-append (openAll cs edges k) os in
+    let g = all-grows cs edges (k + 1) n (omega arith) in
+    omega arith
+
+pub all-few : (P : Plan) → Sound P → length (openAll (P .cuts) (edgeCount P) (cutCount P)) ≤ 16
+unfolding openDecisions
+all-few P sound = let e = ap length (open-all P (cutCount P)) in let f = open-few P in let d = sound .decisionLimit in omega arith
+
+-- ---- they name cuts and edges of the plan
+
+some-named : (k n c m : ℕ) (ds : List Decision) → c < k → m ≤ n → All (Named k n) (openOf ds c m)
+unfolding openOf
+some-named k n c zero ds h l = tt
+some-named k n c (suc m) ds h l = all-append (Named k n) (openOf ds c m) _ (some-named k n c m ds h (omega arith)) (pick (decides m 3 ds))
+  where
+    pick : (b : Bool) → All (Named k n) (cond b (pairOf c m ∷ []) [])
+    pick true = ((h, l), tt)
+    pick false = tt
+
+below-named : (cs : List Cut) (k n m : ℕ) → m ≤ k → All (Named k n) (openAll cs n m)
+unfolding openAll
+below-named cs k n zero l = tt
+below-named cs k n (suc m) l = all-append (Named k n) (openAll cs n m) _ (below-named cs k n m (omega arith)) (some-named k n m n _ l (le-refl n))
+
+pub all-named : (P : Plan) → All (Named (cutCount P) (edgeCount P)) (openDecisions P)
+unfolding openDecisions
+all-named P = subst (All (Named (cutCount P) (edgeCount P))) (sym (open-all P (cutCount P))) (below-named (P .cuts) (cutCount P) (edgeCount P) (cutCount P) (le-refl (cutCount P)))
+
+-- "for a decision, the cut's members and the edge's ends"
+pub open-touches : (P : Plan) → map (openTouch (P .cuts) (P .edges)) (openDecisions P) ≡ below (length (openDecisions P)) (decisionTouch P)
+unfolding decisionTouch openDecision openTouch cut pair edge endsOf
+open-touches P = sym (below-list (openTouch (P .cuts) (P .edges)) _ (openDecisions P))

@@ -1,0 +1,55 @@
+-- Laws of the list of a plan's rules, as it is put together. Assumes nothing.
+use Prim.Native.Nat.{ℕ, zero, suc, _+_}
+use mathlib.Core.Path.{_≡_, refl, sym, ap, ap₂, _∙_, subst₂}
+use mathlib.Core.List.{List, [], _∷_, _++_, map, append-assoc, append-nil}
+use native.Mathlib.Nat.{add-zero}
+use native.Mathlib.Omega.{arith}
+use lib.ListN.{length, getD, length-append}
+use Rattle.records.specs.Sets.{below, numbers}
+use Rattle.records.specs.Plan.{Plan}
+use Rattle.expressions.specs.Rules.{ruleSets, pair, span, edge, cut, attachment, bar}
+use Rattle.expressions.specs.declared.rules.Rules.{Rules}
+use Rattle.expressions.specs.Listed.{Added, usesOf, personsOf, endsOf, spanOf, cutHolds, barHolds}
+use Rattle.expressions.proofs.ListLaws.{map-append}
+
+pub added-none : (r : Rules) → Added r r [] []
+added-none r = record { count = sym (add-zero (r .count)); uses = sym (append-nil (usesOf r)); persons = sym (append-nil (personsOf r)) }
+
+pub added-then : {a b c : Rules} {us ps vs qs : List ℕ} → Added a b us ps → Added b c vs qs → Added a c (us ++ vs) (ps ++ qs)
+added-then {a} {b} {c} {us} {ps} {vs} {qs} h k =
+    let l = length-append us vs in
+    let x = h .count in
+    let y = k .count in
+    record {
+      count = omega arith;
+      uses = k .uses ∙ ap (λ (l : List ℕ). l ++ vs) (h .uses) ∙ append-assoc (usesOf a) us vs;
+      persons = k .persons ∙ ap (λ (l : List ℕ). l ++ qs) (h .persons) ∙ append-assoc (personsOf a) ps qs;
+    }
+
+-- a rule that stands for x, behind those that stand for xs
+pub added-next : {A : Type 0} (g h : A → ℕ) {a b c : Rules} (xs ys : List A) (x : A) {u p : ℕ} → Added a b (map g xs) (map h xs) → Added b c (u ∷ []) (p ∷ [])
+    → u ≡ g x → p ≡ h x → ys ≡ xs ++ (x ∷ []) → Added a c (map g ys) (map h ys)
+added-next g h {a} {b} {c} xs ys x {u} {p} before one e k s =
+    subst₂ (Added a c) (last g e) (last h k) (added-then before one)
+  where
+    last : (f : _ → ℕ) {v : ℕ} → v ≡ f x → map f xs ++ (v ∷ []) ≡ map f ys
+    last f e = ap (λ (v : ℕ). map f xs ++ (v ∷ [])) e ∙ sym (map-append f xs (x ∷ [])) ∙ ap (map f) (sym s)
+
+-- ---- rules by number, as a list of them
+
+shift : {A : Type 0} (f : ℕ → A) (n k : ℕ) → map f (numbers n (suc k)) ≡ map (λ (i : ℕ). f (suc i)) (numbers n k)
+unfolding numbers
+shift f zero k = refl
+shift f (suc n) k = ap (λ (l : List _). f (suc k) ∷ l) (shift f n (suc k))
+
+pub below-list : {A B : Type 0} (g : A → B) (d : A) (xs : List A) → below (length xs) (λ i. g (getD xs i d)) ≡ map g xs
+unfolding below numbers
+below-list g d [] = refl
+below-list g d (x ∷ xs) = ap (λ (l : List _). g x ∷ l) (shift (λ i. g (getD (x ∷ xs) i d)) (length xs) 0 ∙ below-list g d xs)
+
+-- "edges, cuts, attachments with anchor, and bars"
+pub rule-sets : (P : Plan) → ruleSets P ≡ map endsOf (P .edges) ++ (map cutHolds (P .cuts) ++ (map spanOf (P .attachments) ++ map barHolds (P .bars)))
+unfolding ruleSets pair edge cut attachment bar span endsOf spanOf
+rule-sets P =
+    ap₂ _++_ (below-list endsOf _ (P .edges))
+    (ap₂ _++_ (below-list cutHolds _ (P .cuts)) (ap₂ _++_ (below-list spanOf _ (P .attachments)) (below-list barHolds _ (P .bars))))

@@ -1,0 +1,59 @@
+-- Laws of unions over lists. Assumes nothing.
+use Prim.Native.Nat.{ℕ}
+use mathlib.Core.Path.{_≡_, refl, sym, ap, ap₂, _∙_}
+use mathlib.Core.Bool.{Bool, true, false, _||_}
+use mathlib.Core.List.{List, [], _∷_, _++_}
+use Rattle.records.specs.Sets.{has, one, union, only, setOf, unionOf}
+use Rattle.records.proofs.SetLaws.{ext, has-union, has-none}
+use Rattle.expressions.specs.Listed.{usersIn}
+
+or-assoc : (x y z : Bool) → ((x || y) || z) ≡ (x || (y || z))
+or-assoc true y z = refl
+or-assoc false y z = refl
+
+or-none : (x : Bool) → (x || false) ≡ x
+or-none true = refl
+or-none false = refl
+
+pub union-assoc : (a b c : ℕ) → union (union a b) c ≡ union a (union b c)
+union-assoc a b c =
+    ext (union (union a b) c) (union a (union b c)) (λ p.
+    has-union (union a b) c p ∙ ap (λ (x : Bool). x || has c p) (has-union a b p) ∙ or-assoc (has a p) (has b p) (has c p)
+    ∙ sym (has-union a (union b c) p ∙ ap (λ (x : Bool). has a p || x) (has-union b c p)))
+
+pub none-union : (a : ℕ) → union 0 a ≡ a
+none-union a = ext (union 0 a) a (λ p. has-union 0 a p ∙ ap (λ (x : Bool). x || has a p) (has-none p))
+
+pub union-none : (a : ℕ) → union a 0 ≡ a
+union-none a = ext (union a 0) a (λ p. has-union a 0 p ∙ ap (λ (x : Bool). has a p || x) (has-none p) ∙ or-none (has a p))
+
+pub union-agree : {A : Type 0} (f g : A → ℕ) → ((x : A) → f x ≡ g x) → (xs : List A) → unionOf f xs ≡ unionOf g xs
+unfolding unionOf
+union-agree f g same [] = refl
+union-agree f g same (x ∷ xs) = ap₂ union (same x) (union-agree f g same xs)
+
+pub union-append : {A : Type 0} (f : A → ℕ) (xs ys : List A) → unionOf f (xs ++ ys) ≡ union (unionOf f xs) (unionOf f ys)
+unfolding unionOf
+union-append f [] ys = sym (none-union (unionOf f ys))
+union-append f (x ∷ xs) ys = ap (union (f x)) (union-append f xs ys) ∙ sym (union-assoc (f x) (unionOf f xs) (unionOf f ys))
+
+-- what a loop has so far, with what is left
+pub union-go : {A : Type 0} (f : A → ℕ) (m : ℕ) (x : A) (rest : List A) → union (union m (f x)) (unionOf f rest) ≡ union m (unionOf f (x ∷ rest))
+unfolding unionOf
+union-go f m x rest = union-assoc m (f x) (unionOf f rest)
+
+pub set-union : (ps : List ℕ) → setOf ps ≡ unionOf one ps
+unfolding setOf unionOf
+set-union [] = refl
+set-union (p ∷ ps) = ap (union (one p)) (set-union ps)
+
+-- a set that comes in where the test holds
+pub joined-if : (m p : ℕ) (b : Bool) → b ≡ true → union m p ≡ union m (only b p)
+joined-if m p b e = ap (λ (x : Bool). union m (only x p)) (sym e)
+
+pub left-if : (m p : ℕ) (b : Bool) → b ≡ false → m ≡ union m (only b p)
+left-if m p b e = sym (union-none m) ∙ ap (λ (x : Bool). union m (only x p)) (sym e)
+
+pub users-go : (f m n u p : ℕ) (us ps : List ℕ) → n ≡ union m (only (has u f) p) → union n (usersIn f us ps) ≡ union m (usersIn f (u ∷ us) (p ∷ ps))
+unfolding usersIn
+users-go f m n u p us ps e = ap (λ (x : ℕ). union x (usersIn f us ps)) e ∙ union-assoc m (only (has u f) p) (usersIn f us ps)

@@ -1,0 +1,47 @@
+-- `circle::circle_of`: the closing of the person under the sets in use. Assumes nothing.
+use mathlib.Core.Path.{_≡_, sym, ap₂, _∙_}
+use native.Mathlib.Omega.{arith}
+use lib.ListN.{length, length-map}
+use lib.Seq.{length-take-le}
+use borrow.Author.Needs.{needs}
+use Rattle.records.specs.Sets.{closeOf}
+use Rattle.expressions.specs.Joined.{joinsOf}
+use Rattle.expressions.proofs.ListLaws.{used-take}
+use Rattle.expressions.proofs.circle.circle_of.Statement.{statement}
+use Rattle.expressions.proofs.circle.circle_of.Tie as tie
+
+long : (c : tie.Start) → length (c .args .joins .sets) ≡ 224
+long c = sym (length-map (c .args .joins .sets) (λ v. v)) ∙ c .good .0 .1 .1 .1 .0 .1 .0 .1
+
+upto-requires : tie.Need-upto-requires
+upto-requires c κs = search needs
+
+array-share-prefix-sets : tie.Need-array-share-prefix-sets
+array-share-prefix-sets c = omega (arith, long (c .before .before), c .upto .ensures .1)
+
+slice-aggregate-close : tie.Need-slice-aggregate-close
+slice-aggregate-close c = sym (length-take-le (c .before .upto .result) (c .before .before .before .args .joins .sets) (omega (arith, long (c .before .before .before), c .before .upto .ensures .1)))
+
+bit-requires : tie.Need-bit-requires
+bit-requires c κs = search needs
+
+close-requires : tie.Need-close-requires
+close-requires c κs = search needs
+
+returns : tie.Need-returns
+unfolding joinsOf
+returns c =
+    let s = c .before .before .before .before .before in
+    let u = c .before .before .before .upto in
+    c .close .ensures ∙ ap₂ closeOf (used-take (s .args .joins .sets) (s .args .joins .count) 224 (u .result) (long s) (u .ensures .0)) (c .before .bit .ensures)
+
+pub circle-of-spec : {M : Type 1} → statement M
+circle-of-spec =
+    tie.close
+    (tie.spec
+    upto-requires
+    array-share-prefix-sets
+    slice-aggregate-close
+    bit-requires
+    close-requires
+    returns)

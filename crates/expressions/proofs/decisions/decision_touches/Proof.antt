@@ -1,0 +1,34 @@
+-- `decisions::decision_touches`: the open decisions name cuts and edges of the plan. Assumes nothing.
+use mathlib.Core.Path.{sym, ap, _∙_, subst}
+use mathlib.Core.List.{map}
+use native.Mathlib.Omega.{arith}
+use Rattle.records.specs.Decoded.{planOf}
+use Rattle.records.specs.Sound.{All}
+use Rattle.expressions.specs.Rules.{cutCount, edgeCount}
+use Rattle.expressions.specs.Influence.{openDecisions}
+use Rattle.expressions.specs.Coded.{Holds, cutsOf, edgesOf}
+use Rattle.expressions.specs.Undecided.{Named, openTouch}
+use Rattle.expressions.proofs.FitLaws.{edges-fit}
+use Rattle.expressions.proofs.OpenLaws.{opens-number, open-few, all-named, open-touches}
+use Rattle.expressions.proofs.decisions.decision_touches.Statement.{statement}
+use Rattle.expressions.proofs.decisions.decision_touches.Tie as tie
+
+touches-over-requires : tie.Need-touches-over-requires
+unfolding cutsOf edgesOf planOf
+touches-over-requires c κs =
+    let s = c .before .before in
+    let P = planOf (s .args .plan) in (
+      omega (arith, opens-number (s .args .found) (openDecisions P) (s .pre .1), open-few P, s .pre .0 .decisionLimit),
+      subst (All (Named (cutCount P) (edgeCount P))) (sym (s .pre .1)) (all-named P),
+      edges-fit P (s .pre .0),
+    )
+
+returns : tie.Need-returns
+unfolding cutsOf edgesOf planOf
+returns c =
+    let s = c .before .before .before in
+    let P = planOf (s .args .plan) in
+    subst (Holds 0 (c .touches-over .result)) (ap (map (openTouch (P .cuts) (P .edges))) (s .pre .1) ∙ open-touches P) (c .touches-over .ensures)
+
+pub decision-touches-spec : {M : Type 1} → statement M
+decision-touches-spec = tie.close (tie.spec touches-over-requires returns)

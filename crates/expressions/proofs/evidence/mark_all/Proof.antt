@@ -1,0 +1,59 @@
+-- `expressions::evidence::mark_all` meets its contract: what is marked, with what is left of the list, gives the whole. Assumes nothing.
+use Prim.Native.Nat.{_≤_, _-_}
+use mathlib.Core.Path.{_≡_, refl, sym, ap, _∙_}
+use lib.ListN.{drop}
+use borrow.Author.Needs.{needs}
+use Rattle.expressions.proofs.EvidenceLaws.{gather-first, gather-end, evident-at, observations-next, observations-none}
+use Rattle.expressions.specs.Evident.{evidenceMark}
+use Rattle.records.specs.Decoded.{observationsOf}
+use Rattle.records.specs.Sets.{one, union, unionOf}
+use Rattle.expressions.proofs.evidence.mark_all.Statement.{statement}
+use Rattle.expressions.proofs.evidence.mark_all.Tie as tie
+
+abbrev Inv-loop : tie.InvT-loop
+Inv-loop m o all₀ n i₀ all i = (i ≤ n) × (union all (unionOf evidenceMark (drop i (observationsOf o))) ≡ union m (unionOf evidenceMark (observationsOf o)))
+
+abbrev μ-loop : tie.MeasureT-loop
+μ-loop m o all₀ n i₀ all i = n - i
+
+loop-holds : tie.Need-loop-holds Inv-loop μ-loop
+loop-holds c = (search needs, refl)
+
+entry-requires : tie.Need-entry-requires Inv-loop μ-loop
+entry-requires c κs = search needs
+
+mark-requires : tie.Need-mark-requires Inv-loop μ-loop
+mark-requires c κs =
+    let s = c .before .before .before .before in
+    rw (c .entry .ensures) (evident-at (s .args .o) (c .before .before .before .loop .i) (s .pre) (search needs))
+
+add-i : tie.Need-add-i Inv-loop μ-loop
+add-i c = search needs
+
+loop-less : tie.Need-loop-less Inv-loop μ-loop
+loop-less c = search needs
+
+loop-again : tie.Need-loop-again Inv-loop μ-loop
+loop-again c =
+    let l = c .before .before .before .before in
+    let next = observations-next (l .before .args .o) (l .loop .i) (search needs) in
+    (search needs, gather-first evidenceMark (l .loop .all) (c .mark .result) (one (c .before .entry .result)) _ _ _ next (c .mark .ensures) (ap one (c .before .entry .ensures)) ∙ l .loop .inv .1)
+
+returns : tie.Need-returns Inv-loop μ-loop
+returns c =
+    let l = c .before in
+    sym (gather-end evidenceMark (l .loop .all) _ (observations-none (l .before .args .o) (l .loop .i) (search needs))) ∙ l .loop .inv .1
+
+pub mark-all-spec : {M : Type 1} → statement M
+mark-all-spec =
+    tie.close
+    (tie.spec
+    Inv-loop
+    μ-loop
+    loop-holds
+    entry-requires
+    mark-requires
+    add-i
+    loop-less
+    loop-again
+    returns)

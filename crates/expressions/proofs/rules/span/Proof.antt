@@ -1,0 +1,22 @@
+-- `rules::span`: the members, and the anchor as a person. Assumes nothing.
+use mathlib.Core.Path.{ap, _∙_}
+use borrow.Author.Needs.{needs}
+use Rattle.records.specs.Sets.{union}
+use Rattle.records.specs.Decoded.{attachmentOf}
+use Rattle.expressions.specs.Listed.{spanOf}
+use Rattle.expressions.proofs.rules.span.Statement.{statement}
+use Rattle.expressions.proofs.rules.span.Tie as tie
+
+bit-requires : tie.Need-bit-requires
+unfolding attachmentOf
+bit-requires c κs = c .pre
+
+union-requires : tie.Need-union-requires
+union-requires c κs = search needs
+
+returns : tie.Need-returns
+unfolding attachmentOf spanOf
+returns c = c .union .ensures ∙ ap (union _) (c .before .bit .ensures)
+
+pub span-spec : {M : Type 1} → statement M
+span-spec = tie.close (tie.spec bit-requires union-requires returns)

@@ -1,0 +1,30 @@
+-- `touch::constraint_uses`: the constraints in use, as a list of numbers. Assumes nothing.
+use mathlib.Core.Path.{_≡_, sym, ap, _∙_}
+use lib.ListN.{length, length-map}
+use borrow.Author.Needs.{needs}
+use Rattle.records.specs.Sets.{unionOf}
+use Rattle.records.specs.Decoded.{numbersOf}
+use Rattle.expressions.specs.Listed.{usedAt}
+use Rattle.expressions.proofs.ListLaws.{used-take}
+use Rattle.expressions.proofs.touch.constraint_uses.Statement.{statement}
+use Rattle.expressions.proofs.touch.constraint_uses.Tie as tie
+
+upto-requires : tie.Need-upto-requires
+upto-requires c κs = search needs
+
+cast-t5 : tie.Need-cast-t5
+cast-t5 c = search needs
+
+used-by-requires : tie.Need-used-by-requires
+used-by-requires c κs = search needs
+
+returns : tie.Need-returns
+unfolding numbersOf
+returns c =
+    let s = c .before .before .before in
+    let xs = s .args .constraints .items in
+    let long : length xs ≡ 16 = sym (length-map xs (λ v. v)) ∙ s .good .0 .1 .1 .1 .0 .1 .0 .1 in
+    c .used-by .ensures ∙ ap (unionOf (usedAt (s .args .nodes .now))) (used-take xs (s .args .constraints .count) 16 (c .before .upto .result) long (c .before .upto .ensures .0))
+
+pub constraint-uses-spec : {M : Type 1} → statement M
+constraint-uses-spec = tie.close (tie.spec upto-requires cast-t5 used-by-requires returns)

@@ -1,0 +1,45 @@
+-- `touch::touched`: its three parts joined. Assumes nothing.
+use mathlib.Core.Path.{_≡_, sym, ap, ap₂, _∙_}
+use mathlib.Core.Bool.{Bool}
+use mathlib.Core.Logic.{⊎-elim}
+use borrow.Author.Needs.{needs}
+use Rattle.records.specs.Sets.{has, union, only}
+use Rattle.expressions.specs.Listed.{touchedBy}
+use Rattle.expressions.proofs.touch.touched.Statement.{statement}
+use Rattle.expressions.proofs.touch.touched.Tie as tie
+
+contains-requires : tie.Need-contains-requires
+contains-requires c κs = search needs
+
+named-requires : tie.Need-named-requires
+named-requires c κs = search needs
+
+users-requires : tie.Need-users-requires
+users-requires c κs = search needs
+
+union-requires : tie.Need-union-requires
+union-requires c κs = search needs
+
+union-requires-2 : tie.Need-union-requires-2
+union-requires-2 c κs = search needs
+
+returns : tie.Need-returns
+unfolding touchedBy
+returns c =
+    let s = c .before .before .before .before .before .before in
+    let j = c .before .before .before .before in
+    let found = sym (c .before .before .before .before .before .contains .ensures) in
+    let all : j .if1 .all ≡ only (has (s .args .constraints) (s .args .f)) (s .args .roster) =
+    ⊎-elim (λ w. w .1 ∙ sym (ap (λ (b : Bool). only b (s .args .roster)) (found ∙ w .0 .taken))) (λ w. w .1 ∙ sym (ap (λ (b : Bool). only b (s .args .roster)) (found ∙ w .0 .left))) (j .if1 .came) in
+    c .union2 .ensures ∙ ap₂ union (c .before .before .before .named .ensures) (c .before .union .ensures ∙ ap₂ union all (c .before .before .users .ensures))
+
+pub touched-spec : {M : Type 1} → statement M
+touched-spec =
+    tie.close
+    (tie.spec
+    contains-requires
+    named-requires
+    users-requires
+    union-requires
+    union-requires-2
+    returns)

@@ -1,0 +1,115 @@
+-- `touch::touches`: after i facts the array holds whom the first i touch. Assumes nothing.
+use Prim.Native.Nat.{ℕ, _+_, _≤_, _-_}
+use mathlib.Core.Path.{_≡_, refl, sym, ap, _∙_, subst}
+use mathlib.Core.Bool.{Bool}
+use mathlib.Core.Logic.{⊎-elim}
+use mathlib.Core.List.{[]}
+use native.Mathlib.Omega.{arith}
+use lib.ListN.{length, getD, length-map, length-set}
+use borrow.Author.Needs.{needs}
+use Rattle.records.proofs.plan.Fact.{the-type}
+use Rattle.records.specs.Sets.{has, only, below, numbers}
+use Rattle.records.specs.Plan.{Fact}
+use Rattle.records.specs.Decoded.{factOf}
+use Rattle.expressions.specs.Coded.{Holds, TupleFits, factsOf}
+use Rattle.expressions.specs.Listed.{usesOf, personsOf, touchedBy, touchBy, touchesBy}
+use Rattle.expressions.proofs.ListLaws.{made-length, made-at, made-each, holds-none, fill-next}
+use Rattle.expressions.proofs.touch.touches.Statement.{statement}
+use Rattle.expressions.proofs.touch.touches.Tie as tie
+
+abbrev Inv-loop : tie.InvT-loop
+Inv-loop rules constraints roster bound facts n out₀ i₀ out i =
+    (length out ≡ 64) × (i ≤ n) × Holds 0 out (below i (touchBy (usesOf rules) (personsOf rules) constraints roster bound (factsOf facts)))
+
+abbrev μ-loop : tie.MeasureT-loop
+μ-loop rules constraints roster bound facts n out₀ i₀ out i = n - i
+
+long : (c : tie.Start Inv-loop μ-loop) → length (c .args .t1 .items) ≡ 64
+long c = sym (length-map (c .args .t1 .items) (the-type .to)) ∙ c .good .0 .1 .1 .1 .0 .1 .0 .1
+
+upto-requires : tie.Need-upto-requires Inv-loop μ-loop
+upto-requires c κs = search needs
+
+loop-holds : tie.Need-loop-holds Inv-loop μ-loop
+unfolding below numbers
+loop-holds c = (refl, search needs, holds-none 64 0)
+
+mul-fact : tie.Need-mul-fact Inv-loop μ-loop
+mul-fact c = search needs
+
+element-copy-out-fact : tie.Need-element-copy-out-fact Inv-loop μ-loop
+element-copy-out-fact c = search needs
+
+cast-f : tie.Need-cast-f Inv-loop μ-loop
+cast-f c = search needs
+
+contains-requires : tie.Need-contains-requires Inv-loop μ-loop
+contains-requires c κs = search needs
+
+touched-requires : tie.Need-touched-requires Inv-loop μ-loop
+unfolding factsOf
+touched-requires c κs =
+    let l = c .before .before .before .before in
+    let a = l .before in
+    let s = a .before in
+    made-each factOf (s .args .t1 .items) (s .args .t1 .count) 64 (a .upto .result) (long s) (a .upto .ensures .0) TupleFits (l .loop .i) _ (search needs) (s .pre)
+
+mul-out : tie.Need-mul-out Inv-loop μ-loop
+mul-out c = search needs
+
+array-write-out : tie.Need-array-write-out Inv-loop μ-loop
+array-write-out c = search needs
+
+add-i : tie.Need-add-i Inv-loop μ-loop
+add-i c = search needs
+
+loop-less : tie.Need-loop-less Inv-loop μ-loop
+loop-less c = search needs
+
+loop-again : tie.Need-loop-again Inv-loop μ-loop
+unfolding factsOf touchBy
+loop-again c =
+    let l = c .before .before .before .before in
+    let a = l .before in
+    let s = a .before in
+    let g = s .args in
+    let i = l .loop .i in
+    let more : i + 1 ≤ a .upto .result = search needs in
+    let t : Fact → ℕ = touchedBy (usesOf (g .rules)) (personsOf (g .rules)) (g .constraints) (g .roster) i in
+    let found = sym (c .before .contains .ensures) in
+    let x = getD (factsOf (g .t1)) i (record { family = []; tuple = [] }) in
+    let same = made-at factOf (g .t1 .items) (g .t1 .count) 64 (a .upto .result) (long s) (a .upto .ensures .0) i _ (record { family = []; tuple = [] }) (omega arith) in
+    let new : c .if1 .t ≡ only (has (g .bound) i) (t x) =
+    ⊎-elim (λ w. w .2 ∙ w .1 .ensures ∙ ap t (sym same) ∙ sym (ap (λ (b : Bool). only b (t x)) (found ∙ w .0 .taken))) (λ w. w .1 ∙ sym (ap (λ (b : Bool). only b (t x)) (found ∙ w .0 .left))) (c .if1 .came) in
+    (simp length-set (l .loop .inv .0), more, fill-next 0 (touchBy (usesOf (g .rules)) (personsOf (g .rules)) (g .constraints) (g .roster) (g .bound) (factsOf (g .t1))) (l .loop .out) i (c .if1 .t) (omega arith) (l .loop .inv .2) new)
+
+returns : tie.Need-returns Inv-loop μ-loop
+unfolding factsOf touchesBy
+returns c =
+    let l = c .before in
+    let a = l .before in
+    let s = a .before in
+    let g = s .args in
+    let len = made-length factOf (g .t1 .items) (g .t1 .count) 64 (a .upto .result) (long s) (a .upto .ensures .0) in
+    let e : l .loop .i ≡ length (factsOf (g .t1)) = omega arith in
+    subst (λ (k : ℕ). Holds 0 (l .loop .out) (below k (touchBy (usesOf (g .rules)) (personsOf (g .rules)) (g .constraints) (g .roster) (g .bound) (factsOf (g .t1))))) e (l .loop .inv .2)
+
+pub touches-spec : {M : Type 1} → statement M
+touches-spec =
+    tie.close
+    (tie.spec
+    Inv-loop
+    μ-loop
+    upto-requires
+    loop-holds
+    mul-fact
+    element-copy-out-fact
+    cast-f
+    contains-requires
+    touched-requires
+    mul-out
+    array-write-out
+    add-i
+    loop-less
+    loop-again
+    returns)

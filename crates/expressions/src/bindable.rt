@@ -1,0 +1,118 @@
+// Refusals 5 and 10 of a case: a family twice; explicit unknown beside observations, a fact twice. Each names the later record.
+use crate::counts::upto;
+use records::case::Boolean;
+use records::case::Booleans;
+use records::case::Case;
+use records::case::Families;
+use records::checked::Checked;
+ghost use mathlib.Core.Path.{_≡_};
+ghost use mathlib.Core.Bool.{_||_, not};
+ghost use mathlib.Core.List.{List, [], map};
+ghost use Prim.Native.Nat.{ℕ, _<_};
+ghost use lib.Dec.{eqb};
+ghost use lib.ListN.{length, take};
+ghost use Rattle.records.specs.Sets.{anyOf};
+ghost use Rattle.records.specs.Fields.{fine, firstFault};
+ghost use Rattle.records.specs.Decoded.{caseOf, familyOf, booleanOf, observationsOf};
+ghost use Rattle.records.specs.Check.{checkedOf};
+ghost use Rattle.expressions.specs.Bindings.{familyFaults, booleanFaults, bindable as bindableCase};
+
+// Whether a family record before record i has the number.
+fn family_before(families: Families, i: usize, number: u8) -> bool
+    ensures { λ r. ⌜ r ≡ anyOf (λ e. eqb (e .number) number) (map familyOf (take i (families .items))) ⌝ }
+{
+    let n = upto(i, 16);
+    let mut j: usize = 0;
+    while j < n {
+        let m = families.items[j];
+        if m.number == number {
+            return true;
+        }
+        j = j + 1;
+    }
+    false
+}
+
+// Whether a boolean record before record i is of the fact.
+fn fact_before(booleans: Booleans, i: usize, fact: u8) -> bool
+    ensures { λ r. ⌜ r ≡ anyOf (λ e. eqb (e .fact) fact) (map booleanOf (take i (booleans .items))) ⌝ }
+{
+    let n = upto(i, 64);
+    let mut j: usize = 0;
+    while j < n {
+        let b = booleans.items[j];
+        if b.fact == fact {
+            return true;
+        }
+        j = j + 1;
+    }
+    false
+}
+
+// `first`: the number of the first family record.
+fn family_faults(families: Families, first: usize) -> Checked
+    requires { ⌜ first < 2 ⌝ }
+    ensures { λ r. ⌜ r ≡ checkedOf {A = ℕ} (firstFault first (familyFaults [] (map familyOf (take (families .count) (families .items)))) (fine 0)) ⌝ }
+{
+    let n = upto(families.count, 16);
+    let mut i: usize = 0;
+    while i < n {
+        let m = families.items[i];
+        if family_before(families, i, m.number) {
+            return Checked::Refused {
+                number: 5,
+                record: first + i,
+            };
+        }
+        i = i + 1;
+    }
+    Checked::Accepted
+}
+
+// Whether explicit unknown stands beside observations.
+fn clashes(b: Boolean) -> bool
+    ensures { λ r. ⌜ r ≡ not (eqb (length (booleanOf b .unknown)) 0 || eqb (length (booleanOf b .observations)) 0) ⌝ }
+{
+    let o = b.observations;
+    if b.unknown { o.count != 0 } else { false }
+}
+
+// `first`: the number of the first boolean record.
+fn boolean_faults(booleans: Booleans, first: usize) -> Checked
+    requires { ⌜ first < 64 ⌝ }
+    ensures { λ r. ⌜ r ≡ checkedOf {A = ℕ} (firstFault first (booleanFaults [] (map booleanOf (take (booleans .count) (booleans .items)))) (fine 0)) ⌝ }
+{
+    let n = upto(booleans.count, 64);
+    let mut i: usize = 0;
+    while i < n {
+        let b = booleans.items[i];
+        if clashes(b) {
+            return Checked::Refused {
+                number: 10,
+                record: first + i,
+            };
+        }
+        if fact_before(booleans, i, b.fact) {
+            return Checked::Refused {
+                number: 5,
+                record: first + i,
+            };
+        }
+        i = i + 1;
+    }
+    Checked::Accepted
+}
+
+pub fn bindable(case: Case) -> Checked
+    ensures { λ r. ⌜ r ≡ checkedOf (bindableCase (caseOf case)) ⌝ }
+{
+    let families = case.families;
+    let booleans = case.booleans;
+    let first = upto(case.headings, 1);
+    let before = first + upto(families.count, 16);
+    let twice = family_faults(families, first);
+    let Checked::Accepted = twice else {
+        return twice;
+    };
+    boolean_faults(booleans, before)
+}

@@ -1,0 +1,149 @@
+// The unresolved decisions of a plan, by cut and edge.
+use crate::counts::upto;
+use crate::counts::wide;
+use crate::rules::ends;
+use records::plan::Cuts;
+use records::plan::Decisions;
+use records::plan::Edges;
+use records::plan::Plan;
+use records::sets::union;
+ghost use mathlib.Core.Path.{_≡_};
+ghost use mathlib.Core.List.{[], _∷_, _++_, map};
+ghost use Prim.Native.Nat.{_+_, _<_, _≤_};
+ghost use lib.ListN.{length};
+ghost use Rattle.records.specs.Sets.{below};
+ghost use Rattle.records.specs.Decoded.{decisionsOf, planOf};
+ghost use Rattle.records.specs.Sound.{All, Sound};
+ghost use Rattle.expressions.specs.Coded.{Holds, EndsFit, cutsOf, edgesOf};
+ghost use Rattle.expressions.specs.Influence.{openDecisions, decisionCount, decisionTouch};
+ghost use Rattle.expressions.specs.Undecided.{decides, opensOf, openOf, openAll, pairOf, Named, openTouch};
+
+pub struct Undecided {
+    pub count: usize,
+    pub cuts: [u8; 16],
+    pub edges: [u8; 16],
+}
+
+// Whether this verdict (1 blocked, 2 overrides, 3 unresolved) is given on the edge.
+pub fn says(decisions: Decisions, edge: u8, verdict: u8) -> bool
+    requires { ⌜ 0 < verdict ⌝ }
+    ensures { λ r. ⌜ r ≡ decides edge verdict (decisionsOf decisions) ⌝ }
+{
+    let n = upto(wide(decisions.count), 64);
+    let mut i: usize = 0;
+    while i < n {
+        let e = decisions.edges[i];
+        let v = decisions.verdicts[i];
+        if e == edge {
+            if v == verdict {
+                return true;
+            }
+        }
+        i = i + 1;
+    }
+    false
+}
+
+fn put(mut found: Undecided, cut: u8, edge: u8) -> Undecided
+    requires { ⌜ found .count < 16 ⌝ }
+    ensures { λ r. ⌜ opensOf r ≡ opensOf found ++ (pairOf cut edge ∷ []) ⌝ }
+{
+    let i = found.count;
+    found.cuts[i] = cut;
+    found.edges[i] = edge;
+    found.count = i + 1;
+    found
+}
+
+// The unresolved decisions of the cut c, on edges below the count.
+fn open_in(found: Undecided, decisions: Decisions, c: u8, edges: usize) -> Undecided
+    requires { ⌜ (edges ≤ 64) × (found .count + length (openOf (decisionsOf decisions) c edges) ≤ 16) ⌝ }
+    ensures { λ r. ⌜ opensOf r ≡ opensOf found ++ openOf (decisionsOf decisions) c edges ⌝ }
+{
+    let mut out = found;
+    let mut e: usize = 0;
+    while e < edges {
+        let k = e as u8;
+        if says(decisions, k, 3) {
+            out = put(out, c, k);
+        }
+        e = e + 1;
+    }
+    out
+}
+
+fn open_over(cuts: Cuts, edges: usize) -> Undecided
+    requires { ⌜ (edges ≤ 64) × (length (openAll (cutsOf cuts) edges (length (cutsOf cuts))) ≤ 16) ⌝ }
+    ensures { λ r. ⌜ opensOf r ≡ openAll (cutsOf cuts) edges (length (cutsOf cuts)) ⌝ }
+{
+    let n = upto(cuts.count, 16);
+    let mut out = Undecided {
+        count: 0,
+        cuts: [0; 16],
+        edges: [0; 16],
+    };
+    let mut i: usize = 0;
+    while i < n {
+        let cut = cuts.items[i];
+        let decisions = cut.decisions;
+        let c = i as u8;
+        out = open_in(out, decisions, c, edges);
+        i = i + 1;
+    }
+    out
+}
+
+fn edge_count(edges: Edges) -> usize
+    ensures { λ r. ⌜ (r ≡ length (edgesOf edges)) × (r ≤ 64) ⌝ }
+{
+    upto(edges.count, 64)
+}
+
+// All unresolved decisions, by cut and edge.
+pub fn open_decisions(plan: Plan) -> Undecided
+    requires { ⌜ Sound (planOf plan) ⌝ }
+    ensures { λ r. ⌜ opensOf r ≡ openDecisions (planOf plan) ⌝ }
+{
+    let edges = plan.edges;
+    let cuts = plan.cuts;
+    open_over(cuts, edge_count(edges))
+}
+
+// Whom a decision touches: the cut's members and the edge's ends.
+fn open_touch(cuts: Cuts, edges: Edges, c: u8, e: u8) -> u64
+    requires { ⌜ Named (length (cutsOf cuts)) (length (edgesOf edges)) (pairOf c e) × All EndsFit (edgesOf edges) ⌝ }
+    ensures { λ r. ⌜ r ≡ openTouch (cutsOf cuts) (edgesOf edges) (pairOf c e) ⌝ }
+{
+    let i = wide(c);
+    let cut = cuts.items[i];
+    let k = wide(e);
+    let edge = edges.items[k];
+    union(cut.members, ends(edge))
+}
+
+fn touches_over(cuts: Cuts, edges: Edges, found: Undecided) -> [u64; 16]
+    requires { ⌜ (found .count ≤ 16) × All (Named (length (cutsOf cuts)) (length (edgesOf edges))) (opensOf found) × All EndsFit (edgesOf edges) ⌝ }
+    ensures { λ r. ⌜ Holds 0 r (map (openTouch (cutsOf cuts) (edgesOf edges)) (opensOf found)) ⌝ }
+{
+    let n = upto(found.count, 16);
+    let mut out = [0u64; 16];
+    let mut i: usize = 0;
+    while i < n {
+        let c = found.cuts[i];
+        let e = found.edges[i];
+        let t = open_touch(cuts, edges, c, e);
+        out[i] = t;
+        i = i + 1;
+    }
+    out
+}
+
+// Whom each unresolved decision touches.
+pub fn decision_touches(plan: Plan, found: Undecided) -> [u64; 16]
+    requires { ⌜ Sound (planOf plan) × (opensOf found ≡ openDecisions (planOf plan)) ⌝ }
+    ensures { λ r. ⌜ Holds 0 r (below (decisionCount (planOf plan)) (decisionTouch (planOf plan))) ⌝ }
+{
+    let cuts = plan.cuts;
+    let edges = plan.edges;
+    touches_over(cuts, edges, found)
+}

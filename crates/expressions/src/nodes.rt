@@ -1,0 +1,76 @@
+// Conditions in a table of nodes, each valued once; the facts that each uses.
+use crate::counts::upto;
+use crate::counts::wide;
+use records::plan::Node;
+use records::plan::Nodes;
+use records::plan::Numbers;
+use records::sets::contains;
+ghost use mathlib.Core.Path.{_≡_};
+ghost use Rattle.records.specs.Sets.{allOf, anyOf};
+ghost use Rattle.records.specs.Decoded.{numbersOf, nodeOf};
+ghost use mathlib.Core.Bool.{false};
+ghost use mathlib.Core.List.{[]};
+ghost use Rattle.expressions.specs.Nodes.{on, value as valueOf, valuesFrom};
+ghost use Rattle.expressions.specs.Coded.{Holds, nodesOf};
+
+fn all_hold(children: Numbers, lower: &[bool; 256]) -> bool
+    ensures { λ r. ⌜ r ≡ allOf (on (now (lower .entry))) (numbersOf children) ⌝ }
+{
+    let n = upto(wide(children.count), 16);
+    let mut i: usize = 0;
+    while i < n {
+        let k = wide(children.items[i]);
+        if !lower[k] {
+            return false;
+        }
+        i = i + 1;
+    }
+    true
+}
+
+fn any_holds(children: Numbers, lower: &[bool; 256]) -> bool
+    ensures { λ r. ⌜ r ≡ anyOf (on (now (lower .entry))) (numbersOf children) ⌝ }
+{
+    let n = upto(wide(children.count), 16);
+    let mut i: usize = 0;
+    while i < n {
+        let k = wide(children.items[i]);
+        if lower[k] {
+            return true;
+        }
+        i = i + 1;
+    }
+    false
+}
+
+// A node's value from the values of the nodes below it.
+pub fn value(node: Node, facts: u64, lower: &[bool; 256]) -> bool
+    ensures { λ r. ⌜ r ≡ valueOf facts (now (lower .entry)) (nodeOf node) ⌝ }
+{
+    let sort = node.sort;
+    let number = node.number;
+    let children = node.children;
+    match sort {
+        0 => number == 1,
+        1 => contains(facts, number),
+        2 => all_hold(children, lower),
+        3 => any_holds(children, lower),
+        _ => !lower[wide(number)],
+    }
+}
+
+// Every node's value, lower numbers first.
+pub fn values(nodes: Nodes, facts: u64) -> [bool; 256]
+    ensures { λ r. ⌜ Holds false r (valuesFrom facts (nodesOf nodes) []) ⌝ }
+{
+    let n = upto(nodes.count, 256);
+    let mut out = [false; 256];
+    let mut i: usize = 0;
+    while i < n {
+        let node = nodes.items[i];
+        let v = value(node, facts, &out);
+        out[i] = v;
+        i = i + 1;
+    }
+    out
+}

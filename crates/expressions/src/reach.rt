@@ -1,0 +1,66 @@
+// What is made once for a case: the sets that a closing goes by, the bound facts, whom each fact touches, and the unresolved decisions with
+// whom they touch.
+use crate::counts::upto;
+use crate::decisions::Undecided;
+use crate::decisions::decision_touches;
+use crate::decisions::open_decisions;
+use crate::groups::Groups;
+use crate::groups::groups_of;
+use crate::rules::all_rules;
+use crate::rules::joining;
+use crate::touch::bound_facts;
+use crate::touch::constraint_uses;
+use crate::touch::touches;
+use crate::uses::node_uses;
+use records::case::Constraints;
+use records::plan::Facts;
+use records::plan::Plan;
+ghost use mathlib.Core.Path.{_≡_};
+ghost use Prim.Native.Nat.{_≤_};
+ghost use lib.ListN.{length};
+ghost use Rattle.records.specs.Sound.{Sound};
+ghost use Rattle.records.specs.Decoded.{planOf};
+ghost use Rattle.expressions.specs.Coded.{factsOf, frameBy};
+ghost use Rattle.expressions.specs.Reached.{Reached};
+
+// `count`: how many facts there are
+pub struct Reach {
+    pub groups: Groups,
+    pub bound: u64,
+    pub count: usize,
+    pub facts: [u64; 64],
+    pub undecided: Undecided,
+    pub decisions: [u64; 16],
+}
+
+fn fact_count(facts: Facts) -> usize
+    ensures { λ r. ⌜ (r ≡ length (factsOf facts)) × (r ≤ 64) ⌝ }
+{
+    upto(facts.count, 64)
+}
+
+pub fn reach_of(plan: Plan, roster: u64, constraints: Constraints) -> Reach
+    requires { ⌜ Sound (planOf plan) ⌝ }
+    ensures { λ r. ⌜ Reached (frameBy plan roster constraints) r ⌝ }
+{
+    let table = plan.nodes;
+    let nodes = node_uses(table);
+    let joined = joining(plan, &nodes);
+    let rules = all_rules(plan, joined, &nodes);
+    let used = constraint_uses(constraints, &nodes);
+    let bound = bound_facts(rules, used);
+    let known = plan.facts;
+    let count = fact_count(known);
+    let facts = touches(known, rules, used, roster, bound);
+    let groups = groups_of(joined);
+    let undecided = open_decisions(plan);
+    let decisions = decision_touches(plan, undecided);
+    Reach {
+        groups: groups,
+        bound: bound,
+        count: count,
+        facts: facts,
+        undecided: undecided,
+        decisions: decisions,
+    }
+}
