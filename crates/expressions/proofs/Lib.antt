@@ -10,3 +10,4 @@ pub mod DecisionLaws
 pub mod OpenLaws
 pub mod ReachLaws
 pub mod GroupLaws
+pub mod MaskLaws
