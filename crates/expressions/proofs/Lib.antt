@@ -21,3 +21,4 @@ pub mod FamilyLaws
 pub mod FactLaws
 pub mod CountLaws
 pub mod FaultLaws
+pub mod MaskLaws

@@ -2,12 +2,15 @@
 use crate::groups::Groups;
 use crate::groups::closing;
 use crate::reach::Reach;
+use records::sets::bit;
 use records::sets::contains;
+use records::sets::union;
 ghost use mathlib.Core.Path.{_≡_};
 ghost use mathlib.Core.List.{[], _∷_, _++_};
-ghost use Prim.Native.Nat.{_+_, _<_, _≤_};
-ghost use lib.ListN.{take};
-ghost use Rattle.records.specs.Sets.{below};
+ghost use Prim.Native.Nat.{ℕ, _+_, _<_, _≤_};
+ghost use lib.Dec.{leb};
+ghost use lib.ListN.{getD, take};
+ghost use Rattle.records.specs.Sets.{has, below};
 ghost use Rattle.expressions.specs.Influences.{setsOf, closedIf, closed, influenceBy};
 
 // The sets of the facts, then those of the unresolved decisions.
@@ -74,4 +77,19 @@ pub fn influence_of(reach: Reach, variables: u64) -> Influence
     let decisions = reach.decisions;
     let first = fact_sets(groups, facts, reach.count, variables);
     decision_sets(first, groups, decisions, undecided.count)
+}
+
+// The variables among the facts, where a binding's number from 3 on is unknown or a conflict.
+pub fn variables_of(bindings: [u8; 64]) -> u64
+    ensures { λ r. ⌜ ((f : ℕ) → f < 64 → has r f ≡ leb 3 (getD bindings f 0)) ⌝ }
+{
+    let mut m: u64 = 0;
+    let mut i: usize = 0;
+    while i < 64 {
+        if bindings[i] >= 3 {
+            m = union(m, bit(i as u8));
+        }
+        i = i + 1;
+    }
+    m
 }

@@ -1,0 +1,53 @@
+-- A mask built by a test of each number. Assumes nothing.
+use Prim.Native.Nat.{ℕ, zero, suc, _+_, _≤_, _<_}
+use mathlib.Core.Path.{_≡_, refl, sym, ap, ap₂, _∙_}
+use mathlib.Core.Bool.{Bool, true, false, _||_}
+use mathlib.Core.Logic.{_⊎_, ⊎-elim}
+use native.Mathlib.Nat.{not-suc-le-zero, le-of-suc-le-suc, eq-or-lt-of-le}
+use native.Mathlib.Numerals.{add-one}
+use native.Mathlib.Omega.{arith}
+use borrow.Author.Tests.{eq-eqb, ne-eqb}
+use Rattle.records.specs.Sets.{has, one, union, only, unionBelow}
+use Rattle.records.proofs.SetLaws.{has-union, has-none, has-one}
+
+or-none : (x : Bool) → (x || false) ≡ x
+or-none true = refl
+or-none false = refl
+
+module _ (b : ℕ → Bool) where
+  abbrev pub built : ℕ → ℕ
+  built n = unionBelow n (λ f. only (b f) (one f))
+
+  pub built-next : (n : ℕ) → built (n + 1) ≡ union (built n) (only (b n) (one n))
+  unfolding unionBelow
+  built-next n = ap (λ (k : ℕ). built k) (add-one n)
+
+  -- a person other than the one tested
+  other : (n p : ℕ) → (n ≡ p → ⊥) → has (only (b n) (one n)) p ≡ false
+  other n p h = pick (b n)
+    where
+      pick : (x : Bool) → has (only x (one n)) p ≡ false
+      pick true = has-one n p ∙ ne-eqb n p h
+      pick false = has-none p
+
+  itself : (n : ℕ) → has (only (b n) (one n)) n ≡ b n
+  itself n = pick (b n)
+    where
+      pick : (x : Bool) → has (only x (one n)) n ≡ x
+      pick true = has-one n n ∙ eq-eqb n n refl
+      pick false = has-none n
+
+  past : (n p : ℕ) → n ≤ p → has (built n) p ≡ false
+  unfolding unionBelow
+  past zero p h = has-none p
+  past (suc n) p h =
+      has-union (built n) (only (b n) (one n)) p ∙ ap₂ _||_ (past n p (omega arith)) (other n p (λ e. absurd (omega arith)))
+
+  pub has-built : (n p : ℕ) → p < n → has (built n) p ≡ b p
+  unfolding unionBelow
+  has-built zero p h = absurd (not-suc-le-zero h)
+  has-built (suc n) p h =
+      has-union (built n) (only (b n) (one n)) p
+      ∙ ⊎-elim (λ e. ap (λ (q : ℕ). has (built n) q || has (only (b n) (one n)) q) e ∙ ap₂ _||_ (past n n (omega arith)) (itself n) ∙ ap b (sym e))
+      (λ l. ap₂ _||_ (has-built n p l) (other n p (λ e. absurd (omega arith))) ∙ or-none (b p))
+      (eq-or-lt-of-le (le-of-suc-le-suc h))
