@@ -22,3 +22,4 @@ pub mod FactLaws
 pub mod CountLaws
 pub mod FaultLaws
 pub mod MaskLaws
+pub mod SlotLaws

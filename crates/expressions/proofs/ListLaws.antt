@@ -134,7 +134,7 @@ holds-next d out done i v e l h =
 
 -- ---- f 0 … f (n − 1), one more at the end
 
-numbers-last : (n k : ℕ) → numbers (suc n) k ≡ numbers n k ++ ((k + n) ∷ [])
+pub numbers-last : (n k : ℕ) → numbers (suc n) k ≡ numbers n k ++ ((k + n) ∷ [])
 unfolding numbers
 numbers-last zero k = ap (λ (x : ℕ). x ∷ []) (sym (add-zero k))
 numbers-last (suc n) k =

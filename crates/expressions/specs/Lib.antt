@@ -13,3 +13,4 @@ pub mod Evident
 pub mod Codes
 pub mod Variables
 pub mod Counted
+pub mod Slots

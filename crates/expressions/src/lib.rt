@@ -12,6 +12,7 @@ pub mod nodes;
 pub mod observations;
 pub mod reach;
 pub mod rules;
+pub mod slots;
 pub mod touch;
 pub mod uses;
 pub mod variables;
