@@ -1,0 +1,95 @@
+-- From what was read to the definitions: a plan or case that was read is the accepted one, and binds as the codes say. Assumes nothing.
+use mathlib.Core.Path.{_≡_, refl, sym, ap, _∙_, subst}
+use mathlib.Core.Bool.{Bool, true, false, cond}
+use mathlib.Core.List.{List}
+use Prim.Native.Nat.{ℕ, _≤_, _<_}
+use native.Mathlib.Nat.{le-trans}
+use native.Mathlib.Omega.{arith}
+use lib.ListN.{length, getD}
+use lib.Dec.{eqb}
+use borrow.Author.Tests.{eq-eqb, ne-eqb}
+use Rattle.records.specs.Fields.{Verdict, fine, refused}
+use Rattle.records.specs.Plan.{Plan, checkedPlan}
+use Rattle.records.specs.Case.{Case, readCase}
+use Rattle.records.specs.Decoded.{planOf, caseOf}
+use Rattle.records.specs.PlanRead.{planReadOf}
+use Rattle.records.specs.CaseSteps.{caseReadOf}
+use Rattle.records.specs.Sound.{Sound, SoundCase}
+use Rattle.records.specs.declared.plan.Plan.{Plan as Coded}
+use Rattle.records.specs.declared.case.Case.{Case as CodedCase}
+use Rattle.records.specs.declared.read_plan.PlanRead.{PlanRead}
+use Rattle.records.specs.declared.read_case.CaseRead.{CaseRead}
+use Rattle.records.proofs.Accepted.{accepted}
+use Rattle.records.proofs.AcceptedCase.{accepted-case}
+use Rattle.records.proofs.LoopLaws.{getD-past}
+use Rattle.expressions.specs.Rules.{factCount}
+use Rattle.expressions.specs.Influence.{boundFacts}
+use Rattle.expressions.specs.Bindings.{Bound, unbound, bindingOf, bindings, bindingsBy, bindingAt, frameOf}
+use Rattle.expressions.specs.Coded.{frameBy}
+use Rattle.expressions.proofs.FactLaws.{bindings-by}
+use Rattle.expressions.proofs.ReachLaws.{frame-of}
+use Rattle.records.specs.Check.{checkedOf}
+use Rattle.records.specs.declared.checked.Checked.{Checked}
+use Rattle.records.specs.declared.checked.Checked.the-variants.{Accepted, Refused}
+use Rattle.exports.specs.Entries.{numberOf, recordOf, boundIn, boundBy, bound}
+
+-- ---- the plan
+
+read-plan : (s : List ℕ) (r : PlanRead) → planReadOf r ≡ checkedPlan s → r .number ≡ 0 → checkedPlan s ≡ fine (planOf (r .plan))
+unfolding planReadOf
+read-plan s r e z = sym e ∙ ap (λ (b : Bool). cond b (fine (planOf (r .plan))) (refused (r .number) (r .«record»))) (eq-eqb (r .number) 0 z)
+
+pub plan-sound : (s : List ℕ) (r : PlanRead) → planReadOf r ≡ checkedPlan s → r .number ≡ 0 → Sound (planOf (r .plan))
+plan-sound s r e z = accepted s (planOf (r .plan)) (read-plan s r e z)
+
+pub plan-refused : (s t : List ℕ) (f : ℕ) (r : PlanRead) → planReadOf r ≡ checkedPlan s → (r .number ≡ 0 → ⊥) → unbound ≡ bound s t f
+unfolding bound planReadOf
+plan-refused s t f r e n =
+    ap (boundBy t f) (sym (ap (λ (b : Bool). cond b (fine (planOf (r .plan))) (refused (r .number) (r .«record»))) (ne-eqb (r .number) 0 n)) ∙ e)
+
+-- ---- the case over it
+
+module _ (s t : List ℕ) (r : PlanRead) (e : planReadOf r ≡ checkedPlan s) (z : r .number ≡ 0) (q : CaseRead) (k : caseReadOf q ≡ readCase (planOf (r .plan)) t) where
+  abbrev P : Plan
+  P = planOf (r .plan)
+
+  bound-in : (f : ℕ) → boundIn P f (readCase P t) ≡ bound s t f
+  unfolding bound
+  bound-in f = ap (boundBy t f) (sym (read-plan s r e z))
+
+  pub case-refused : (f : ℕ) → (q .number ≡ 0 → ⊥) → unbound ≡ bound s t f
+  unfolding caseReadOf
+  case-refused f n =
+      ap (boundIn P f) (sym (ap (λ (b : Bool). cond b (fine (caseOf (q .case))) (refused (q .number) (q .«record»))) (ne-eqb (q .number) 0 n)) ∙ k) ∙ bound-in f
+
+  module _ (y : q .number ≡ 0) where
+    read-case′ : readCase P t ≡ fine (caseOf (q .case))
+    unfolding caseReadOf
+    read-case′ = sym k ∙ ap (λ (b : Bool). cond b (fine (caseOf (q .case))) (refused (q .number) (q .«record»))) (eq-eqb (q .number) 0 y)
+
+    binds : (f : ℕ) → bindingAt (bindings P (caseOf (q .case))) f ≡ bound s t f
+    binds f = ap (boundIn P f) (sym read-case′) ∙ bound-in f
+
+    pub bound-code : (set f : ℕ) → set ≡ boundFacts (frameBy (r .plan) (q .case .heading .roster) (q .case .constraints))
+        → bindingAt (bindingsBy P (caseOf (q .case)) set) f ≡ bound s t f
+    bound-code set f h =
+        ap (λ (m : ℕ). bindingAt (bindingsBy P (caseOf (q .case)) m) f)
+        (h ∙ ap boundFacts (frame-of (r .plan) (q .case) (accepted-case P t (caseOf (q .case)) read-case′ .heading)))
+        ∙ ap (λ (bs : List Bound). bindingAt bs f) (bindings-by P (caseOf (q .case))) ∙ binds f
+
+    pub bound-past : (f : ℕ) → 64 ≤ f → unbound ≡ bound s t f
+    unfolding bindings
+    bound-past f h =
+        sym (getD-past (factCount P) (bindingOf P (caseOf (q .case))) unbound f (le-trans (plan-sound s r e z .factLimit) h)) ∙ binds f
+
+-- ---- the answer of a check
+
+pub told-accepted : (v : Verdict Plan) → checkedOf v ≡ Accepted → (0 ≡ numberOf v) × (0 ≡ recordOf v)
+unfolding checkedOf
+told-accepted (fine P′) e = (refl, refl)
+told-accepted (refused n k) e = let z : _≡_ {A = ℕ} 0 1 = cc in absurd (omega arith)
+
+pub told-refused : (v : Verdict Plan) (n k : ℕ) → checkedOf v ≡ Refused n k → (n ≡ numberOf v) × (k ≡ recordOf v)
+unfolding checkedOf
+told-refused (fine P′) n k e = let z : _≡_ {A = ℕ} 0 1 = cc in absurd (omega arith)
+told-refused (refused m j) n k e = (cc, cc)
