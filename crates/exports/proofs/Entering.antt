@@ -1,12 +1,13 @@
 -- From what was read to the definitions: a plan or case that was read is the accepted one, and binds as the codes say. Assumes nothing.
 use mathlib.Core.Path.{_≡_, refl, sym, ap, _∙_, subst}
 use mathlib.Core.Bool.{Bool, true, false, cond}
-use mathlib.Core.List.{List}
-use Prim.Native.Nat.{ℕ, _≤_, _<_}
+use mathlib.Core.List.{List, []}
+use Prim.Native.Nat.{ℕ, zero, suc, _≤_, _<_}
 use native.Mathlib.Nat.{le-trans}
 use native.Mathlib.Omega.{arith}
-use lib.ListN.{length, getD}
-use lib.Dec.{eqb}
+use lib.ListN.{length, getD, take, replicate, length-take, List·getD-eq-default}
+use lib.Seq.{getD-take}
+use lib.Dec.{eqb, leb}
 use borrow.Author.Tests.{eq-eqb, ne-eqb}
 use Rattle.records.specs.Fields.{Verdict, fine, refused}
 use Rattle.records.specs.Plan.{Plan, checkedPlan}
@@ -21,17 +22,23 @@ use Rattle.records.specs.declared.read_plan.PlanRead.{PlanRead}
 use Rattle.records.specs.declared.read_case.CaseRead.{CaseRead}
 use Rattle.records.proofs.Accepted.{accepted}
 use Rattle.records.proofs.AcceptedCase.{accepted-case}
-use Rattle.records.proofs.LoopLaws.{getD-past}
-use Rattle.expressions.specs.Rules.{factCount}
-use Rattle.expressions.specs.Influence.{boundFacts}
-use Rattle.expressions.specs.Bindings.{Bound, unbound, bindingOf, bindings, bindingsBy, bindingAt, frameOf}
+use Rattle.records.specs.Sets.{has}
+use Rattle.expressions.specs.Influence.{Frame, boundFacts}
+use Rattle.expressions.specs.Variables.{isVariable}
+use Rattle.expressions.specs.Codes.{boundOf}
+use Rattle.expressions.specs.Reached.{Reached}
+use Rattle.expressions.specs.Influences.{influenceBy, setsOf}
+use Rattle.expressions.specs.declared.influence.Influence.{Influence}
+use Rattle.expressions.specs.declared.reach.Reach.{Reach}
+use Rattle.expressions.proofs.SlotLaws.{variable-from}
+use Rattle.expressions.specs.Bindings.{Bound, unbound, bindings, bindingsBy, bindingAt, frameOf}
 use Rattle.expressions.specs.Coded.{frameBy}
 use Rattle.expressions.proofs.FactLaws.{bindings-by}
-use Rattle.expressions.proofs.ReachLaws.{frame-of}
+use Rattle.expressions.proofs.ReachLaws.{frame-of, influence-list}
 use Rattle.records.specs.Check.{checkedOf}
 use Rattle.records.specs.declared.checked.Checked.{Checked}
 use Rattle.records.specs.declared.checked.Checked.the-variants.{Accepted, Refused}
-use Rattle.exports.specs.Entries.{numberOf, recordOf, boundIn, boundBy, bound}
+use Rattle.exports.specs.Entries.{numberOf, recordOf, boundIn, boundBy, bound, listed, influencesIn, influencesBy, influences}
 
 -- ---- the plan
 
@@ -46,6 +53,11 @@ pub plan-refused : (s t : List ℕ) (f : ℕ) (r : PlanRead) → planReadOf r �
 unfolding bound planReadOf
 plan-refused s t f r e n =
     ap (boundBy t f) (sym (ap (λ (b : Bool). cond b (fine (planOf (r .plan))) (refused (r .number) (r .«record»))) (ne-eqb (r .number) 0 n)) ∙ e)
+
+pub plan-silent : (s t : List ℕ) (r : PlanRead) → planReadOf r ≡ checkedPlan s → (r .number ≡ 0 → ⊥) → [] ≡ influences s t
+unfolding influences planReadOf
+plan-silent s t r e n =
+    ap (influencesBy t) (sym (ap (λ (b : Bool). cond b (fine (planOf (r .plan))) (refused (r .number) (r .«record»))) (ne-eqb (r .number) 0 n)) ∙ e)
 
 -- ---- the case over it
 
@@ -62,6 +74,15 @@ module _ (s t : List ℕ) (r : PlanRead) (e : planReadOf r ≡ checkedPlan s) (z
   case-refused f n =
       ap (boundIn P f) (sym (ap (λ (b : Bool). cond b (fine (caseOf (q .case))) (refused (q .number) (q .«record»))) (ne-eqb (q .number) 0 n)) ∙ k) ∙ bound-in f
 
+  influences-in : influencesIn P (readCase P t) ≡ influences s t
+  unfolding influences
+  influences-in = ap (influencesBy t) (sym (read-plan s r e z))
+
+  pub case-silent : (q .number ≡ 0 → ⊥) → [] ≡ influences s t
+  unfolding caseReadOf
+  case-silent n =
+      ap (influencesIn P) (sym (ap (λ (b : Bool). cond b (fine (caseOf (q .case))) (refused (q .number) (q .«record»))) (ne-eqb (q .number) 0 n)) ∙ k) ∙ influences-in
+
   module _ (y : q .number ≡ 0) where
     read-case′ : readCase P t ≡ fine (caseOf (q .case))
     unfolding caseReadOf
@@ -77,10 +98,18 @@ module _ (s t : List ℕ) (r : PlanRead) (e : planReadOf r ≡ checkedPlan s) (z
         (h ∙ ap boundFacts (frame-of (r .plan) (q .case) (accepted-case P t (caseOf (q .case)) read-case′ .heading)))
         ∙ ap (λ (bs : List Bound). bindingAt bs f) (bindings-by P (caseOf (q .case))) ∙ binds f
 
-    pub bound-past : (f : ℕ) → 64 ≤ f → unbound ≡ bound s t f
-    unfolding bindings
-    bound-past f h =
-        sym (getD-past (factCount P) (bindingOf P (caseOf (q .case))) unbound f (le-trans (plan-sound s r e z .factLimit) h)) ∙ binds f
+    framed : frameBy (r .plan) (q .case .heading .roster) (q .case .constraints) ≡ frameOf P (caseOf (q .case))
+    framed = frame-of (r .plan) (q .case) (accepted-case P t (caseOf (q .case)) read-case′ .heading)
+
+    -- codes of the bindings, and the facts whose code is from 3 on
+    pub listed-sets : (reach : Reach) (codes : List ℕ) (variables : ℕ) → Reached (frameBy (r .plan) (q .case .heading .roster) (q .case .constraints)) reach
+        → ((f : ℕ) → boundOf (getD codes f 0) ≡ bound s t f) → ((f : ℕ) → f < 64 → has variables f ≡ leb 3 (getD codes f 0))
+        → influenceBy reach variables ≡ influences s t
+    listed-sets reach codes variables reached coded varied =
+        influence-list (frameOf P (caseOf (q .case))) reach (subst (λ (F : Frame). Reached F reach) framed reached) (bindings P (caseOf (q .case))) variables
+        (λ f h.
+        varied f (le-trans h (plan-sound s r e z .factLimit)) ∙ sym (variable-from (getD codes f 0)) ∙ ap isVariable (coded f ∙ sym (binds f)))
+        ∙ ap (influencesIn P) (sym read-case′) ∙ influences-in
 
 -- ---- the answer of a check
 
@@ -93,3 +122,23 @@ pub told-refused : (v : Verdict Plan) (n k : ℕ) → checkedOf v ≡ Refused n 
 unfolding checkedOf
 told-refused (fine P′) n k e = let z : _≡_ {A = ℕ} 0 1 = cc in absurd (omega arith)
 told-refused (refused m j) n k e = (cc, cc)
+
+-- ---- nothing, and what is read of it
+
+pub zeros : (n f : ℕ) → _≡_ {A = ℕ} (getD (replicate n 0) f 0) 0
+zeros zero f = refl
+zeros (suc n) zero = refl
+zeros (suc n) (suc f) = zeros n f
+
+pub none-listed : (i : Influence) → i .count ≡ 0 → setsOf i ≡ []
+unfolding setsOf
+none-listed i e = ap (λ (n : ℕ). take n (i .sets)) e
+
+pub taken-at : (xs : List ℕ) (count n : ℕ) → n < count → getD xs n 0 ≡ getD (take count xs) n 0
+taken-at xs count n h = sym (getD-take count xs n 0 h)
+
+pub taken-past : (xs : List ℕ) (count n : ℕ) → count ≤ n → _≡_ {A = ℕ} 0 (getD (take count xs) n 0)
+taken-past xs count n h = sym (List·getD-eq-default (take count xs) 0 (subst (λ (m : ℕ). m ≤ n) (sym (length-take count xs)) (omega arith)))
+
+pub taken-long : (xs : List ℕ) (count n : ℕ) → length xs ≤ n → _≡_ {A = ℕ} 0 (getD (take count xs) n 0)
+taken-long xs count n h = sym (List·getD-eq-default (take count xs) 0 (subst (λ (m : ℕ). m ≤ n) (sym (length-take count xs)) (omega arith)))

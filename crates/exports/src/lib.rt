@@ -1,14 +1,16 @@
 // What a host links: the operations under C names.
-use expressions::bindings::bindings;
-use expressions::reach::reach_of;
+mod bind;
+
+use bind::bind;
+use bind::set_at;
 use records::check::check;
-use records::check::decode_plan;
 use records::checked::Checked;
-use records::read_case::read_case;
+use records::naming::entry;
 ghost use mathlib.Core.Path.{_≡_};
+ghost use lib.ListN.{getD};
 ghost use Rattle.records.specs.Plan.{checkedPlan};
 ghost use Rattle.expressions.specs.Codes.{boundOf};
-ghost use Rattle.exports.specs.Entries.{numberOf, recordOf, bound};
+ghost use Rattle.exports.specs.Entries.{numberOf, recordOf, bound, influences};
 
 // Check a plan: the refusal's number, 0 for none. The record goes behind the reference.
 #[no_mangle]
@@ -33,19 +35,17 @@ pub extern "C" fn lukhveri_check(plan: &[u8], place: &mut u64) -> u8
 pub extern "C" fn lukhveri_binding(plan: &[u8], case: &[u8], fact: usize) -> u8
     ensures { λ r. ⌜ boundOf r ≡ bound (now (plan .entry)) (now (case .entry)) fact ⌝ }
 {
-    let read = decode_plan(plan);
-    if read.number != 0 {
-        return 0;
-    }
-    let p = read.plan;
-    let got = read_case(p, case);
-    if got.number != 0 {
-        return 0;
-    }
-    let c = got.case;
-    let heading = c.heading;
-    let constraints = c.constraints;
-    let reach = reach_of(p, heading.roster, constraints);
-    let codes = bindings(p, c, reach.bound);
-    if fact < 64 { codes[fact] } else { 0 }
+    let found = bind(plan, case);
+    let codes = found.codes;
+    entry(codes, fact)
+}
+
+// The influence of a fact by its number, or of a decision behind the facts: nobody for what is no variable.
+#[no_mangle]
+pub extern "C" fn lukhveri_influence(plan: &[u8], case: &[u8], number: usize) -> u64
+    ensures { λ r. ⌜ r ≡ getD (influences (now (plan .entry)) (now (case .entry))) number 0 ⌝ }
+{
+    let found = bind(plan, case);
+    let influence = found.influence;
+    set_at(influence, number)
 }
