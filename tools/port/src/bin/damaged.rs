@@ -14,7 +14,9 @@ fn agree(plan: &[u8], counts: &mut [u64; 15]) -> bool {
 }
 
 fn main() {
-    let mut arguments = std::env::args().skip(1).map(|text| text.parse::<u64>().expect("a number"));
+    let mut arguments = std::env::args()
+        .skip(1)
+        .map(|text| text.parse::<u64>().expect("a number"));
     let (Some(count), Some(seed)) = (arguments.next(), arguments.next()) else {
         panic!("damaged N SEED");
     };
@@ -25,7 +27,11 @@ fn main() {
         assert!(agree(&plan, &mut counts), "they differ: {}", to_hex(&plan));
         if number % 10 == 0 {
             let whole = generate::mixed(random).plan.encode();
-            assert!(agree(&whole, &mut counts), "they differ: {}", to_hex(&whole));
+            assert!(
+                agree(&whole, &mut counts),
+                "they differ: {}",
+                to_hex(&whole)
+            );
         }
     }
     println!("verdicts by refusal number {counts:?}");

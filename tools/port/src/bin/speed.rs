@@ -1,4 +1,4 @@
-//! speed: time of a check, by the proved code and by the model, in one run.
+//! speed: time of a check and of binding a case, by the proved code and by the model, in one run.
 
 use std::hint::black_box;
 use std::time::Instant;
@@ -6,7 +6,7 @@ use std::time::Instant;
 use inputs::build;
 use inputs::generate::{self, DENSE};
 use inputs::random::Random;
-use inputs::wire::{Attachment, Bar, Cut, Edge, Election, Node, OVERRIDES, Plan, Status};
+use inputs::wire::{Attachment, Bar, Case, Cut, Edge, Election, Node, OVERRIDES, Plan, Status};
 
 /// Microseconds for one call, the best of several runs of many.
 fn time(plans: &[Vec<u8>], check: impl Fn(&[u8]) -> model::Outcome) -> f64 {
@@ -33,7 +33,12 @@ fn row(name: &str, plans: &[Vec<u8>]) {
 
 /// Every kind of record up to its limit, every list full.
 fn largest() -> Plan {
-    let election = Some(Election { fact: 0, actor: 1, policy: 1, citation: 63 });
+    let election = Some(Election {
+        fact: 0,
+        actor: 1,
+        policy: 1,
+        citation: 63,
+    });
     let edges = (0..64).map(|left| Edge {
         defeaters: Some(vec![0; 16]),
         combination: true,
@@ -49,7 +54,10 @@ fn largest() -> Plan {
     nodes.extend((16..256).map(|_| Node::And((0..16).collect())));
     let mut facts = vec![None];
     facts.extend((1..64).map(|family| Some((family, vec![0, 1, 2, 63]))));
-    let attachments = (0..32).map(|_| Attachment { election, ..build::attachment(&[0, 1], 2, 255) });
+    let attachments = (0..32).map(|_| Attachment {
+        election,
+        ..build::attachment(&[0, 1], 2, 255)
+    });
     Plan {
         chain: Some(0),
         facts,
@@ -57,14 +65,68 @@ fn largest() -> Plan {
         edges: edges.collect(),
         cuts: cuts.collect(),
         attachments: attachments.collect(),
-        bars: (0..32).map(|_| -> Bar { build::bar(&[0, 1], 255) }).collect(),
-        statuses: (0..32).map(|_| -> Status { build::status(0, 255) }).collect(),
+        bars: (0..32)
+            .map(|_| -> Bar { build::bar(&[0, 1], 255) })
+            .collect(),
+        statuses: (0..32)
+            .map(|_| -> Status { build::status(0, 255) })
+            .collect(),
         ..build::plan()
     }
 }
 
+/// 64 boolean facts, each with sixteen observations and an edge, 256 nodes; everything is open.
+fn widest() -> (Vec<u8>, Vec<u8>) {
+    let mut nodes: Vec<Node> = (0..64).map(Node::Fact).collect();
+    nodes.extend((64..=255).map(|_| Node::Or((0..16).collect())));
+    let edges = (0..64).map(|left| build::base(left, (left + 1) % 64, left));
+    let plan = Plan {
+        facts: vec![None; 64],
+        nodes,
+        edges: edges.collect(),
+        ..Plan::default()
+    };
+    let observations: Vec<(u8, u8)> = (0..16).map(|evidence| (evidence % 2, evidence)).collect();
+    let booleans = (0..64).map(|fact| build::observe(fact, &observations));
+    let case = Case {
+        booleans: booleans.collect(),
+        ..build::case(u64::MAX)
+    };
+    (plan.encode(), case.encode())
+}
+
+fn bind_row() {
+    let (plan, case) = widest();
+    let best = |bind: &dyn Fn()| {
+        let once = || {
+            let start = Instant::now();
+            (0..200).for_each(|_| bind());
+            start.elapsed().as_secs_f64() * 1e6 / 200.0
+        };
+        (0..7).map(|_| once()).fold(f64::INFINITY, f64::min)
+    };
+    let proved = best(&|| {
+        black_box(port::influence(black_box(&plan), black_box(&case), 0));
+    });
+    let model = best(&|| {
+        let read = model::records::Plan::read(black_box(&plan)).expect("a plan");
+        let said = model::records::Case::read(black_box(&case), &read).expect("a case");
+        black_box(model::expressions::Bound::of(&read, &said));
+    });
+    println!(
+        "read and bind a case of 64 facts over 256 nodes, {} and {} bytes: proved {proved:.1} µs, model {model:.1} µs",
+        plan.len(),
+        case.len()
+    );
+}
+
 fn main() {
-    let typical = (0..40).map(|number| generate::input(&mut Random::stream(31, number), DENSE).plan.encode());
+    bind_row();
+    let typical = (0..40).map(|number| {
+        generate::input(&mut Random::stream(31, number), DENSE)
+            .plan
+            .encode()
+    });
     row("typical plans", &typical.collect::<Vec<_>>());
     row("the largest plan", &[largest().encode()]);
 }
