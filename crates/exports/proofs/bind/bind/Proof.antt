@@ -20,11 +20,12 @@ returns : tie.Need-returns
 unfolding boundOf
 returns c =
     let d = c .before .before .before in
-    let s = d .before .before .before in
-    (λ f. ap boundOf (c .nothing .ensures .0 f)
-    ∙ plan-refused (s .args .plan .now) (s .args .case .now) f (d .decode-plan .result) (d .decode-plan .ensures) (c .before .if1 .taken),
-    none-listed (c .nothing .result .influence) (c .nothing .ensures .1)
-    ∙ plan-silent (s .args .plan .now) (s .args .case .now) (d .decode-plan .result) (d .decode-plan .ensures) (c .before .if1 .taken))
+    let s = d .before .before .before in (
+      λ f. ap boundOf (c .nothing .ensures .0 f)
+          ∙ plan-refused (s .args .plan .now) (s .args .case .now) f (d .decode-plan .result) (d .decode-plan .ensures) (c .before .if1 .taken),
+      none-listed (c .nothing .result .influence) (c .nothing .ensures .1)
+          ∙ plan-silent (s .args .plan .now) (s .args .case .now) (d .decode-plan .result) (d .decode-plan .ensures) (c .before .if1 .taken),
+    )
 
 read-case-requires : tie.Need-read-case-requires
 read-case-requires c κs = search needs
@@ -38,13 +39,14 @@ returns-2 c =
     let q = c .before .before .before in
     let f = q .before .before in
     let d = f .before .before in
-    let s = d .before .before .before in
-    (λ n. ap boundOf (c .nothing2 .ensures .0 n)
-    ∙ case-refused (s .args .plan .now) (s .args .case .now) (d .decode-plan .result) (d .decode-plan .ensures) (f .if1 .left) (q .read-case .result) (q .read-case .ensures) n
-      (c .before .if2 .taken),
-    none-listed (c .nothing2 .result .influence) (c .nothing2 .ensures .1)
-    ∙ case-silent (s .args .plan .now) (s .args .case .now) (d .decode-plan .result) (d .decode-plan .ensures) (f .if1 .left) (q .read-case .result) (q .read-case .ensures)
-      (c .before .if2 .taken))
+    let s = d .before .before .before in (
+      λ n. ap boundOf (c .nothing2 .ensures .0 n)
+          ∙ case-refused (s .args .plan .now) (s .args .case .now) (d .decode-plan .result) (d .decode-plan .ensures) (f .if1 .left) (q .read-case .result) (q .read-case .ensures) n
+          (c .before .if2 .taken),
+      none-listed (c .nothing2 .result .influence) (c .nothing2 .ensures .1)
+          ∙ case-silent (s .args .plan .now) (s .args .case .now) (d .decode-plan .result) (d .decode-plan .ensures) (f .if1 .left) (q .read-case .result) (q .read-case .ensures)
+          (c .before .if2 .taken),
+    )
 
 reach-of-requires : tie.Need-reach-of-requires
 reach-of-requires c κs =
@@ -73,11 +75,13 @@ returns-3 c =
     let d = f .before .before in
     let s = d .before .before .before in
     let coded : (n : ℕ) → boundOf (getD (b .bindings .result) n 0) ≡ bound (s .args .plan .now) (s .args .case .now) n = (λ n. b .bindings .ensures n
-        ∙ bound-code (s .args .plan .now) (s .args .case .now) (d .decode-plan .result) (d .decode-plan .ensures) (f .if1 .left) (q .read-case .result) (q .read-case .ensures) (g .if2 .left)
-          (o .reach-of .result .bound) n (o .reach-of .ensures .bound)) in
-    (coded, c .influence-of .ensures
-    ∙ listed-sets (s .args .plan .now) (s .args .case .now) (d .decode-plan .result) (d .decode-plan .ensures) (f .if1 .left) (q .read-case .result) (q .read-case .ensures) (g .if2 .left)
-      (o .reach-of .result) (b .bindings .result) (v .variables-of .result) (o .reach-of .ensures) coded (v .variables-of .ensures))
+    ∙ bound-code (s .args .plan .now) (s .args .case .now) (d .decode-plan .result) (d .decode-plan .ensures) (f .if1 .left) (q .read-case .result) (q .read-case .ensures) (g .if2 .left)
+    (o .reach-of .result .bound) n (o .reach-of .ensures .bound)) in (
+      coded,
+      c .influence-of .ensures
+          ∙ listed-sets (s .args .plan .now) (s .args .case .now) (d .decode-plan .result) (d .decode-plan .ensures) (f .if1 .left) (q .read-case .result) (q .read-case .ensures) (g .if2 .left)
+          (o .reach-of .result) (b .bindings .result) (v .variables-of .result) (o .reach-of .ensures) coded (v .variables-of .ensures),
+    )
 
 pub bind-spec : {M : Type 1} → statement M
 bind-spec =
