@@ -35,17 +35,10 @@ pub struct CaseStep {
 fn add_heading(s: &[u8], at: usize, case: Case) -> CaseStep
     ensures { λ r. ⌜ stepped r ≡ stepOf 1 (now (s .entry)) at (caseOf case) ⌝ }
 {
-    let HeadingSeen::Got {
-        bits,
-        relation,
-        scope,
-        segment,
-        roster,
-        evidence,
-        most,
-        next,
-    } = heading_at(s, at)
-    else {
+    let HeadingSeen::Got(bits, relation, scope, segment, roster, evidence, most, next) = heading_at(
+        s,
+        at,
+    ) else {
         return CaseStep {
             number: 1,
             next: at,
@@ -83,14 +76,7 @@ fn add_heading(s: &[u8], at: usize, case: Case) -> CaseStep
 fn add_family(s: &[u8], at: usize, case: Case) -> CaseStep
     ensures { λ r. ⌜ stepped r ≡ stepOf 2 (now (s .entry)) at (caseOf case) ⌝ }
 {
-    let FamilySeen::Got {
-        bits,
-        number,
-        scope,
-        evidence,
-        next,
-    } = family_at(s, at)
-    else {
+    let FamilySeen::Got(bits, number, scope, evidence, next) = family_at(s, at) else {
         return CaseStep {
             number: 1,
             next: at,
@@ -147,15 +133,7 @@ fn observations_from(s: &[u8], first: usize, count: u8) -> Observations
 fn add_boolean(s: &[u8], at: usize, case: Case) -> CaseStep
     ensures { λ r. ⌜ stepped r ≡ stepOf 3 (now (s .entry)) at (caseOf case) ⌝ }
 {
-    let BooleanSeen::Got {
-        bits,
-        fact,
-        evidence,
-        first,
-        count,
-        next,
-    } = boolean_at(s, at)
-    else {
+    let BooleanSeen::Got(bits, fact, evidence, first, count, next) = boolean_at(s, at) else {
         return CaseStep {
             number: 1,
             next: at,
@@ -192,14 +170,7 @@ fn add_boolean(s: &[u8], at: usize, case: Case) -> CaseStep
 fn add_relation(s: &[u8], at: usize, case: Case) -> CaseStep
     ensures { λ r. ⌜ stepped r ≡ stepOf 4 (now (s .entry)) at (caseOf case) ⌝ }
 {
-    let RelationSeen::Got {
-        bits,
-        fact,
-        value,
-        evidence,
-        next,
-    } = relation_at(s, at)
-    else {
+    let RelationSeen::Got(bits, fact, value, evidence, next) = relation_at(s, at) else {
         return CaseStep {
             number: 1,
             next: at,
@@ -234,7 +205,7 @@ fn add_relation(s: &[u8], at: usize, case: Case) -> CaseStep
 fn add_constraint(s: &[u8], at: usize, case: Case) -> CaseStep
     ensures { λ r. ⌜ stepped r ≡ stepOf 5 (now (s .entry)) at (caseOf case) ⌝ }
 {
-    let ConstraintSeen::Got { bits, node, next } = constraint_at(s, at) else {
+    let ConstraintSeen::Got(bits, node, next) = constraint_at(s, at) else {
         return CaseStep {
             number: 1,
             next: at,

@@ -8,41 +8,30 @@ ghost use Rattle.records.specs.Readers.{fieldRead, wideRead, shortRead, 
 ghost use Rattle.records.specs.Plan.{electionOf};
 
 pub enum Field {
-    Got { value: u8, next: usize },
+    Got(u8, usize),
     Bad,
 }
 
 // a mask
 pub enum Wide {
-    Got { value: u64, next: usize },
+    Got(u64, usize),
     Bad,
 }
 
 // two bytes
 pub enum Short {
-    Got { value: u16, next: usize },
+    Got(u16, usize),
     Bad,
 }
 
 // a list: the place of its first entry, and how many there are
 pub enum Listed {
-    Got {
-        first: usize,
-        count: u8,
-        next: usize,
-    },
+    Got(usize, u8, usize),
     Bad,
 }
 
 pub enum Elected {
-    Got {
-        given: bool,
-        fact: u8,
-        actor: u8,
-        policy: u8,
-        citation: u8,
-        next: usize,
-    },
+    Got(bool, u8, u8, u8, u8, usize),
     Bad,
 }
 
@@ -71,10 +60,7 @@ pub fn byte_at(s: &[u8], at: usize, low: u8, top: u8) -> Field
     if at < s.len() {
         if low <= s[at] {
             if s[at] <= top {
-                return Field::Got {
-                    value: s[at],
-                    next: at + 1,
-                };
+                return Field::Got(s[at], at + 1);
             }
         }
     }
@@ -88,7 +74,7 @@ pub fn opt_at(s: &[u8], at: usize, present: bool, low: u8, top: u8) -> Field
     if present {
         byte_at(s, at, low, top)
     } else {
-        Field::Got { value: 0, next: at }
+        Field::Got(0, at)
     }
 }
 
@@ -109,16 +95,13 @@ pub fn mask_at(s: &[u8], at: usize, present: bool) -> Wide
     ensures { λ r. ⌜ wideRead r ≡ mapRead little (fieldIf present (now (s .entry)) at mask) ⌝ }
 {
     if !present {
-        return Wide::Got { value: 0, next: at };
+        return Wide::Got(0, at);
     }
     if at < s.len() {
         if 8 <= s.len() - at {
             let low = word_at(s, at);
             let high = word_at(s, at + 4);
-            return Wide::Got {
-                value: low + high * 4294967296,
-                next: at + 8,
-            };
+            return Wide::Got(low + high * 4294967296, at + 8);
         }
     }
     Wide::Bad
@@ -129,28 +112,17 @@ pub fn short_at(s: &[u8], at: usize, present: bool) -> Short
     ensures { λ r. ⌜ shortRead r ≡ mapRead little (fieldIf present (now (s .entry)) at most) ⌝ }
 {
     if !present {
-        return Short::Got { value: 0, next: at };
+        return Short::Got(0, at);
     }
-    let Field::Got {
-        value: low,
-        next: p,
-    } = byte_at(s, at, 0, 255)
-    else {
+    let Field::Got(low, p) = byte_at(s, at, 0, 255) else {
         return Short::Bad;
     };
-    let Field::Got {
-        value: high,
-        next: q,
-    } = byte_at(s, p, 0, 255)
-    else {
+    let Field::Got(high, q) = byte_at(s, p, 0, 255) else {
         return Short::Bad;
     };
     let value = to_u16(low) + to_u16(high) * 256;
     if value <= 4096 {
-        return Short::Got {
-            value: value,
-            next: q,
-        };
+        return Short::Got(value, q);
     }
     Short::Bad
 }
@@ -160,51 +132,21 @@ pub fn election_at(s: &[u8], at: usize, present: bool) -> Elected
     ensures { λ r. ⌜ electionRead r ≡ mapRead electionOf (fieldIf present (now (s .entry)) at election) ⌝ }
 {
     if !present {
-        return Elected::Got {
-            given: false,
-            fact: 0,
-            actor: 0,
-            policy: 0,
-            citation: 0,
-            next: at,
-        };
+        return Elected::Got(false, 0, 0, 0, 0, at);
     }
-    let Field::Got {
-        value: fact,
-        next: p,
-    } = byte_at(s, at, 0, 255)
-    else {
+    let Field::Got(fact, p) = byte_at(s, at, 0, 255) else {
         return Elected::Bad;
     };
-    let Field::Got {
-        value: actor,
-        next: q,
-    } = byte_at(s, p, 1, 255)
-    else {
+    let Field::Got(actor, q) = byte_at(s, p, 1, 255) else {
         return Elected::Bad;
     };
-    let Field::Got {
-        value: policy,
-        next: r,
-    } = byte_at(s, q, 0, 2)
-    else {
+    let Field::Got(policy, r) = byte_at(s, q, 0, 2) else {
         return Elected::Bad;
     };
-    let Field::Got {
-        value: citation,
-        next: t,
-    } = byte_at(s, r, 0, 63)
-    else {
+    let Field::Got(citation, t) = byte_at(s, r, 0, 63) else {
         return Elected::Bad;
     };
-    Elected::Got {
-        given: true,
-        fact: fact,
-        actor: actor,
-        policy: policy,
-        citation: citation,
-        next: t,
-    }
+    Elected::Got(true, fact, actor, policy, citation, t)
 }
 
 // whether n bytes from a place on are there and at most `top`
@@ -214,7 +156,7 @@ fn entries_stand(s: &[u8], at: usize, n: usize, top: u8) -> bool
     let mut p = at;
     let mut i: usize = 0;
     while i < n {
-        let Field::Got { value, next } = byte_at(s, p, 0, top) else {
+        let Field::Got(value, next) = byte_at(s, p, 0, top) else {
             return false;
         };
         p = next;
@@ -230,18 +172,10 @@ fn pairs_stand(s: &[u8], at: usize, n: usize, top: u8, low: u8, high: u8) -> boo
     let mut p = at;
     let mut i: usize = 0;
     while i < n {
-        let Field::Got {
-            value: one,
-            next: q,
-        } = byte_at(s, p, 0, top)
-        else {
+        let Field::Got(one, q) = byte_at(s, p, 0, top) else {
             return false;
         };
-        let Field::Got {
-            value: two,
-            next: r,
-        } = byte_at(s, q, low, high)
-        else {
+        let Field::Got(two, r) = byte_at(s, q, low, high) else {
             return false;
         };
         p = r;
@@ -255,26 +189,14 @@ pub fn list_at(s: &[u8], at: usize, present: bool, limit: u8, top: u8) -> Listed
     ensures { λ r. ⌜ (listRead (now (s .entry)) r ≡ fieldIf present (now (s .entry)) at (list limit (upTo top ∷ []))) × listFits limit (now (s .entry)) r ⌝ }
 {
     if !present {
-        return Listed::Got {
-            first: 0,
-            count: 0,
-            next: at,
-        };
+        return Listed::Got(0, 0, at);
     }
-    let Field::Got {
-        value: count,
-        next: first,
-    } = byte_at(s, at, 0, limit)
-    else {
+    let Field::Got(count, first) = byte_at(s, at, 0, limit) else {
         return Listed::Bad;
     };
     let n = to_index(count);
     if entries_stand(s, first, n, top) {
-        return Listed::Got {
-            first: first,
-            count: count,
-            next: first + n,
-        };
+        return Listed::Got(first, count, first + n);
     }
     Listed::Bad
 }
@@ -284,26 +206,14 @@ pub fn pairs_at(s: &[u8], at: usize, present: bool, limit: u8, top: u8, low: u8,
     ensures { λ r. ⌜ (pairsRead (now (s .entry)) r ≡ fieldIf present (now (s .entry)) at (list limit (upTo top ∷ record { low = low; top = high } ∷ []))) × pairsFit limit (now (s .entry)) r ⌝ }
 {
     if !present {
-        return Listed::Got {
-            first: 0,
-            count: 0,
-            next: at,
-        };
+        return Listed::Got(0, 0, at);
     }
-    let Field::Got {
-        value: count,
-        next: first,
-    } = byte_at(s, at, 0, limit)
-    else {
+    let Field::Got(count, first) = byte_at(s, at, 0, limit) else {
         return Listed::Bad;
     };
     let n = to_index(count);
     if pairs_stand(s, first, n, top, low, high) {
-        return Listed::Got {
-            first: first,
-            count: count,
-            next: first + n * 2,
-        };
+        return Listed::Got(first, count, first + n * 2);
     }
     Listed::Bad
 }

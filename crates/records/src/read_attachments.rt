@@ -20,94 +20,53 @@ ghost use Rattle.records.specs.Passes.{rawAt, seenBy, Passed, attachment
 
 // `elector` and `source` are the election's actor and citation
 pub enum AttachmentSeen {
-    Got {
-        bits: u8,
-        members: u64,
-        anchor: u8,
-        condition: u8,
-        citation: u8,
-        actor: u8,
-        given: bool,
-        fact: u8,
-        elector: u8,
-        policy: u8,
-        source: u8,
-        next: usize,
-    },
+    Got(u8, u64, u8, u8, u8, u8, bool, u8, u8, u8, u8, usize),
     Bad,
 }
 
 pub fn attachment_at(s: &[u8], at: usize) -> AttachmentSeen
     ensures { λ r. ⌜ attachmentRead r ≡ mapRead (seenBy paper.attachmentOf) (rawAt 6 (now (s .entry)) at) ⌝ }
 {
-    let Field::Got {
-        value: bits,
-        next: p,
-    } = byte_at(s, at, 0, 255)
-    else {
+    let Field::Got(bits, p) = byte_at(s, at, 0, 255) else {
         return AttachmentSeen::Bad;
     };
-    let Wide::Got {
-        value: members,
-        next: p0,
-    } = mask_at(s, p, bits % 2 == 1)
-    else {
+    let Wide::Got(members, p0) = mask_at(s, p, bits % 2 == 1) else {
         return AttachmentSeen::Bad;
     };
-    let Field::Got {
-        value: anchor,
-        next: p1,
-    } = opt_at(s, p0, bits / 2 % 2 == 1, 0, 63)
-    else {
+    let Field::Got(anchor, p1) = opt_at(s, p0, bits / 2 % 2 == 1, 0, 63) else {
         return AttachmentSeen::Bad;
     };
-    let Field::Got {
-        value: condition,
-        next: p2,
-    } = opt_at(s, p1, bits / 4 % 2 == 1, 0, 255)
-    else {
+    let Field::Got(condition, p2) = opt_at(s, p1, bits / 4 % 2 == 1, 0, 255) else {
         return AttachmentSeen::Bad;
     };
-    let Field::Got {
-        value: citation,
-        next: p3,
-    } = opt_at(s, p2, bits / 8 % 2 == 1, 0, 63)
-    else {
+    let Field::Got(citation, p3) = opt_at(s, p2, bits / 8 % 2 == 1, 0, 63) else {
         return AttachmentSeen::Bad;
     };
-    let Field::Got {
-        value: actor,
-        next: p4,
-    } = opt_at(s, p3, bits / 16 % 2 == 1, 1, 255)
-    else {
+    let Field::Got(actor, p4) = opt_at(s, p3, bits / 16 % 2 == 1, 1, 255) else {
         return AttachmentSeen::Bad;
     };
-    let Elected::Got {
-        given,
-        fact,
-        actor: elector,
-        policy,
-        citation: source,
-        next: next,
-    } = election_at(s, p4, bits / 32 % 2 == 1)
-    else {
+    let Elected::Got(given, fact, elector, policy, source, next) = election_at(
+        s,
+        p4,
+        bits / 32 % 2 == 1,
+    ) else {
         return AttachmentSeen::Bad;
     };
     if bits / 64 == 0 {
-        return AttachmentSeen::Got {
-            bits: bits,
-            members: members,
-            anchor: anchor,
-            condition: condition,
-            citation: citation,
-            actor: actor,
-            given: given,
-            fact: fact,
-            elector: elector,
-            policy: policy,
-            source: source,
-            next: next,
-        };
+        return AttachmentSeen::Got(
+            bits,
+            members,
+            anchor,
+            condition,
+            citation,
+            actor,
+            given,
+            fact,
+            elector,
+            policy,
+            source,
+            next,
+        );
     }
     AttachmentSeen::Bad
 }
@@ -157,7 +116,7 @@ pub fn read_attachments(s: &[u8], start: usize, before: usize, headed: bool) -> 
         if s[at] != 6 {
             break;
         }
-        let AttachmentSeen::Got {
+        let AttachmentSeen::Got(
             bits,
             members,
             anchor,
@@ -170,8 +129,7 @@ pub fn read_attachments(s: &[u8], start: usize, before: usize, headed: bool) -> 
             policy,
             source,
             next,
-        } = attachment_at(s, at + 1)
-        else {
+        ) = attachment_at(s, at + 1) else {
             return AttachmentsRead {
                 number: 1,
                 record: k,

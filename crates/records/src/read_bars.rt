@@ -15,55 +15,27 @@ ghost use Rattle.records.specs.Readers.{mapRead};
 ghost use Rattle.records.specs.Passes.{rawAt, seenBy, Passed, barRead, barFrom, barsOf, withBars};
 
 pub enum BarSeen {
-    Got {
-        bits: u8,
-        members: u64,
-        condition: u8,
-        citation: u8,
-        next: usize,
-    },
+    Got(u8, u64, u8, u8, usize),
     Bad,
 }
 
 pub fn bar_at(s: &[u8], at: usize) -> BarSeen
     ensures { λ r. ⌜ barRead r ≡ mapRead (seenBy barFrom) (rawAt 7 (now (s .entry)) at) ⌝ }
 {
-    let Field::Got {
-        value: bits,
-        next: p,
-    } = byte_at(s, at, 0, 255)
-    else {
+    let Field::Got(bits, p) = byte_at(s, at, 0, 255) else {
         return BarSeen::Bad;
     };
-    let Wide::Got {
-        value: members,
-        next: p0,
-    } = mask_at(s, p, bits % 2 == 1)
-    else {
+    let Wide::Got(members, p0) = mask_at(s, p, bits % 2 == 1) else {
         return BarSeen::Bad;
     };
-    let Field::Got {
-        value: condition,
-        next: p1,
-    } = opt_at(s, p0, bits / 2 % 2 == 1, 0, 255)
-    else {
+    let Field::Got(condition, p1) = opt_at(s, p0, bits / 2 % 2 == 1, 0, 255) else {
         return BarSeen::Bad;
     };
-    let Field::Got {
-        value: citation,
-        next: next,
-    } = opt_at(s, p1, bits / 4 % 2 == 1, 0, 63)
-    else {
+    let Field::Got(citation, next) = opt_at(s, p1, bits / 4 % 2 == 1, 0, 63) else {
         return BarSeen::Bad;
     };
     if bits / 8 == 0 {
-        return BarSeen::Got {
-            bits: bits,
-            members: members,
-            condition: condition,
-            citation: citation,
-            next: next,
-        };
+        return BarSeen::Got(bits, members, condition, citation, next);
     }
     BarSeen::Bad
 }
@@ -103,14 +75,7 @@ pub fn read_bars(s: &[u8], start: usize, before: usize, headed: bool) -> BarsRea
         if s[at] != 7 {
             break;
         }
-        let BarSeen::Got {
-            bits,
-            members,
-            condition,
-            citation,
-            next,
-        } = bar_at(s, at + 1)
-        else {
+        let BarSeen::Got(bits, members, condition, citation, next) = bar_at(s, at + 1) else {
             return BarsRead {
                 number: 1,
                 record: k,

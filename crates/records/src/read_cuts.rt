@@ -33,95 +33,55 @@ ghost use Rattle.records.specs.Passes.{rawAt, seenBy, Passed, cutRead, c
 // `elector` and `source` are the election's actor and citation; `pairs` and `decided`, `first` and `count`: where the decisions and the cuts
 // it precedes stand
 pub enum CutSeen {
-    Got {
-        bits: u8,
-        members: u64,
-        condition: u8,
-        citation: u8,
-        given: bool,
-        fact: u8,
-        elector: u8,
-        policy: u8,
-        source: u8,
-        pairs: usize,
-        decided: u8,
-        first: usize,
-        count: u8,
-        next: usize,
-    },
+    Got(u8, u64, u8, u8, bool, u8, u8, u8, u8, usize, u8, usize, u8, usize),
     Bad,
 }
 
 pub fn cut_at(s: &[u8], at: usize) -> CutSeen
     ensures { λ r. ⌜ (cutRead (now (s .entry)) r ≡ mapRead (seenBy paper.cutOf) (rawAt 5 (now (s .entry)) at)) × cutFits (now (s .entry)) r ⌝ }
 {
-    let Field::Got {
-        value: bits,
-        next: p,
-    } = byte_at(s, at, 0, 255)
-    else {
+    let Field::Got(bits, p) = byte_at(s, at, 0, 255) else {
         return CutSeen::Bad;
     };
-    let Wide::Got {
-        value: members,
-        next: p0,
-    } = mask_at(s, p, bits % 2 == 1)
-    else {
+    let Wide::Got(members, p0) = mask_at(s, p, bits % 2 == 1) else {
         return CutSeen::Bad;
     };
-    let Field::Got {
-        value: condition,
-        next: p1,
-    } = opt_at(s, p0, bits / 2 % 2 == 1, 0, 255)
-    else {
+    let Field::Got(condition, p1) = opt_at(s, p0, bits / 2 % 2 == 1, 0, 255) else {
         return CutSeen::Bad;
     };
-    let Field::Got {
-        value: citation,
-        next: p2,
-    } = opt_at(s, p1, bits / 4 % 2 == 1, 0, 63)
-    else {
+    let Field::Got(citation, p2) = opt_at(s, p1, bits / 4 % 2 == 1, 0, 63) else {
         return CutSeen::Bad;
     };
-    let Elected::Got {
-        given,
-        fact,
-        actor: elector,
-        policy,
-        citation: source,
-        next: p3,
-    } = election_at(s, p2, bits / 8 % 2 == 1)
-    else {
+    let Elected::Got(given, fact, elector, policy, source, p3) = election_at(
+        s,
+        p2,
+        bits / 8 % 2 == 1,
+    ) else {
         return CutSeen::Bad;
     };
-    let Listed::Got {
-        first: pairs,
-        count: decided,
-        next: p4,
-    } = pairs_at(s, p3, bits / 16 % 2 == 1, 64, 255, 1, 3)
-    else {
+    let Listed::Got(pairs, decided, p4) = pairs_at(s, p3, bits / 16 % 2 == 1, 64, 255, 1, 3) else {
         return CutSeen::Bad;
     };
-    let Listed::Got { first, count, next } = list_at(s, p4, bits / 32 % 2 == 1, 16, 255) else {
+    let Listed::Got(first, count, next) = list_at(s, p4, bits / 32 % 2 == 1, 16, 255) else {
         return CutSeen::Bad;
     };
     if bits / 64 == 0 {
-        return CutSeen::Got {
-            bits: bits,
-            members: members,
-            condition: condition,
-            citation: citation,
-            given: given,
-            fact: fact,
-            elector: elector,
-            policy: policy,
-            source: source,
-            pairs: pairs,
-            decided: decided,
-            first: first,
-            count: count,
-            next: next,
-        };
+        return CutSeen::Got(
+            bits,
+            members,
+            condition,
+            citation,
+            given,
+            fact,
+            elector,
+            policy,
+            source,
+            pairs,
+            decided,
+            first,
+            count,
+            next,
+        );
     }
     CutSeen::Bad
 }
@@ -182,7 +142,7 @@ pub fn read_cuts(s: &[u8], start: usize, before: usize, headed: bool) -> CutsRea
         if s[at] != 5 {
             break;
         }
-        let CutSeen::Got {
+        let CutSeen::Got(
             bits,
             members,
             condition,
@@ -197,8 +157,7 @@ pub fn read_cuts(s: &[u8], start: usize, before: usize, headed: bool) -> CutsRea
             first,
             count,
             next,
-        } = cut_at(s, at + 1)
-        else {
+        ) = cut_at(s, at + 1) else {
             return CutsRead {
                 number: 1,
                 record: k,

@@ -19,71 +19,33 @@ ghost use Rattle.records.specs.Passes.{rawAt, seenBy, Passed, edgeRead, 
 
 // `first` and `count`: where the defeaters stand
 pub enum EdgeSeen {
-    Got {
-        bits: u8,
-        left: u8,
-        right: u8,
-        condition: u8,
-        citation: u8,
-        first: usize,
-        count: u8,
-        next: usize,
-    },
+    Got(u8, u8, u8, u8, u8, usize, u8, usize),
     Bad,
 }
 
 pub fn edge_at(s: &[u8], at: usize) -> EdgeSeen
     ensures { λ r. ⌜ (edgeRead (now (s .entry)) r ≡ mapRead (seenBy paper.edgeOf) (rawAt 4 (now (s .entry)) at)) × edgeFits (now (s .entry)) r ⌝ }
 {
-    let Field::Got {
-        value: bits,
-        next: p,
-    } = byte_at(s, at, 0, 255)
-    else {
+    let Field::Got(bits, p) = byte_at(s, at, 0, 255) else {
         return EdgeSeen::Bad;
     };
-    let Field::Got {
-        value: left,
-        next: p0,
-    } = opt_at(s, p, bits % 2 == 1, 0, 63)
-    else {
+    let Field::Got(left, p0) = opt_at(s, p, bits % 2 == 1, 0, 63) else {
         return EdgeSeen::Bad;
     };
-    let Field::Got {
-        value: right,
-        next: p1,
-    } = opt_at(s, p0, bits / 2 % 2 == 1, 0, 63)
-    else {
+    let Field::Got(right, p1) = opt_at(s, p0, bits / 2 % 2 == 1, 0, 63) else {
         return EdgeSeen::Bad;
     };
-    let Field::Got {
-        value: condition,
-        next: p2,
-    } = opt_at(s, p1, bits / 4 % 2 == 1, 0, 255)
-    else {
+    let Field::Got(condition, p2) = opt_at(s, p1, bits / 4 % 2 == 1, 0, 255) else {
         return EdgeSeen::Bad;
     };
-    let Field::Got {
-        value: citation,
-        next: p3,
-    } = opt_at(s, p2, bits / 8 % 2 == 1, 0, 63)
-    else {
+    let Field::Got(citation, p3) = opt_at(s, p2, bits / 8 % 2 == 1, 0, 63) else {
         return EdgeSeen::Bad;
     };
-    let Listed::Got { first, count, next } = list_at(s, p3, bits / 16 % 2 == 1, 16, 255) else {
+    let Listed::Got(first, count, next) = list_at(s, p3, bits / 16 % 2 == 1, 16, 255) else {
         return EdgeSeen::Bad;
     };
     if bits / 64 == 0 {
-        return EdgeSeen::Got {
-            bits: bits,
-            left: left,
-            right: right,
-            condition: condition,
-            citation: citation,
-            first: first,
-            count: count,
-            next: next,
-        };
+        return EdgeSeen::Got(bits, left, right, condition, citation, first, count, next);
     }
     EdgeSeen::Bad
 }
@@ -130,17 +92,10 @@ pub fn read_edges(s: &[u8], start: usize, before: usize, headed: bool) -> EdgesR
         if s[at] != 4 {
             break;
         }
-        let EdgeSeen::Got {
-            bits,
-            left,
-            right,
-            condition,
-            citation,
-            first,
-            count,
-            next,
-        } = edge_at(s, at + 1)
-        else {
+        let EdgeSeen::Got(bits, left, right, condition, citation, first, count, next) = edge_at(
+            s,
+            at + 1,
+        ) else {
             return EdgesRead {
                 number: 1,
                 record: k,

@@ -20,44 +20,24 @@ ghost use Rattle.records.specs.Passes.{rawAt, seenBy, Passed, factBits, 
 
 // `first` and `count`: where the tuple stands
 pub enum FactSeen {
-    Got {
-        bits: u8,
-        family: u8,
-        first: usize,
-        count: u8,
-        next: usize,
-    },
+    Got(u8, u8, usize, u8, usize),
     Bad,
 }
 
 pub fn fact_at(s: &[u8], at: usize) -> FactSeen
     ensures { λ r. ⌜ (factRead (now (s .entry)) r ≡ mapRead (seenBy factFrom) (rawAt 2 (now (s .entry)) at)) × factFits (now (s .entry)) r ⌝ }
 {
-    let Field::Got {
-        value: bits,
-        next: p,
-    } = byte_at(s, at, 0, 255)
-    else {
+    let Field::Got(bits, p) = byte_at(s, at, 0, 255) else {
         return FactSeen::Bad;
     };
-    let Field::Got {
-        value: family,
-        next: p0,
-    } = opt_at(s, p, bits % 2 == 1, 0, 255)
-    else {
+    let Field::Got(family, p0) = opt_at(s, p, bits % 2 == 1, 0, 255) else {
         return FactSeen::Bad;
     };
-    let Listed::Got { first, count, next } = list_at(s, p0, bits / 2 % 2 == 1, 4, 63) else {
+    let Listed::Got(first, count, next) = list_at(s, p0, bits / 2 % 2 == 1, 4, 63) else {
         return FactSeen::Bad;
     };
     if bits / 4 == 0 {
-        return FactSeen::Got {
-            bits: bits,
-            family: family,
-            first: first,
-            count: count,
-            next: next,
-        };
+        return FactSeen::Got(bits, family, first, count, next);
     }
     FactSeen::Bad
 }
@@ -104,14 +84,7 @@ pub fn read_facts(s: &[u8], start: usize, before: usize, headed: bool) -> FactsR
         if s[at] != 2 {
             break;
         }
-        let FactSeen::Got {
-            bits,
-            family,
-            first,
-            count,
-            next,
-        } = fact_at(s, at + 1)
-        else {
+        let FactSeen::Got(bits, family, first, count, next) = fact_at(s, at + 1) else {
             return FactsRead {
                 number: 1,
                 record: k,

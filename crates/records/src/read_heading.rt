@@ -10,42 +10,24 @@ ghost use Rattle.records.specs.Readers.{mapRead};
 ghost use Rattle.records.specs.Passes.{rawAt, seenBy, Passed, headingRead, headingFrom, headingsBy, withHeadings};
 
 pub enum HeadingSeen {
-    Got {
-        bits: u8,
-        relation: u8,
-        chain: u8,
-        next: usize,
-    },
+    Got(u8, u8, u8, usize),
     Bad,
 }
 
 pub fn heading_at(s: &[u8], at: usize) -> HeadingSeen
     ensures { λ r. ⌜ headingRead r ≡ mapRead (seenBy headingFrom) (rawAt 1 (now (s .entry)) at) ⌝ }
 {
-    let Field::Got {
-        value: bits,
-        next: p,
-    } = byte_at(s, at, 0, 255)
-    else {
+    let Field::Got(bits, p) = byte_at(s, at, 0, 255) else {
         return HeadingSeen::Bad;
     };
-    let Field::Got {
-        value: relation,
-        next: p0,
-    } = opt_at(s, p, bits % 2 == 1, 0, 255)
-    else {
+    let Field::Got(relation, p0) = opt_at(s, p, bits % 2 == 1, 0, 255) else {
         return HeadingSeen::Bad;
     };
-    let Field::Got { value: chain, next } = opt_at(s, p0, bits / 2 % 2 == 1, 0, 63) else {
+    let Field::Got(chain, next) = opt_at(s, p0, bits / 2 % 2 == 1, 0, 63) else {
         return HeadingSeen::Bad;
     };
     if bits / 4 == 0 {
-        return HeadingSeen::Got {
-            bits: bits,
-            relation: relation,
-            chain: chain,
-            next: next,
-        };
+        return HeadingSeen::Got(bits, relation, chain, next);
     }
     HeadingSeen::Bad
 }
@@ -76,13 +58,7 @@ pub fn read_heading(s: &[u8]) -> HeadingRead
         if s[at] != 1 {
             break;
         }
-        let HeadingSeen::Got {
-            bits,
-            relation: named,
-            chain: cited,
-            next,
-        } = heading_at(s, at + 1)
-        else {
+        let HeadingSeen::Got(bits, named, cited, next) = heading_at(s, at + 1) else {
             return HeadingRead {
                 number: 1,
                 record: k,

@@ -22,79 +22,33 @@ ghost use Rattle.records.specs.Passes.{rawAt, seenBy, Passed, nodeSeen, 
 
 // `ands`, `ors` with their counts: where the children stand
 pub enum NodeSeen {
-    Got {
-        bits: u8,
-        literal: u8,
-        fact: u8,
-        ands: usize,
-        andc: u8,
-        ors: usize,
-        orc: u8,
-        negated: u8,
-        next: usize,
-    },
+    Got(u8, u8, u8, usize, u8, usize, u8, u8, usize),
     Bad,
 }
 
 pub fn node_at(s: &[u8], at: usize) -> NodeSeen
     ensures { λ r. ⌜ (nodeRead (now (s .entry)) r ≡ mapRead (seenBy paper.nodeOf) (rawAt 3 (now (s .entry)) at)) × nodeFits (now (s .entry)) r ⌝ }
 {
-    let Field::Got {
-        value: bits,
-        next: p,
-    } = byte_at(s, at, 0, 255)
-    else {
+    let Field::Got(bits, p) = byte_at(s, at, 0, 255) else {
         return NodeSeen::Bad;
     };
-    let Field::Got {
-        value: literal,
-        next: p0,
-    } = opt_at(s, p, bits % 2 == 1, 0, 1)
-    else {
+    let Field::Got(literal, p0) = opt_at(s, p, bits % 2 == 1, 0, 1) else {
         return NodeSeen::Bad;
     };
-    let Field::Got {
-        value: fact,
-        next: p1,
-    } = opt_at(s, p0, bits / 2 % 2 == 1, 0, 255)
-    else {
+    let Field::Got(fact, p1) = opt_at(s, p0, bits / 2 % 2 == 1, 0, 255) else {
         return NodeSeen::Bad;
     };
-    let Listed::Got {
-        first: ands,
-        count: andc,
-        next: p2,
-    } = list_at(s, p1, bits / 4 % 2 == 1, 16, 255)
-    else {
+    let Listed::Got(ands, andc, p2) = list_at(s, p1, bits / 4 % 2 == 1, 16, 255) else {
         return NodeSeen::Bad;
     };
-    let Listed::Got {
-        first: ors,
-        count: orc,
-        next: p3,
-    } = list_at(s, p2, bits / 8 % 2 == 1, 16, 255)
-    else {
+    let Listed::Got(ors, orc, p3) = list_at(s, p2, bits / 8 % 2 == 1, 16, 255) else {
         return NodeSeen::Bad;
     };
-    let Field::Got {
-        value: negated,
-        next,
-    } = opt_at(s, p3, bits / 16 % 2 == 1, 0, 255)
-    else {
+    let Field::Got(negated, next) = opt_at(s, p3, bits / 16 % 2 == 1, 0, 255) else {
         return NodeSeen::Bad;
     };
     if bits / 32 == 0 {
-        return NodeSeen::Got {
-            bits: bits,
-            literal: literal,
-            fact: fact,
-            ands: ands,
-            andc: andc,
-            ors: ors,
-            orc: orc,
-            negated: negated,
-            next: next,
-        };
+        return NodeSeen::Got(bits, literal, fact, ands, andc, ors, orc, negated, next);
     }
     NodeSeen::Bad
 }
@@ -200,18 +154,10 @@ pub fn read_nodes(s: &[u8], start: usize, before: usize, headed: bool) -> NodesR
         if s[at] != 3 {
             break;
         }
-        let NodeSeen::Got {
-            bits,
-            literal,
-            fact,
-            ands,
-            andc,
-            ors,
-            orc,
-            negated,
-            next,
-        } = node_at(s, at + 1)
-        else {
+        let NodeSeen::Got(bits, literal, fact, ands, andc, ors, orc, negated, next) = node_at(
+            s,
+            at + 1,
+        ) else {
             return NodesRead {
                 number: 1,
                 record: k,

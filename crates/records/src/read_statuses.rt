@@ -13,55 +13,27 @@ ghost use Rattle.records.specs.Readers.{mapRead};
 ghost use Rattle.records.specs.Passes.{rawAt, seenBy, Passed, statusRead, statusFrom, statusesOf, withStatuses};
 
 pub enum StatusSeen {
-    Got {
-        bits: u8,
-        person: u8,
-        condition: u8,
-        citation: u8,
-        next: usize,
-    },
+    Got(u8, u8, u8, u8, usize),
     Bad,
 }
 
 pub fn status_at(s: &[u8], at: usize) -> StatusSeen
     ensures { λ r. ⌜ statusRead r ≡ mapRead (seenBy statusFrom) (rawAt 8 (now (s .entry)) at) ⌝ }
 {
-    let Field::Got {
-        value: bits,
-        next: p,
-    } = byte_at(s, at, 0, 255)
-    else {
+    let Field::Got(bits, p) = byte_at(s, at, 0, 255) else {
         return StatusSeen::Bad;
     };
-    let Field::Got {
-        value: person,
-        next: p0,
-    } = opt_at(s, p, bits % 2 == 1, 0, 63)
-    else {
+    let Field::Got(person, p0) = opt_at(s, p, bits % 2 == 1, 0, 63) else {
         return StatusSeen::Bad;
     };
-    let Field::Got {
-        value: condition,
-        next: p1,
-    } = opt_at(s, p0, bits / 2 % 2 == 1, 0, 255)
-    else {
+    let Field::Got(condition, p1) = opt_at(s, p0, bits / 2 % 2 == 1, 0, 255) else {
         return StatusSeen::Bad;
     };
-    let Field::Got {
-        value: citation,
-        next: next,
-    } = opt_at(s, p1, bits / 4 % 2 == 1, 0, 63)
-    else {
+    let Field::Got(citation, next) = opt_at(s, p1, bits / 4 % 2 == 1, 0, 63) else {
         return StatusSeen::Bad;
     };
     if bits / 8 == 0 {
-        return StatusSeen::Got {
-            bits: bits,
-            person: person,
-            condition: condition,
-            citation: citation,
-            next: next,
-        };
+        return StatusSeen::Got(bits, person, condition, citation, next);
     }
     StatusSeen::Bad
 }
@@ -101,14 +73,7 @@ pub fn read_statuses(s: &[u8], start: usize, before: usize, headed: bool) -> Sta
         if s[at] != 8 {
             break;
         }
-        let StatusSeen::Got {
-            bits,
-            person,
-            condition,
-            citation,
-            next,
-        } = status_at(s, at + 1)
-        else {
+        let StatusSeen::Got(bits, person, condition, citation, next) = status_at(s, at + 1) else {
             return StatusesRead {
                 number: 1,
                 record: k,
