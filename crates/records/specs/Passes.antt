@@ -103,7 +103,7 @@ abbrev pub barFrom : Raw → Bar
 barFrom r = record { members = wide r 0; condition = num r 1; citation = num r 2 }
 
 abbrev pub barRead : BarSeen → Read (Seen Bar)
-barRead (bar.Got bits members condition citation n) = got (record { bits = bits; item = record { members = members; condition = condition; citation = citation } }) n
+barRead (bar.Got bits x n) = got (record { bits = bits; item = decoded.barOf x }) n
 barRead bar.Bad = bad
 
 -- ---- statuses
@@ -118,7 +118,7 @@ abbrev pub statusFrom : Raw → Status
 statusFrom r = record { person = num r 0; condition = num r 1; citation = num r 2 }
 
 abbrev pub statusRead : StatusSeen → Read (Seen Status)
-statusRead (status.Got bits person condition citation n) = got (record { bits = bits; item = record { person = person; condition = condition; citation = citation } }) n
+statusRead (status.Got bits x n) = got (record { bits = bits; item = decoded.statusOf x }) n
 statusRead status.Bad = bad
 
 -- ---- attachments
@@ -130,7 +130,7 @@ abbrev pub attachmentsOf : Attachments → List Attachment
 attachmentsOf x = map decoded.attachmentOf (take (x .count) (x .items))
 
 abbrev pub attachmentRead : AttachmentSeen → Read (Seen Attachment)
-attachmentRead (attachment.Got bits members anchor condition citation actor g f e q c n) = got (record { bits = bits; item = record { members = members; anchor = anchor; condition = condition; citation = citation; actor = actor; election = given g (record { fact = f; actor = e; policy = q; citation = c }) } }) n
+attachmentRead (attachment.Got bits x n) = got (record { bits = bits; item = decoded.attachmentOf x }) n
 attachmentRead attachment.Bad = bad
 
 -- ---- the heading
@@ -201,14 +201,14 @@ abbrev pub cutsOf : Cuts → List Cut
 cutsOf x = map decoded.cutOf (take (x .count) (x .items))
 
 abbrev pub cutRead : List ℕ → CutSeen → Read (Seen Cut)
-cutRead s (cut.Got bits members condition citation g f e q c ps d at k n) =
+cutRead s (cut.Got bits members condition citation e ps d at k n) =
     got (record {
       bits = bits;
       item = record {
         members = members;
         condition = condition;
         citation = citation;
-        election = given g (record { fact = f; actor = e; policy = q; citation = c });
+        election = decoded.electionOf e;
         decisions = decisionsOf (span s ps (d * 2));
         precedes = span s at k;
       };
@@ -216,7 +216,7 @@ cutRead s (cut.Got bits members condition citation g f e q c ps d at k n) =
 cutRead s cut.Bad = bad
 
 abbrev pub cutFits : List ℕ → CutSeen → Type 0
-cutFits s (cut.Got bits members condition citation g f e q c ps d at k n) = (d ≤ 64) × (ps + d * 2 ≤ length s) × (k ≤ 16) × (at + k ≤ length s)
+cutFits s (cut.Got bits members condition citation e ps d at k n) = (d ≤ 64) × (ps + d * 2 ≤ length s) × (k ≤ 16) × (at + k ≤ length s)
 cutFits s cut.Bad = Unit {0}
 
 -- the decisions from number i on

@@ -5,7 +5,7 @@ use Prim.Native.Nat.{ℕ, zero, suc, _+_, _*_, _≤_}
 use lib.ListN.{length, getD}
 use Rattle.records.specs.Fields.{Range, upTo, number, actor, citation, Shape, bytes, list, most, Read, got, bad, fieldAt}
 use Rattle.records.specs.Plan as paper
-use Rattle.records.specs.Decoded.{given}
+use Rattle.records.specs.Decoded.{given, electionOf}
 use Rattle.records.specs.declared.fields.Field.{Field}
 use Rattle.records.specs.declared.fields.Field.the-variants as field
 use Rattle.records.specs.declared.fields.Wide.{Wide}
@@ -59,7 +59,7 @@ shortRead (short.Got v n) = got v n
 shortRead short.Bad = bad
 
 abbrev pub electionRead : Elected → Read (List paper.Election)
-electionRead (elected.Got g f a p c n) = got (given g (record { fact = f; actor = a; policy = p; citation = c })) n
+electionRead (elected.Got e n) = got (electionOf e) n
 electionRead elected.Bad = bad
 
 -- a list of entries of one byte, not more than the most, within the bytes

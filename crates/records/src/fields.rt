@@ -1,4 +1,5 @@
 // Readers of fields by their place: each answers the field's value and the place after it, or that the record is cut short or out of range.
+use crate::plan::Election;
 ghost use mathlib.Core.Path.{_≡_};
 ghost use mathlib.Core.List.{[], _∷_};
 ghost use Prim.Native.Nat.{_+_, _*_, _≤_, _<_};
@@ -6,6 +7,7 @@ ghost use lib.ListN.{length, getD};
 ghost use Rattle.records.specs.Fields.{got, byteAt, bytesAt, bytes, list, most, repeat, upTo, little};
 ghost use Rattle.records.specs.Readers.{fieldRead, wideRead, shortRead, electionRead, listRead, listFits, pairsRead, pairsFit, mapRead, first, isGot, fieldIf, mask, election, span};
 ghost use Rattle.records.specs.Plan.{electionOf};
+ghost use Rattle.records.specs.Decoded as decoded;
 
 pub enum Field {
     Got(u8, usize),
@@ -31,7 +33,7 @@ pub enum Listed {
 }
 
 pub enum Elected {
-    Got(bool, u8, u8, u8, u8, usize),
+    Got(Election, usize),
     Bad,
 }
 
@@ -127,12 +129,24 @@ pub fn short_at(s: &[u8], at: usize, present: bool) -> Short
     Short::Bad
 }
 
+pub fn no_election() -> Election
+    ensures { λ r. ⌜ decoded.electionOf r ≡ [] ⌝ }
+{
+    Election {
+        given: false,
+        fact: 0,
+        actor: 0,
+        policy: 0,
+        citation: 0,
+    }
+}
+
 // the four bytes of an election if its bit stands
 pub fn election_at(s: &[u8], at: usize, present: bool) -> Elected
     ensures { λ r. ⌜ electionRead r ≡ mapRead electionOf (fieldIf present (now (s .entry)) at election) ⌝ }
 {
     if !present {
-        return Elected::Got(false, 0, 0, 0, 0, at);
+        return Elected::Got(no_election(), at);
     }
     let Field::Got(fact, p) = byte_at(s, at, 0, 255) else {
         return Elected::Bad;
@@ -146,7 +160,14 @@ pub fn election_at(s: &[u8], at: usize, present: bool) -> Elected
     let Field::Got(citation, t) = byte_at(s, r, 0, 63) else {
         return Elected::Bad;
     };
-    Elected::Got(true, fact, actor, policy, citation, t)
+    let election = Election {
+        given: true,
+        fact: fact,
+        actor: actor,
+        policy: policy,
+        citation: citation,
+    };
+    Elected::Got(election, t)
 }
 
 // whether n bytes from a place on are there and at most `top`

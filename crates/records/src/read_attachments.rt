@@ -5,11 +5,11 @@ use crate::fields::Wide;
 use crate::fields::byte_at;
 use crate::fields::election_at;
 use crate::fields::mask_at;
+use crate::fields::no_election;
 use crate::fields::opt_at;
 use crate::judge::judged;
 use crate::plan::Attachment;
 use crate::plan::Attachments;
-use crate::plan::Election;
 ghost use mathlib.Core.Path.{_≡_};
 ghost use mathlib.Core.List.{[]};
 ghost use Prim.Native.Nat.{_≤_, _+_};
@@ -18,9 +18,8 @@ ghost use Rattle.records.specs.Plan as paper;
 ghost use Rattle.records.specs.Readers.{mapRead};
 ghost use Rattle.records.specs.Passes.{rawAt, seenBy, Passed, attachmentRead, attachmentsOf, withAttachments};
 
-// `elector` and `source` are the election's actor and citation
 pub enum AttachmentSeen {
-    Got(u8, u64, u8, u8, u8, u8, bool, u8, u8, u8, u8, usize),
+    Got(u8, Attachment, usize),
     Bad,
 }
 
@@ -45,28 +44,19 @@ pub fn attachment_at(s: &[u8], at: usize) -> AttachmentSeen
     let Field::Got(actor, p4) = opt_at(s, p3, bits / 16 % 2 == 1, 1, 255) else {
         return AttachmentSeen::Bad;
     };
-    let Elected::Got(given, fact, elector, policy, source, next) = election_at(
-        s,
-        p4,
-        bits / 32 % 2 == 1,
-    ) else {
+    let Elected::Got(election, next) = election_at(s, p4, bits / 32 % 2 == 1) else {
         return AttachmentSeen::Bad;
     };
     if bits / 64 == 0 {
-        return AttachmentSeen::Got(
-            bits,
-            members,
-            anchor,
-            condition,
-            citation,
-            actor,
-            given,
-            fact,
-            elector,
-            policy,
-            source,
-            next,
-        );
+        let attachment = Attachment {
+            members: members,
+            anchor: anchor,
+            condition: condition,
+            citation: citation,
+            actor: actor,
+            election: election,
+        };
+        return AttachmentSeen::Got(bits, attachment, next);
     }
     AttachmentSeen::Bad
 }
@@ -82,13 +72,7 @@ pub struct AttachmentsRead {
 pub fn no_attachments() -> Attachments
     ensures { λ r. ⌜ (attachmentsOf r ≡ []) × (r .count ≡ 0) × (length (r .items) ≡ 32) ⌝ }
 {
-    let none = Election {
-        given: false,
-        fact: 0,
-        actor: 0,
-        policy: 0,
-        citation: 0,
-    };
+    let none = no_election();
     let blank = Attachment {
         members: 0,
         anchor: 0,
@@ -116,20 +100,7 @@ pub fn read_attachments(s: &[u8], start: usize, before: usize, headed: bool) -> 
         if s[at] != 6 {
             break;
         }
-        let AttachmentSeen::Got(
-            bits,
-            members,
-            anchor,
-            condition,
-            citation,
-            actor,
-            given,
-            fact,
-            elector,
-            policy,
-            source,
-            next,
-        ) = attachment_at(s, at + 1) else {
+        let AttachmentSeen::Got(bits, attachment, next) = attachment_at(s, at + 1) else {
             return AttachmentsRead {
                 number: 1,
                 record: k,
@@ -147,21 +118,7 @@ pub fn read_attachments(s: &[u8], start: usize, before: usize, headed: bool) -> 
                 attachments: attachments,
             };
         }
-        let election = Election {
-            given: given,
-            fact: fact,
-            actor: elector,
-            policy: policy,
-            citation: source,
-        };
-        attachments.items[n] = Attachment {
-            members: members,
-            anchor: anchor,
-            condition: condition,
-            citation: citation,
-            actor: actor,
-            election: election,
-        };
+        attachments.items[n] = attachment;
         attachments.count = n + 1;
         at = next;
         k = k + 1;

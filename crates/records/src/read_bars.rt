@@ -15,7 +15,7 @@ ghost use Rattle.records.specs.Readers.{mapRead};
 ghost use Rattle.records.specs.Passes.{rawAt, seenBy, Passed, barRead, barFrom, barsOf, withBars};
 
 pub enum BarSeen {
-    Got(u8, u64, u8, u8, usize),
+    Got(u8, Bar, usize),
     Bad,
 }
 
@@ -35,7 +35,12 @@ pub fn bar_at(s: &[u8], at: usize) -> BarSeen
         return BarSeen::Bad;
     };
     if bits / 8 == 0 {
-        return BarSeen::Got(bits, members, condition, citation, next);
+        let bar = Bar {
+            members: members,
+            condition: condition,
+            citation: citation,
+        };
+        return BarSeen::Got(bits, bar, next);
     }
     BarSeen::Bad
 }
@@ -75,7 +80,7 @@ pub fn read_bars(s: &[u8], start: usize, before: usize, headed: bool) -> BarsRea
         if s[at] != 7 {
             break;
         }
-        let BarSeen::Got(bits, members, condition, citation, next) = bar_at(s, at + 1) else {
+        let BarSeen::Got(bits, bar, next) = bar_at(s, at + 1) else {
             return BarsRead {
                 number: 1,
                 record: k,
@@ -93,11 +98,7 @@ pub fn read_bars(s: &[u8], start: usize, before: usize, headed: bool) -> BarsRea
                 bars: bars,
             };
         }
-        bars.items[n] = Bar {
-            members: members,
-            condition: condition,
-            citation: citation,
-        };
+        bars.items[n] = bar;
         bars.count = n + 1;
         at = next;
         k = k + 1;

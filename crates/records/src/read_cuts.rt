@@ -9,6 +9,7 @@ use crate::fields::byte_at;
 use crate::fields::election_at;
 use crate::fields::list_at;
 use crate::fields::mask_at;
+use crate::fields::no_election;
 use crate::fields::opt_at;
 use crate::fields::pairs_at;
 use crate::judge::judged;
@@ -30,10 +31,10 @@ ghost use Rattle.records.specs.Plan as paper;
 ghost use Rattle.records.specs.Readers.{mapRead};
 ghost use Rattle.records.specs.Passes.{rawAt, seenBy, Passed, cutRead, cutFits, cutsOf, withCuts};
 
-// `elector` and `source` are the election's actor and citation; `pairs` and `decided`, `first` and `count`: where the decisions and the cuts
+// `pairs` and `decided`, `first` and `count`: where the decisions and the cuts
 // it precedes stand
 pub enum CutSeen {
-    Got(u8, u64, u8, u8, bool, u8, u8, u8, u8, usize, u8, usize, u8, usize),
+    Got(u8, u64, u8, u8, Election, usize, u8, usize, u8, usize),
     Bad,
 }
 
@@ -52,11 +53,7 @@ pub fn cut_at(s: &[u8], at: usize) -> CutSeen
     let Field::Got(citation, p2) = opt_at(s, p1, bits / 4 % 2 == 1, 0, 63) else {
         return CutSeen::Bad;
     };
-    let Elected::Got(given, fact, elector, policy, source, p3) = election_at(
-        s,
-        p2,
-        bits / 8 % 2 == 1,
-    ) else {
+    let Elected::Got(election, p3) = election_at(s, p2, bits / 8 % 2 == 1) else {
         return CutSeen::Bad;
     };
     let Listed::Got(pairs, decided, p4) = pairs_at(s, p3, bits / 16 % 2 == 1, 64, 255, 1, 3) else {
@@ -71,11 +68,7 @@ pub fn cut_at(s: &[u8], at: usize) -> CutSeen
             members,
             condition,
             citation,
-            given,
-            fact,
-            elector,
-            policy,
-            source,
+            election,
             pairs,
             decided,
             first,
@@ -97,13 +90,7 @@ pub struct CutsRead {
 pub fn no_cuts() -> Cuts
     ensures { λ r. ⌜ (cutsOf r ≡ []) × (r .count ≡ 0) × (length (r .items) ≡ 16) ⌝ }
 {
-    let election = Election {
-        given: false,
-        fact: 0,
-        actor: 0,
-        policy: 0,
-        citation: 0,
-    };
+    let election = no_election();
     let decisions = Decisions {
         count: 0,
         edges: [0; 64],
@@ -147,11 +134,7 @@ pub fn read_cuts(s: &[u8], start: usize, before: usize, headed: bool) -> CutsRea
             members,
             condition,
             citation,
-            given,
-            fact,
-            elector,
-            policy,
-            source,
+            election,
             pairs,
             decided,
             first,
@@ -184,13 +167,6 @@ pub fn read_cuts(s: &[u8], start: usize, before: usize, headed: bool) -> CutsRea
                 cuts: cuts,
             };
         }
-        let election = Election {
-            given: given,
-            fact: fact,
-            actor: elector,
-            policy: policy,
-            citation: source,
-        };
         let precedes = numbers_from(s, first, count);
         cuts.items[n] = Cut {
             members: members,

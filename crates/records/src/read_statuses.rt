@@ -13,7 +13,7 @@ ghost use Rattle.records.specs.Readers.{mapRead};
 ghost use Rattle.records.specs.Passes.{rawAt, seenBy, Passed, statusRead, statusFrom, statusesOf, withStatuses};
 
 pub enum StatusSeen {
-    Got(u8, u8, u8, u8, usize),
+    Got(u8, Status, usize),
     Bad,
 }
 
@@ -33,7 +33,12 @@ pub fn status_at(s: &[u8], at: usize) -> StatusSeen
         return StatusSeen::Bad;
     };
     if bits / 8 == 0 {
-        return StatusSeen::Got(bits, person, condition, citation, next);
+        let status = Status {
+            person: person,
+            condition: condition,
+            citation: citation,
+        };
+        return StatusSeen::Got(bits, status, next);
     }
     StatusSeen::Bad
 }
@@ -73,7 +78,7 @@ pub fn read_statuses(s: &[u8], start: usize, before: usize, headed: bool) -> Sta
         if s[at] != 8 {
             break;
         }
-        let StatusSeen::Got(bits, person, condition, citation, next) = status_at(s, at + 1) else {
+        let StatusSeen::Got(bits, status, next) = status_at(s, at + 1) else {
             return StatusesRead {
                 number: 1,
                 record: k,
@@ -91,11 +96,7 @@ pub fn read_statuses(s: &[u8], start: usize, before: usize, headed: bool) -> Sta
                 statuses: statuses,
             };
         }
-        statuses.items[n] = Status {
-            person: person,
-            condition: condition,
-            citation: citation,
-        };
+        statuses.items[n] = status;
         statuses.count = n + 1;
         at = next;
         k = k + 1;

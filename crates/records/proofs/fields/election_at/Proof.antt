@@ -2,6 +2,7 @@
 use borrow.Author.Tests.{not-true, not-false}
 use Rattle.records.specs.Fields.{fieldAt, bytesAt}
 use Rattle.records.specs.Plan.{electionOf}
+use Rattle.records.specs.Decoded as decoded
 use Rattle.records.specs.Readers.{fieldRead}
 use Rattle.records.proofs.Reading.{seen}
 use borrow.Author.Needs.{needs}
@@ -10,9 +11,12 @@ use Rattle.records.proofs.fields.election_at.Tie as tie
 use Rattle.records.proofs.fields.election_at.Reads as reads
 use Rattle.records.proofs.fields.election_at.Lts as lts
 
+no-election-requires : tie.Need-no-election-requires
+no-election-requires c κs = search needs
+
 returns : tie.Need-returns
 unfolding electionOf
-returns c = rw (not-true (c .before .before .args .present) (c .if1 .taken))
+returns c = rw (not-true (c .before .before .before .args .present) (c .before .if1 .taken), c .no-election .ensures)
 
 byte-at-requires : tie.Need-byte-at-requires
 byte-at-requires c κs = search needs
@@ -67,13 +71,14 @@ unfolding fieldAt bytesAt electionOf
 returns-5 c = rw (not-false (c .before .before .before .before .before .before .before .before .before .before .before .before .before .before .before .before .before .args .present) (c .before .before .before .before .before .before .before .before .before .before .before .before .before .before .before .if1 .left), seen fieldRead (c .before .before .before .before .before .before .before .before .before .before .before .before .before .before .byte-at .ensures) (c .before .before .before .before .before .before .before .before .before .before .before .before .fact .given .1), seen fieldRead (c .before .before .before .before .before .before .before .before .before .before .byte-at2 .ensures) (c .before .before .before .before .before .before .before .before .actor .given .1), seen fieldRead (c .before .before .before .before .before .before .byte-at3 .ensures) (c .before .before .before .before .policy .given .1), seen fieldRead (c .before .before .byte-at4 .ensures) (c .enum-told4 .given .1))
 
 returns-6 : tie.Need-returns-6
-unfolding fieldAt bytesAt electionOf
+unfolding fieldAt bytesAt electionOf decoded.electionOf
 returns-6 c = rw (not-false (c .before .before .before .before .before .before .before .before .before .before .before .before .before .before .before .before .before .before .args .present) (c .before .before .before .before .before .before .before .before .before .before .before .before .before .before .before .before .if1 .left), seen fieldRead (c .before .before .before .before .before .before .before .before .before .before .before .before .before .before .before .byte-at .ensures) (c .before .before .before .before .before .before .before .before .before .before .before .before .before .fact .given .1), seen fieldRead (c .before .before .before .before .before .before .before .before .before .before .before .byte-at2 .ensures) (c .before .before .before .before .before .before .before .before .before .actor .given .1), seen fieldRead (c .before .before .before .before .before .before .before .byte-at3 .ensures) (c .before .before .before .before .before .policy .given .1), seen fieldRead (c .before .before .before .byte-at4 .ensures) (c .before .citation .given .1))
 
 pub election-at-spec : {M : Type 1} → statement M
 election-at-spec =
     tie.close
     (tie.spec
+    no-election-requires
     returns
     byte-at-requires
     enum-known-fact

@@ -3,6 +3,7 @@ use mathlib.Core.Path.{refl, sym, ap}
 use denote.Ref.{now}
 use Rattle.records.specs.Fields.{little}
 use Rattle.records.specs.Plan as paper
+use Rattle.records.specs.Decoded.{attachmentOf}
 use Rattle.records.specs.Readers.{fieldRead, wideRead, electionRead, mapRead, first}
 use Rattle.records.specs.Passes.{seenBy}
 use Rattle.records.proofs.Reading.{seen, found, none}
@@ -113,8 +114,8 @@ returns-6 c =
 election-at-requires : tie.Need-election-at-requires
 election-at-requires c κs = search needs
 
-enum-known-given : tie.Need-enum-known-given
-enum-known-given c = search needs
+enum-known-election : tie.Need-enum-known-election
+enum-known-election c = search needs
 
 enum-told-7 : tie.Need-enum-told-7
 enum-told-7 c = search needs
@@ -131,7 +132,7 @@ returns-7 c =
     (stop _ _ _ _ (half-of _ 32) _ _ (none paper.electionOf _ (seen electionRead (c .before .before .election-at .ensures) (c .enum-told7 .given .1)))))))))))
 
 returns-8 : tie.Need-returns-8
-unfolding paper.planFormats
+unfolding paper.planFormats attachmentOf
 returns-8 c =
     rw (
       raw-got 6 (now (c .before .before .before .before .before .before .before .before .before .before .before .before .before .before .before .before .before .before .before .before .before .before .before .before .before .before .before .before .before .before .args .s)) (c .before .before .before .before .before .before .before .before .before .before .before .before .before .before .before .before .before .before .before .before .before .before .before .before .before .before .before .before .before .before .args .at) (seen fieldRead (c .before .before .before .before .before .before .before .before .before .before .before .before .before .before .before .before .before .before .before .before .before .before .before .before .before .before .before .before .byte-at .ensures) (c .before .before .before .before .before .before .before .before .before .before .before .before .before .before .before .before .before .before .before .before .before .before .before .before .before .before .bits .given .1))
@@ -140,14 +141,14 @@ returns-8 c =
           (more _ _ _ _ (half-of _ 4) _ _ (found first _ (seen fieldRead (c .before .before .before .before .before .before .before .before .before .before .before .before .before .before .before .before .opt-at2 .ensures) (c .before .before .before .before .before .before .before .before .before .before .before .before .before .before .condition .given .1)) .is)
           (more _ _ _ _ (half-of _ 8) _ _ (found first _ (seen fieldRead (c .before .before .before .before .before .before .before .before .before .before .before .before .opt-at3 .ensures) (c .before .before .before .before .before .before .before .before .before .before .citation .given .1)) .is)
           (more _ _ _ _ (half-of _ 16) _ _ (found first _ (seen fieldRead (c .before .before .before .before .before .before .before .before .opt-at4 .ensures) (c .before .before .before .before .before .before .actor .given .1)) .is)
-          (more _ _ _ _ (half-of _ 32) _ _ (found paper.electionOf _ (seen electionRead (c .before .before .before .before .election-at .ensures) (c .before .before .given .given .1)) .is)
+          (more _ _ _ _ (half-of _ 32) _ _ (found paper.electionOf _ (seen electionRead (c .before .before .before .before .election-at .ensures) (c .before .before .election .given .1)) .is)
           (last _ _ _ (c .if1 .taken)))))))),
       found little _ (seen wideRead (c .before .before .before .before .before .before .before .before .before .before .before .before .before .before .before .before .before .before .before .before .before .before .before .before .mask-at .ensures) (c .before .before .before .before .before .before .before .before .before .before .before .before .before .before .before .before .before .before .before .before .before .before .members .given .1)) .means,
       found first _ (seen fieldRead (c .before .before .before .before .before .before .before .before .before .before .before .before .before .before .before .before .before .before .before .before .opt-at .ensures) (c .before .before .before .before .before .before .before .before .before .before .before .before .before .before .before .before .before .before .anchor .given .1)) .means,
       found first _ (seen fieldRead (c .before .before .before .before .before .before .before .before .before .before .before .before .before .before .before .before .opt-at2 .ensures) (c .before .before .before .before .before .before .before .before .before .before .before .before .before .before .condition .given .1)) .means,
       found first _ (seen fieldRead (c .before .before .before .before .before .before .before .before .before .before .before .before .opt-at3 .ensures) (c .before .before .before .before .before .before .before .before .before .before .citation .given .1)) .means,
       found first _ (seen fieldRead (c .before .before .before .before .before .before .before .before .opt-at4 .ensures) (c .before .before .before .before .before .before .actor .given .1)) .means,
-      found paper.electionOf _ (seen electionRead (c .before .before .before .before .election-at .ensures) (c .before .before .given .given .1)) .means,
+      found paper.electionOf _ (seen electionRead (c .before .before .before .before .election-at .ensures) (c .before .before .election .given .1)) .means,
     )
 
 returns-9 : tie.Need-returns-9
@@ -159,7 +160,7 @@ returns-9 c =
     (skip _ _ _ _ (half-of _ 4) _ _ (found first _ (seen fieldRead (c .before .before .before .before .before .before .before .before .before .before .before .before .before .before .before .before .opt-at2 .ensures) (c .before .before .before .before .before .before .before .before .before .before .before .before .before .before .condition .given .1)) .is)
     (skip _ _ _ _ (half-of _ 8) _ _ (found first _ (seen fieldRead (c .before .before .before .before .before .before .before .before .before .before .before .before .opt-at3 .ensures) (c .before .before .before .before .before .before .before .before .before .before .citation .given .1)) .is)
     (skip _ _ _ _ (half-of _ 16) _ _ (found first _ (seen fieldRead (c .before .before .before .before .before .before .before .before .opt-at4 .ensures) (c .before .before .before .before .before .before .actor .given .1)) .is)
-    (skip _ _ _ _ (half-of _ 32) _ _ (found paper.electionOf _ (seen electionRead (c .before .before .before .before .election-at .ensures) (c .before .before .given .given .1)) .is)
+    (skip _ _ _ _ (half-of _ 32) _ _ (found paper.electionOf _ (seen electionRead (c .before .before .before .before .election-at .ensures) (c .before .before .election .given .1)) .is)
     (unknown _ _ _ (c .if1 .left))))))))))
 
 pub attachment-at-spec : {M : Type 1} → statement M
@@ -191,7 +192,7 @@ attachment-at-spec =
     enum-told-6
     returns-6
     election-at-requires
-    enum-known-given
+    enum-known-election
     enum-told-7
     returns-7
     returns-8

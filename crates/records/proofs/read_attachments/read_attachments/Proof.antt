@@ -6,7 +6,7 @@ use native.Mathlib.Omega.{arith}
 use denote.Ref.{now}
 use lib.ListN.{length, length-set}
 use Rattle.records.specs.Fields as fields
-use Rattle.records.specs.Decoded.{attachmentOf, electionOf}
+use Rattle.records.specs.Decoded.{attachmentOf}
 use Rattle.records.specs.Passes.{attachmentsOf, attachmentRead}
 use Rattle.records.proofs.LoopLaws.{length-made}
 use Rattle.records.proofs.Reading.{seen}
@@ -64,11 +64,11 @@ returns-2 c =
     let j = judge-same 32 (l .count) (length (attachmentsOf l)) false false _ (fields.needs 31 (c .before .before .before .bits .given .0 .0)) (c .before .before .before .before .before .before .before .before .before .before .before .before .args .headed) true true (c .before .judged .ensures .0) (length-made attachmentOf (l .items) (l .count) (omega (arith, i .1, i .2))) refl (needs-test (c .before .before .before .bits .given .0 .0) 31) refl in
     (refused-judged attachmentKind _ _ _ _ (i .3) (i .0) (c .before .before .before .before .before .before .before .before .loop-test .taken) (c .before .before .before .before .before .before .if1 .left) tt (seen attachmentRead (c .before .before .before .before .before .attachment-at .ensures) (c .before .before .before .bits .given .1)) _ j (c .if2 .taken), i .0)
 
-mul-t24 : tie.Need-mul-t24 Inv-loop μ-loop
-mul-t24 c = search needs
+mul-attachment : tie.Need-mul-attachment Inv-loop μ-loop
+mul-attachment c = search needs
 
-element-set-from-attachments : tie.Need-element-set-from-attachments Inv-loop μ-loop
-element-set-from-attachments c = let h = c .before .judged .ensures .1 (c .if2 .left) in search (needs, h)
+element-set-from-attachment : tie.Need-element-set-from-attachment Inv-loop μ-loop
+element-set-from-attachment c = let h = c .before .judged .ensures .1 (c .if2 .left) in search (needs, h)
 
 add-attachments : tie.Need-add-attachments Inv-loop μ-loop
 add-attachments c = let h = c .before .judged .ensures .1 (c .if2 .left) in search (needs, h)
@@ -83,7 +83,6 @@ loop-less c =
     omega (arith, z)
 
 loop-again : tie.Need-loop-again Inv-loop μ-loop
-unfolding attachmentOf electionOf
 loop-again c =
     let i = c .before .before .before .before .before .before .before .before .before .loop .inv in
     let l = c .before .before .before .before .before .before .before .before .before .loop .attachments in
@@ -124,8 +123,8 @@ read-attachments-spec =
     returns
     judged-requires
     returns-2
-    mul-t24
-    element-set-from-attachments
+    mul-attachment
+    element-set-from-attachment
     add-attachments
     add-k
     loop-less

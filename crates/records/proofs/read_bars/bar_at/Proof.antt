@@ -3,6 +3,7 @@ use mathlib.Core.Path.{refl, sym, ap}
 use denote.Ref.{now}
 use Rattle.records.specs.Fields.{little}
 use Rattle.records.specs.Plan as paper
+use Rattle.records.specs.Decoded.{barOf}
 use Rattle.records.specs.Readers.{fieldRead, wideRead, mapRead, first}
 use Rattle.records.specs.Passes.{seenBy, barFrom}
 use Rattle.records.proofs.Reading.{seen, found, none}
@@ -74,7 +75,7 @@ returns-4 c =
     (stop _ _ _ _ (half-of _ 4) _ _ (none first _ (seen fieldRead (c .before .before .opt-at2 .ensures) (c .enum-told4 .given .1))))))))
 
 returns-5 : tie.Need-returns-5
-unfolding paper.planFormats
+unfolding paper.planFormats barOf
 returns-5 c =
     rw (
       raw-got 7 (now (c .before .before .before .before .before .before .before .before .before .before .before .before .before .before .before .before .before .before .args .s)) (c .before .before .before .before .before .before .before .before .before .before .before .before .before .before .before .before .before .before .args .at) (seen fieldRead (c .before .before .before .before .before .before .before .before .before .before .before .before .before .before .before .before .byte-at .ensures) (c .before .before .before .before .before .before .before .before .before .before .before .before .before .before .bits .given .1))

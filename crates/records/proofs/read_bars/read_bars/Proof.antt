@@ -64,11 +64,11 @@ returns-2 c =
     let j = judge-same 32 (l .count) (length (barsOf l)) false false _ (fields.needs 7 (c .before .before .before .bits .given .0 .0)) (c .before .before .before .before .before .before .before .before .before .before .before .before .args .headed) true true (c .before .judged .ensures .0) (length-made barOf (l .items) (l .count) (omega (arith, i .1, i .2))) refl (needs-test (c .before .before .before .bits .given .0 .0) 7) refl in
     (refused-judged barKind _ _ _ _ (i .3) (i .0) (c .before .before .before .before .before .before .before .before .loop-test .taken) (c .before .before .before .before .before .before .if1 .left) tt (seen barRead (c .before .before .before .before .before .bar-at .ensures) (c .before .before .before .bits .given .1)) _ j (c .if2 .taken), i .0)
 
-mul-t16 : tie.Need-mul-t16 Inv-loop μ-loop
-mul-t16 c = search needs
+mul-bar : tie.Need-mul-bar Inv-loop μ-loop
+mul-bar c = search needs
 
-element-set-from-bars : tie.Need-element-set-from-bars Inv-loop μ-loop
-element-set-from-bars c = let h = c .before .judged .ensures .1 (c .if2 .left) in search (needs, h)
+element-set-from-bar : tie.Need-element-set-from-bar Inv-loop μ-loop
+element-set-from-bar c = let h = c .before .judged .ensures .1 (c .if2 .left) in search (needs, h)
 
 add-bars : tie.Need-add-bars Inv-loop μ-loop
 add-bars c = let h = c .before .judged .ensures .1 (c .if2 .left) in search (needs, h)
@@ -83,7 +83,6 @@ loop-less c =
     omega (arith, z)
 
 loop-again : tie.Need-loop-again Inv-loop μ-loop
-unfolding barOf
 loop-again c =
     let i = c .before .before .before .before .before .before .before .before .before .loop .inv in
     let l = c .before .before .before .before .before .before .before .before .before .loop .bars in
@@ -124,8 +123,8 @@ read-bars-spec =
     returns
     judged-requires
     returns-2
-    mul-t16
-    element-set-from-bars
+    mul-bar
+    element-set-from-bar
     add-bars
     add-k
     loop-less

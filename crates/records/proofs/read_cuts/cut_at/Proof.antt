@@ -82,8 +82,8 @@ returns-4 c = (
 election-at-requires : tie.Need-election-at-requires
 election-at-requires c κs = search needs
 
-enum-known-given : tie.Need-enum-known-given
-enum-known-given c = search needs
+enum-known-election : tie.Need-enum-known-election
+enum-known-election c = search needs
 
 enum-told-5 : tie.Need-enum-told-5
 enum-told-5 c = search needs
@@ -115,7 +115,7 @@ returns-6 c = (
       (skip _ _ _ _ refl _ _ (found little _ (seen wideRead (c .before .before .before .before .before .before .before .before .before .before .before .before .before .before .before .before .before .before .mask-at .ensures) (c .before .before .before .before .before .before .before .before .before .before .before .before .before .before .before .before .members .given .1)) .is)
       (skip _ _ _ _ (half-of _ 2) _ _ (found first _ (seen fieldRead (c .before .before .before .before .before .before .before .before .before .before .before .before .before .before .opt-at .ensures) (c .before .before .before .before .before .before .before .before .before .before .before .before .condition .given .1)) .is)
       (skip _ _ _ _ (half-of _ 4) _ _ (found first _ (seen fieldRead (c .before .before .before .before .before .before .before .before .before .before .opt-at2 .ensures) (c .before .before .before .before .before .before .before .before .citation .given .1)) .is)
-      (skip _ _ _ _ (half-of _ 8) _ _ (found paper.electionOf _ (seen electionRead (c .before .before .before .before .before .before .election-at .ensures) (c .before .before .before .before .given .given .1)) .is)
+      (skip _ _ _ _ (half-of _ 8) _ _ (found paper.electionOf _ (seen electionRead (c .before .before .before .before .before .before .election-at .ensures) (c .before .before .before .before .election .given .1)) .is)
       (stop _ _ _ _ (half-of _ 16) _ _ (seen (pairsRead (now (c .before .before .before .before .before .before .before .before .before .before .before .before .before .before .before .before .before .before .before .before .before .before .before .before .args .s))) (c .before .before .pairs-at .ensures .0) (c .enum-told6 .given .1))))))))),
   tt,
 )
@@ -136,7 +136,7 @@ returns-7 c = (
       (skip _ _ _ _ refl _ _ (found little _ (seen wideRead (c .before .before .before .before .before .before .before .before .before .before .before .before .before .before .before .before .before .before .before .before .before .before .mask-at .ensures) (c .before .before .before .before .before .before .before .before .before .before .before .before .before .before .before .before .before .before .before .before .members .given .1)) .is)
       (skip _ _ _ _ (half-of _ 2) _ _ (found first _ (seen fieldRead (c .before .before .before .before .before .before .before .before .before .before .before .before .before .before .before .before .before .before .opt-at .ensures) (c .before .before .before .before .before .before .before .before .before .before .before .before .before .before .before .before .condition .given .1)) .is)
       (skip _ _ _ _ (half-of _ 4) _ _ (found first _ (seen fieldRead (c .before .before .before .before .before .before .before .before .before .before .before .before .before .before .opt-at2 .ensures) (c .before .before .before .before .before .before .before .before .before .before .before .before .citation .given .1)) .is)
-      (skip _ _ _ _ (half-of _ 8) _ _ (found paper.electionOf _ (seen electionRead (c .before .before .before .before .before .before .before .before .before .before .election-at .ensures) (c .before .before .before .before .before .before .before .before .given .given .1)) .is)
+      (skip _ _ _ _ (half-of _ 8) _ _ (found paper.electionOf _ (seen electionRead (c .before .before .before .before .before .before .before .before .before .before .election-at .ensures) (c .before .before .before .before .before .before .before .before .election .given .1)) .is)
       (skip _ _ _ _ (half-of _ 16) _ _ (seen (pairsRead (now (c .before .before .before .before .before .before .before .before .before .before .before .before .before .before .before .before .before .before .before .before .before .before .before .before .before .before .before .before .args .s))) (c .before .before .before .before .before .before .pairs-at .ensures .0) (c .before .before .before .before .pairs .given .1))
       (stop _ _ _ _ (half-of _ 32) _ _ (seen (listRead (now (c .before .before .before .before .before .before .before .before .before .before .before .before .before .before .before .before .before .before .before .before .before .before .before .before .before .before .before .before .args .s))) (c .before .before .list-at .ensures .0) (c .enum-told7 .given .1)))))))))),
   tt,
@@ -152,14 +152,14 @@ returns-8 c =
             (more _ _ _ _ refl _ _ (found little _ (seen wideRead (c .before .before .before .before .before .before .before .before .before .before .before .before .before .before .before .before .before .before .before .before .before .before .before .before .mask-at .ensures) (c .before .before .before .before .before .before .before .before .before .before .before .before .before .before .before .before .before .before .before .before .before .before .members .given .1)) .is)
             (more _ _ _ _ (half-of _ 2) _ _ (found first _ (seen fieldRead (c .before .before .before .before .before .before .before .before .before .before .before .before .before .before .before .before .before .before .before .before .opt-at .ensures) (c .before .before .before .before .before .before .before .before .before .before .before .before .before .before .before .before .before .before .condition .given .1)) .is)
             (more _ _ _ _ (half-of _ 4) _ _ (found first _ (seen fieldRead (c .before .before .before .before .before .before .before .before .before .before .before .before .before .before .before .before .opt-at2 .ensures) (c .before .before .before .before .before .before .before .before .before .before .before .before .before .before .citation .given .1)) .is)
-            (more _ _ _ _ (half-of _ 8) _ _ (found paper.electionOf _ (seen electionRead (c .before .before .before .before .before .before .before .before .before .before .before .before .election-at .ensures) (c .before .before .before .before .before .before .before .before .before .before .given .given .1)) .is)
+            (more _ _ _ _ (half-of _ 8) _ _ (found paper.electionOf _ (seen electionRead (c .before .before .before .before .before .before .before .before .before .before .before .before .election-at .ensures) (c .before .before .before .before .before .before .before .before .before .before .election .given .1)) .is)
             (more _ _ _ _ (half-of _ 16) _ _ (seen (pairsRead (now (c .before .before .before .before .before .before .before .before .before .before .before .before .before .before .before .before .before .before .before .before .before .before .before .before .before .before .before .before .before .before .args .s))) (c .before .before .before .before .before .before .before .before .pairs-at .ensures .0) (c .before .before .before .before .before .before .pairs .given .1))
             (more _ _ _ _ (half-of _ 32) _ _ (seen (listRead (now (c .before .before .before .before .before .before .before .before .before .before .before .before .before .before .before .before .before .before .before .before .before .before .before .before .before .before .before .before .before .before .args .s))) (c .before .before .before .before .list-at .ensures .0) (c .before .before .first .given .1))
             (last _ _ _ (c .if1 .taken)))))))),
         found little _ (seen wideRead (c .before .before .before .before .before .before .before .before .before .before .before .before .before .before .before .before .before .before .before .before .before .before .before .before .mask-at .ensures) (c .before .before .before .before .before .before .before .before .before .before .before .before .before .before .before .before .before .before .before .before .before .before .members .given .1)) .means,
         found first _ (seen fieldRead (c .before .before .before .before .before .before .before .before .before .before .before .before .before .before .before .before .before .before .before .before .opt-at .ensures) (c .before .before .before .before .before .before .before .before .before .before .before .before .before .before .before .before .before .before .condition .given .1)) .means,
         found first _ (seen fieldRead (c .before .before .before .before .before .before .before .before .before .before .before .before .before .before .before .before .opt-at2 .ensures) (c .before .before .before .before .before .before .before .before .before .before .before .before .before .before .citation .given .1)) .means,
-        found paper.electionOf _ (seen electionRead (c .before .before .before .before .before .before .before .before .before .before .before .before .election-at .ensures) (c .before .before .before .before .before .before .before .before .before .before .given .given .1)) .means,
+        found paper.electionOf _ (seen electionRead (c .before .before .before .before .before .before .before .before .before .before .before .before .election-at .ensures) (c .before .before .before .before .before .before .before .before .before .before .election .given .1)) .means,
       ),
       (f0 .0, f0 .1, f1 .0, f1 .1),
     )
@@ -171,7 +171,7 @@ returns-9 c = (
       (skip _ _ _ _ refl _ _ (found little _ (seen wideRead (c .before .before .before .before .before .before .before .before .before .before .before .before .before .before .before .before .before .before .before .before .before .before .before .before .mask-at .ensures) (c .before .before .before .before .before .before .before .before .before .before .before .before .before .before .before .before .before .before .before .before .before .before .members .given .1)) .is)
       (skip _ _ _ _ (half-of _ 2) _ _ (found first _ (seen fieldRead (c .before .before .before .before .before .before .before .before .before .before .before .before .before .before .before .before .before .before .before .before .opt-at .ensures) (c .before .before .before .before .before .before .before .before .before .before .before .before .before .before .before .before .before .before .condition .given .1)) .is)
       (skip _ _ _ _ (half-of _ 4) _ _ (found first _ (seen fieldRead (c .before .before .before .before .before .before .before .before .before .before .before .before .before .before .before .before .opt-at2 .ensures) (c .before .before .before .before .before .before .before .before .before .before .before .before .before .before .citation .given .1)) .is)
-      (skip _ _ _ _ (half-of _ 8) _ _ (found paper.electionOf _ (seen electionRead (c .before .before .before .before .before .before .before .before .before .before .before .before .election-at .ensures) (c .before .before .before .before .before .before .before .before .before .before .given .given .1)) .is)
+      (skip _ _ _ _ (half-of _ 8) _ _ (found paper.electionOf _ (seen electionRead (c .before .before .before .before .before .before .before .before .before .before .before .before .election-at .ensures) (c .before .before .before .before .before .before .before .before .before .before .election .given .1)) .is)
       (skip _ _ _ _ (half-of _ 16) _ _ (seen (pairsRead (now (c .before .before .before .before .before .before .before .before .before .before .before .before .before .before .before .before .before .before .before .before .before .before .before .before .before .before .before .before .before .before .args .s))) (c .before .before .before .before .before .before .before .before .pairs-at .ensures .0) (c .before .before .before .before .before .before .pairs .given .1))
       (skip _ _ _ _ (half-of _ 32) _ _ (seen (listRead (now (c .before .before .before .before .before .before .before .before .before .before .before .before .before .before .before .before .before .before .before .before .before .before .before .before .before .before .before .before .before .before .args .s))) (c .before .before .before .before .list-at .ensures .0) (c .before .before .first .given .1))
       (unknown _ _ _ (c .if1 .left)))))))))),
@@ -199,7 +199,7 @@ cut-at-spec =
     enum-told-4
     returns-4
     election-at-requires
-    enum-known-given
+    enum-known-election
     enum-told-5
     returns-5
     pairs-at-requires

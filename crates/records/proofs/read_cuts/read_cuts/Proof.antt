@@ -10,7 +10,7 @@ use lib.Dec.{eqb, ltb}
 use lib.ListN.{length, length-set}
 use borrow.Author.Tests.{le-ltb, ltb-false}
 use Rattle.records.specs.Sets.{allOf}
-use Rattle.records.specs.Decoded.{cutOf, electionOf}
+use Rattle.records.specs.Decoded.{cutOf}
 use Rattle.records.specs.Passes.{cutRead, cutsOf}
 use Rattle.records.proofs.LoopLaws.{length-made}
 use Rattle.records.proofs.Reading.{seen}
@@ -107,8 +107,8 @@ returns-2 c =
 numbers-from-requires : tie.Need-numbers-from-requires Inv-loop μ-loop
 numbers-from-requires c κs = let f = rw (c .before .before .before .before .before .before .bits .given .1) at (c .before .before .before .before .before .before .before .before .cut-at .ensures .1) in (f .2, f .3)
 
-mul-t30 : tie.Need-mul-t30 Inv-loop μ-loop
-mul-t30 c = search needs
+mul-t25 : tie.Need-mul-t25 Inv-loop μ-loop
+mul-t25 c = search needs
 
 element-set-from-cuts : tie.Need-element-set-from-cuts Inv-loop μ-loop
 element-set-from-cuts c = let h = c .before .before .judged .ensures .1 (c .before .if2 .left) in search (needs, h)
@@ -126,7 +126,6 @@ loop-less c =
     omega (arith, z)
 
 loop-again : tie.Need-loop-again Inv-loop μ-loop
-unfolding electionOf
 loop-again c =
     let l = c .before .before .before .before .before .before .before .before .before .before .before .before .before .loop .cuts in
     let i = c .before .before .before .before .before .before .before .before .before .before .before .before .before .loop .inv in
@@ -142,7 +141,7 @@ loop-again c =
     let over = not-over 16 (l .count) (ltb 16 (c .before .before .before .before .before .before .before .before .before .before .before .before .before .loop .pending + c .before .before .before .before .unresolved-in .result)) (eqb (bitAnd b 7) 7 && c .before .before .before .before .before .before .before .before .before .before .before .before .before .before .before .before .args .headed) (c .before .before .before .decided-once .result) q in
     let sound = is-sound 16 (l .count) (ltb 16 (c .before .before .before .before .before .before .before .before .before .before .before .before .before .loop .pending + c .before .before .before .before .unresolved-in .result)) (eqb (bitAnd b 7) 7 && c .before .before .before .before .before .before .before .before .before .before .before .before .before .before .before .before .args .headed) (c .before .before .before .decided-once .result) q in
     let more = made-more cutOf (l .items) (l .count) _ (omega (arith, i .2, h)) ∙ ap (λ (y : paper.Cut). cutsOf l ++ (y ∷ []))
-    (cut-is (c .before .before .before .before .before .before .before .bits .given .0 .1 .0) (c .before .before .before .before .before .before .before .bits .given .0 .1 .1 .0) (c .before .before .before .before .before .before .before .bits .given .0 .1 .1 .1 .0) (record { given = (c .before .before .before .before .before .before .before .bits .given .0 .1 .1 .1 .1 .0); fact = (c .before .before .before .before .before .before .before .bits .given .0 .1 .1 .1 .1 .1 .0); actor = (c .before .before .before .before .before .before .before .bits .given .0 .1 .1 .1 .1 .1 .1 .0); policy = (c .before .before .before .before .before .before .before .bits .given .0 .1 .1 .1 .1 .1 .1 .1 .0); citation = (c .before .before .before .before .before .before .before .bits .given .0 .1 .1 .1 .1 .1 .1 .1 .1 .0) }) (c .before .before .before .before .before .decisions-from .result) (c .numbers-from .result) (c .before .before .before .before .before .decisions-from .ensures .0) (c .numbers-from .ensures)) in (
+    (cut-is (c .before .before .before .before .before .before .before .bits .given .0 .1 .0) (c .before .before .before .before .before .before .before .bits .given .0 .1 .1 .0) (c .before .before .before .before .before .before .before .bits .given .0 .1 .1 .1 .0) (c .before .before .before .before .before .before .before .bits .given .0 .1 .1 .1 .1 .0) (c .before .before .before .before .before .decisions-from .result) (c .numbers-from .result) (c .before .before .before .before .before .decisions-from .ensures .0) (c .numbers-from .ensures)) in (
       omega (arith, z),
       omega (arith, h),
       rw length-set (i .2),
@@ -183,7 +182,7 @@ read-cuts-spec =
     judged-requires
     returns-2
     numbers-from-requires
-    mul-t30
+    mul-t25
     element-set-from-cuts
     add-cuts
     add-k

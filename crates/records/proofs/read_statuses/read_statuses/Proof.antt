@@ -64,11 +64,11 @@ returns-2 c =
     let j = judge-same 32 (l .count) (length (statusesOf l)) false false _ (fields.needs 7 (c .before .before .before .bits .given .0 .0)) (c .before .before .before .before .before .before .before .before .before .before .before .before .args .headed) true true (c .before .judged .ensures .0) (length-made statusOf (l .items) (l .count) (omega (arith, i .1, i .2))) refl (needs-test (c .before .before .before .bits .given .0 .0) 7) refl in
     (refused-judged statusKind _ _ _ _ (i .3) (i .0) (c .before .before .before .before .before .before .before .before .loop-test .taken) (c .before .before .before .before .before .before .if1 .left) tt (seen statusRead (c .before .before .before .before .before .status-at .ensures) (c .before .before .before .bits .given .1)) _ j (c .if2 .taken), i .0)
 
-mul-t16 : tie.Need-mul-t16 Inv-loop μ-loop
-mul-t16 c = search needs
+mul-status : tie.Need-mul-status Inv-loop μ-loop
+mul-status c = search needs
 
-element-set-from-statuses : tie.Need-element-set-from-statuses Inv-loop μ-loop
-element-set-from-statuses c = let h = c .before .judged .ensures .1 (c .if2 .left) in search (needs, h)
+element-set-from-status : tie.Need-element-set-from-status Inv-loop μ-loop
+element-set-from-status c = let h = c .before .judged .ensures .1 (c .if2 .left) in search (needs, h)
 
 add-statuses : tie.Need-add-statuses Inv-loop μ-loop
 add-statuses c = let h = c .before .judged .ensures .1 (c .if2 .left) in search (needs, h)
@@ -83,7 +83,6 @@ loop-less c =
     omega (arith, z)
 
 loop-again : tie.Need-loop-again Inv-loop μ-loop
-unfolding statusOf
 loop-again c =
     let i = c .before .before .before .before .before .before .before .before .before .loop .inv in
     let l = c .before .before .before .before .before .before .before .before .before .loop .statuses in
@@ -124,8 +123,8 @@ read-statuses-spec =
     returns
     judged-requires
     returns-2
-    mul-t16
-    element-set-from-statuses
+    mul-status
+    element-set-from-status
     add-statuses
     add-k
     loop-less

@@ -2,6 +2,7 @@
 use mathlib.Core.Path.{refl, sym, ap}
 use denote.Ref.{now}
 use Rattle.records.specs.Plan as paper
+use Rattle.records.specs.Decoded.{statusOf}
 use Rattle.records.specs.Readers.{fieldRead, mapRead, first}
 use Rattle.records.specs.Passes.{seenBy, statusFrom}
 use Rattle.records.proofs.Reading.{seen, found, none}
@@ -73,7 +74,7 @@ returns-4 c =
     (stop _ _ _ _ (half-of _ 4) _ _ (none first _ (seen fieldRead (c .before .before .opt-at3 .ensures) (c .enum-told4 .given .1))))))))
 
 returns-5 : tie.Need-returns-5
-unfolding paper.planFormats
+unfolding paper.planFormats statusOf
 returns-5 c =
     rw (
       raw-got 8 (now (c .before .before .before .before .before .before .before .before .before .before .before .before .before .before .before .before .before .before .args .s)) (c .before .before .before .before .before .before .before .before .before .before .before .before .before .before .before .before .before .before .args .at) (seen fieldRead (c .before .before .before .before .before .before .before .before .before .before .before .before .before .before .before .before .byte-at .ensures) (c .before .before .before .before .before .before .before .before .before .before .before .before .before .before .bits .given .1))
