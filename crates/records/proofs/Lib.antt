@@ -27,5 +27,6 @@ pub mod Pairs
 pub mod Listing
 pub mod Passing
 pub mod FactLaws
+pub mod FaultLaws
 pub mod DecisionLaws
 pub mod PlanLaws

@@ -1,4 +1,4 @@
--- What the code's tests after all records say: each of one record, in every plan that has so many records and these facts.
+-- What the code's tests after all records say: each of one record, then of a kind's records, in every plan that has so many records and these facts.
 use mathlib.Core.Path.{_≡_}
 use mathlib.Core.Bool.{Bool}
 use mathlib.Core.List.{List, map}
@@ -7,14 +7,23 @@ use lib.Dec.{ltb}
 use lib.ListN.{length, take}
 use Rattle.records.specs.Sets.{allOf}
 use Rattle.records.specs.Plan as paper
-use Rattle.records.specs.Decoded.{factOf, nodeOf, edgeOf, electionOf, cutOf, attachmentOf}
+use Rattle.records.specs.Fields.{fault, fine, firstFault}
+use Rattle.records.specs.Check.{checkedOf}
+use Rattle.records.specs.Decoded.{factOf, nodeOf, edgeOf, electionOf, cutOf, attachmentOf, barOf, statusOf}
 use Rattle.records.specs.declared.counts.Counts.{Counts}
 use Rattle.records.specs.declared.plan.Facts.{Facts}
+use Rattle.records.specs.declared.checked.Checked.{Checked}
 use Rattle.records.specs.declared.plan.Node.{Node}
 use Rattle.records.specs.declared.plan.Edge.{Edge}
 use Rattle.records.specs.declared.plan.Election.{Election}
 use Rattle.records.specs.declared.plan.Cut.{Cut}
 use Rattle.records.specs.declared.plan.Attachment.{Attachment}
+use Rattle.records.specs.declared.plan.Statuses.{Statuses}
+use Rattle.records.specs.declared.plan.Bars.{Bars}
+use Rattle.records.specs.declared.plan.Attachments.{Attachments}
+use Rattle.records.specs.declared.plan.Cuts.{Cuts}
+use Rattle.records.specs.declared.plan.Edges.{Edges}
+use Rattle.records.specs.declared.plan.Nodes.{Nodes}
 
 -- the numbers of records of a plan, and their limits
 pub record CountsOf (P : paper.Plan) (r : Counts) : Type 0 where
@@ -64,3 +73,44 @@ CutSound fs n c r = (P : paper.Plan) → factsOf fs ≡ P .facts → CountsOf P 
 abbrev pub AttachmentSound : Facts → ℕ → Attachment → Bool → Type 0
 AttachmentSound fs nodes a r =
     (P : paper.Plan) → factsOf fs ≡ P .facts → nodes ≡ length (P .nodes) → r ≡ paper.attachmentSound P (attachmentOf a)
+
+-- ---- the first of a kind's records that names what is not there; the kind begins at record `first`
+
+abbrev pub Tells : paper.Plan → ℕ → List ℕ → Checked → Type 0
+Tells P first fs r = r ≡ checkedOf (firstFault first fs (fine P))
+
+abbrev pub nodeFaults : paper.Plan → Nodes → List ℕ
+nodeFaults P x = paper.eachFrom (λ k n. fault 4 (paper.nodeSound P k n)) 0 (map nodeOf (take (x .count) (x .items)))
+
+abbrev pub NodesNamed : ℕ → Nodes → ℕ → Checked → Type 0
+NodesNamed facts x first r = (P : paper.Plan) → facts ≡ length (P .facts) → Tells P first (nodeFaults P x) r
+
+abbrev pub edgeFaults : paper.Plan → Edges → List ℕ
+edgeFaults P x = paper.faults 4 (paper.edgeSound P) (map edgeOf (take (x .count) (x .items)))
+
+abbrev pub EdgesNamed : ℕ → Edges → ℕ → Checked → Type 0
+EdgesNamed nodes x first r = (P : paper.Plan) → nodes ≡ length (P .nodes) → Tells P first (edgeFaults P x) r
+
+abbrev pub cutFaults : paper.Plan → Cuts → List ℕ
+cutFaults P x = paper.faults 4 (paper.cutSound P) (map cutOf (take (x .count) (x .items)))
+
+abbrev pub CutsNamed : Facts → Counts → Cuts → ℕ → Checked → Type 0
+CutsNamed fs n x first r = (P : paper.Plan) → factsOf fs ≡ P .facts → CountsOf P n → Tells P first (cutFaults P x) r
+
+abbrev pub attachmentFaults : paper.Plan → Attachments → List ℕ
+attachmentFaults P x = paper.faults 4 (paper.attachmentSound P) (map attachmentOf (take (x .count) (x .items)))
+
+abbrev pub AttachmentsNamed : Facts → ℕ → Attachments → ℕ → Checked → Type 0
+AttachmentsNamed fs nodes x first r = (P : paper.Plan) → factsOf fs ≡ P .facts → nodes ≡ length (P .nodes) → Tells P first (attachmentFaults P x) r
+
+abbrev pub barFaults : paper.Plan → Bars → List ℕ
+barFaults P x = paper.faults 4 (λ b. paper.nodeNumber P (b .condition)) (map barOf (take (x .count) (x .items)))
+
+abbrev pub BarsNamed : ℕ → Bars → ℕ → Checked → Type 0
+BarsNamed nodes x first r = (P : paper.Plan) → nodes ≡ length (P .nodes) → Tells P first (barFaults P x) r
+
+abbrev pub statusFaults : paper.Plan → Statuses → List ℕ
+statusFaults P x = paper.faults 4 (λ t. paper.nodeNumber P (t .condition)) (map statusOf (take (x .count) (x .items)))
+
+abbrev pub StatusesNamed : ℕ → Statuses → ℕ → Checked → Type 0
+StatusesNamed nodes x first r = (P : paper.Plan) → nodes ≡ length (P .nodes) → Tells P first (statusFaults P x) r

@@ -2,7 +2,7 @@
 use crate::checked::Checked;
 use crate::crossing::crossings;
 use crate::elections::elections;
-use crate::naming::naming;
+use crate::name_faults::naming;
 use crate::plan::Plan;
 use crate::read_plan::PlanRead;
 use crate::read_plan::read_plan;

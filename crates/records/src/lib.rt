@@ -13,6 +13,7 @@ pub mod fact_order;
 pub mod fields;
 pub mod judge;
 pub mod lists;
+pub mod name_faults;
 pub mod naming;
 pub mod plan;
 pub mod read_attachments;

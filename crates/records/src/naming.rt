@@ -1,7 +1,5 @@
-// Refusal 4 of a plan: a number that names no record, no lower node, or no boolean fact in an election.
-use crate::checked::Checked;
+// Refusal 4, record by record: a number that names no record, no lower node, or no boolean fact in an election.
 use crate::counts::Counts;
-use crate::counts::count_records;
 use crate::counts::least;
 use crate::counts::wide;
 use crate::plan::Attachment;
@@ -12,16 +10,12 @@ use crate::plan::Election;
 use crate::plan::Facts;
 use crate::plan::Node;
 use crate::plan::Numbers;
-use crate::plan::Plan;
 ghost use mathlib.Core.Path.{_≡_};
 ghost use Prim.Native.Nat.{ℕ, _<_, _≤_};
 ghost use lib.Dec.{ltb};
 ghost use lib.ListN.{getD};
 ghost use Rattle.records.specs.Sets.{allOf};
-ghost use Rattle.records.specs.Fields.{fault, fine, firstFault};
-ghost use Rattle.records.specs.Plan.{namingFaults, nodesAt};
-ghost use Rattle.records.specs.Decoded.{planOf, numbersOf, decisionsOf};
-ghost use Rattle.records.specs.Check.{checkedOf};
+ghost use Rattle.records.specs.Decoded.{numbersOf, decisionsOf};
 ghost use Rattle.records.specs.Named.{allUnder, allDecide, NodeSound, EdgeSound, BooleanFact, ElectionSound, CutSound, AttachmentSound};
 
 pub fn all_under(n: Numbers, bound: usize) -> bool
@@ -137,66 +131,4 @@ pub fn attachment_sound(facts: Facts, nodes: usize, attachment: Attachment) -> b
     }
     let election = attachment.election;
     election_sound(facts, election)
-}
-
-// Whether record k, counted from the first node, names what it should.
-pub fn named(plan: Plan, k: usize) -> bool
-    ensures { λ r. ⌜ fault 4 r ≡ getD (namingFaults (planOf plan)) k 0 ⌝ }
-{
-    let counts = count_records(plan);
-    let facts = plan.facts;
-    if k < counts.nodes {
-        let nodes = plan.nodes;
-        return node_sound(counts.facts, k, nodes.items[k]);
-    }
-    let e = k - counts.nodes;
-    if e < counts.edges {
-        let edges = plan.edges;
-        return edge_sound(counts.nodes, edges.items[e]);
-    }
-    let c = e - counts.edges;
-    if c < counts.cuts {
-        let cuts = plan.cuts;
-        return cut_sound(facts, counts, cuts.items[c]);
-    }
-    let a = c - counts.cuts;
-    if a < counts.attachments {
-        let attachments = plan.attachments;
-        return attachment_sound(facts, counts.nodes, attachments.items[a]);
-    }
-    let b = a - counts.attachments;
-    if b < counts.bars {
-        let bars = plan.bars;
-        return wide(bars.items[b].condition) < counts.nodes;
-    }
-    let t = b - counts.bars;
-    if t < counts.statuses {
-        let statuses = plan.statuses;
-        return wide(statuses.items[t].condition) < counts.nodes;
-    }
-    true
-}
-
-pub fn naming(plan: Plan) -> Checked
-    ensures { λ r. ⌜ r ≡ checkedOf (firstFault (nodesAt (planOf plan)) (namingFaults (planOf plan)) (fine (planOf plan))) ⌝ }
-{
-    let counts = count_records(plan);
-    let first = counts.headings + counts.facts;
-    let total = counts.nodes
-        + counts.edges
-        + counts.cuts
-        + counts.attachments
-        + counts.bars
-        + counts.statuses;
-    let mut k: usize = 0;
-    while k < total {
-        if !named(plan, k) {
-            return Checked::Refused {
-                number: 4,
-                record: first + k,
-            };
-        }
-        k = k + 1;
-    }
-    Checked::Accepted
 }
