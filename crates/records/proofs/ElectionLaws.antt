@@ -4,19 +4,23 @@ use mathlib.Core.Bool.{Bool, true, false, _&&_, not, cond}
 use mathlib.Core.List.{List, [], _∷_, _++_, map}
 use Prim.Native.Nat.{ℕ, zero, suc, _+_, _-_, _≤_, _<_}
 use native.Mathlib.Omega.{arith}
-use lib.ListN.{length, getD, take, length-map, length-append, List·getD-eq-default}
+use mathlib.Core.Logic.{⊎-elim}
+use lib.ListN.{length, getD, take, set, replicate, length-map, length-append, length-replicate, getD-replicate, List·getD-eq-default}
+use lib.Seq.{getD-set-same, getD-set-other}
 use Rattle.records.specs.Sets.{allOf}
 use Rattle.records.specs.Fields.{fault}
 use Rattle.records.specs.Plan as paper
-use Rattle.records.specs.Decoded.{given, electionOf, cutOf, attachmentOf, planOf}
+use Rattle.records.specs.Decoded.{given, electionOf, noElection, cutOf, attachmentOf, planOf}
 use Rattle.records.specs.Named.{CountsOf}
 use Rattle.records.specs.Elections.{earlier, agree, agreement}
 use Rattle.records.specs.declared.counts.Counts.{Counts}
+use Rattle.records.specs.declared.plan.Election.{Election}
 use Rattle.records.specs.declared.plan.Cut.{Cut}
 use Rattle.records.specs.declared.plan.Attachment.{Attachment}
 use Rattle.records.specs.declared.plan.Plan.{Plan}
 use Rattle.records.proofs.ListLaws.{all-append, getD-mapped, getD-front, getD-stay, getD-past}
 use Rattle.records.proofs.NamingLaws.{all-given}
+use Rattle.records.proofs.SetLaws.{lt-or-le}
 
 -- ---- two elections that may be there
 
@@ -83,8 +87,11 @@ unfolding paper.electionFaults
 length-elections acc [] = refl
 length-elections acc (es ∷ ess) = ap suc (length-elections (es ++ acc) ess)
 
+pub length-records : (P : paper.Plan) (n : Counts) → CountsOf P n → length (paper.electionRecords P) ≡ n .cuts + n .attachments
+length-records P n h = simp (length-append, length-map, h .cuts, h .attachments)
+
 pub length-agreement : (P : paper.Plan) (n : Counts) → CountsOf P n → length (agreement P) ≡ n .cuts + n .attachments
-length-agreement P n h = length-elections [] (paper.electionRecords P) ∙ simp (length-append, length-map, h .cuts, h .attachments)
+length-agreement P n h = length-elections [] (paper.electionRecords P) ∙ length-records P n h
 
 -- ---- the election of record k of a plan
 
@@ -117,3 +124,28 @@ module _ (p : Plan) (n : Counts) (h : CountsOf (planOf p) n) (k : ℕ) where
 
   pub no-election : n .cuts ≤ k → n .attachments ≤ k - n .cuts → [] ≡ getD (paper.electionRecords P) k []
   no-election l m = sym (List·getD-eq-default attachments [] (omega (arith, h .attachments, length-map (P .attachments) (λ (a : paper.Attachment). a .election)))) ∙ past-cuts l
+
+-- ---- elections gathered one after another
+
+module _ (P : paper.Plan) where
+  -- those of the first k records, and none behind them
+  pub record Known (k : ℕ) (items : List Election) : Type 0 where
+    pub front : (j : ℕ) → j < k → electionOf (getD items j noElection) ≡ getD (paper.electionRecords P) j []
+    pub rest : (j : ℕ) → k ≤ j → getD items j noElection ≡ noElection
+
+  pub known-none : (n : ℕ) → Known 0 (replicate n noElection)
+  known-none n = record {
+    front = λ j l. absurd (omega arith);
+    rest = λ j l. ⊎-elim (λ u. getD-replicate n j noElection noElection u) (λ u. List·getD-eq-default (replicate n noElection) noElection (omega (arith, length-replicate n noElection))) (lt-or-le j n);
+  }
+
+  pub known-more : (k : ℕ) (items : List Election) (e : Election) → k < length items → electionOf e ≡ getD (paper.electionRecords P) k [] → Known k items → Known (k + 1) (set items k e)
+  known-more k items e l h g = record {
+    front = λ j u. ⊎-elim (λ v. ap electionOf (getD-set-other items k j e noElection (λ q. omega (arith, q))) ∙ g .front j v)
+        (λ v. let s : j ≡ k = omega arith in ap (λ (i : ℕ). electionOf (getD (set items k e) i noElection)) s ∙ ap electionOf (getD-set-same items k e noElection l) ∙ h ∙ ap (λ (i : ℕ). getD (paper.electionRecords P) i []) (sym s)) (lt-or-le j k);
+    rest = λ j u. getD-set-other items k j e noElection (λ q. omega (arith, q)) ∙ g .rest j (omega arith);
+  }
+
+  pub known-all : (k : ℕ) (items : List Election) → length (paper.electionRecords P) ≤ k → Known k items → (j : ℕ) → electionOf (getD items j noElection) ≡ getD (paper.electionRecords P) j []
+  unfolding electionOf
+  known-all k items l g j = ⊎-elim (λ u. g .front j u) (λ u. ap electionOf (g .rest j u) ∙ sym (List·getD-eq-default (paper.electionRecords P) [] (omega arith))) (lt-or-le j k)

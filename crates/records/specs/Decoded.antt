@@ -47,6 +47,10 @@ nodeOf n = nodeBy (n .sort) (n .number) (numbersOf (n .children))
 unfoldable pub edgeOf : Edge → paper.Edge
 edgeOf e = record { left = e .left; right = e .right; condition = e .condition; citation = e .citation; defeaters = numbersOf (e .defeaters); combination = e .combination }
 
+-- the code's mark for no election
+abbrev pub noElection : Election
+noElection = record { given = false; fact = 0; actor = 0; policy = 0; citation = 0 }
+
 unfoldable pub electionOf : Election → List paper.Election
 electionOf e = given (e .given) (record { fact = e .fact; actor = e .actor; policy = e .policy; citation = e .citation })
 

@@ -2,6 +2,7 @@
 use crate::checked::Checked;
 use crate::counts::Counts;
 use crate::counts::count_records;
+use crate::fields::no_election;
 use crate::plan::Attachment;
 use crate::plan::Attachments;
 use crate::plan::Cut;
@@ -12,11 +13,11 @@ ghost use mathlib.Core.Path.{_≡_};
 ghost use mathlib.Core.List.{[]};
 ghost use Prim.Native.Nat.{ℕ, _<_, _≤_};
 ghost use lib.ListN.{getD};
-ghost use Rattle.records.specs.Fields.{fault, fine, firstFault};
+ghost use Rattle.records.specs.Fields.{fine, firstFault};
 ghost use Rattle.records.specs.Plan.{cutsAt, electionRecords};
-ghost use Rattle.records.specs.Decoded.{planOf, electionOf};
+ghost use Rattle.records.specs.Decoded.{planOf, electionOf, noElection};
 ghost use Rattle.records.specs.Check.{checkedOf};
-ghost use Rattle.records.specs.Elections.{agree, agreement};
+ghost use Rattle.records.specs.Elections.{agree, agreement, Gathered, Agrees};
 
 pub fn same(a: Election, b: Election) -> bool
     ensures { λ r. ⌜ r ≡ agree (electionOf a) (electionOf b) ⌝ }
@@ -40,7 +41,7 @@ pub fn same(a: Election, b: Election) -> bool
 }
 
 // The election of record k, counted from the first cut.
-pub fn election_at(plan: Plan, k: usize) -> Election
+fn election_at(plan: Plan, k: usize) -> Election
     ensures { λ r. ⌜ electionOf r ≡ getD (electionRecords (planOf plan)) k [] ⌝ }
 {
     let counts = count_records(plan);
@@ -57,24 +58,46 @@ pub fn election_at(plan: Plan, k: usize) -> Election
         let election = attachment.election;
         return election;
     }
-    Election {
-        given: false,
-        fact: 0,
-        actor: 0,
-        policy: 0,
-        citation: 0,
+    no_election()
+}
+
+// The elections of cuts and attachments in order, none past the last: gathered once, for each is held beside all earlier ones.
+struct Gathering {
+    items: [Election; 48],
+}
+
+fn gather(plan: Plan) -> Gathering
+    ensures { λ r. ⌜ Gathered (planOf plan) r ⌝ }
+{
+    let counts = count_records(plan);
+    let total = counts.cuts + counts.attachments;
+    let mut items = [no_election(); 48];
+    let mut k: usize = 0;
+    while k < total {
+        items[k] = election_at(plan, k);
+        k = k + 1;
     }
+    Gathering { items: items }
+}
+
+fn recall(known: Gathering, k: usize) -> Election
+    ensures { λ r. ⌜ r ≡ getD (known .items) k noElection ⌝ }
+{
+    if k < 48 {
+        return known.items[k];
+    }
+    no_election()
 }
 
 // Whether the election of record k agrees with all earlier ones.
-pub fn agrees(plan: Plan, k: usize) -> bool
-    ensures { λ r. ⌜ fault 7 r ≡ getD (agreement (planOf plan)) k 0 ⌝ }
+fn agrees(known: Gathering, k: usize) -> bool
+    ensures { λ r. ⌜ Agrees known k r ⌝ }
 {
-    let later = election_at(plan, k);
+    let later = recall(known, k);
     let mut j: usize = k;
     while j > 0 {
         j = j - 1;
-        if !same(later, election_at(plan, j)) {
+        if !same(later, recall(known, j)) {
             return false;
         }
     }
@@ -87,9 +110,10 @@ pub fn elections(plan: Plan) -> Checked
     let counts = count_records(plan);
     let first = counts.headings + counts.facts + counts.nodes + counts.edges;
     let total = counts.cuts + counts.attachments;
+    let known = gather(plan);
     let mut k: usize = 0;
     while k < total {
-        if !agrees(plan, k) {
+        if !agrees(known, k) {
             return Checked::Refused {
                 number: 7,
                 record: first + k,

@@ -7,7 +7,7 @@ ghost use lib.ListN.{length, getD};
 ghost use Rattle.records.specs.Fields.{got, byteAt, bytesAt, bytes, list, most, repeat, upTo, little};
 ghost use Rattle.records.specs.Readers.{fieldRead, wideRead, shortRead, electionRead, listRead, listFits, pairsRead, pairsFit, mapRead, first, isGot, fieldIf, mask, election, span};
 ghost use Rattle.records.specs.Plan.{electionOf};
-ghost use Rattle.records.specs.Decoded as decoded;
+ghost use Rattle.records.specs.Decoded.{noElection};
 
 pub enum Field {
     Got(u8, usize),
@@ -130,7 +130,7 @@ pub fn short_at(s: &[u8], at: usize, present: bool) -> Short
 }
 
 pub fn no_election() -> Election
-    ensures { λ r. ⌜ decoded.electionOf r ≡ [] ⌝ }
+    ensures { λ r. ⌜ r ≡ noElection ⌝ }
 {
     Election {
         given: false,

@@ -1,4 +1,5 @@
 -- The election of a cut or an attachment by its number. Assumes nothing.
+use mathlib.Core.Path.{ap, _∙_}
 use Rattle.records.specs.Decoded.{electionOf}
 use Rattle.records.proofs.ElectionLaws.{cut-election, attachment-election, no-election}
 use borrow.Author.Needs.{needs}
@@ -28,10 +29,13 @@ returns-2 : tie.Need-returns-2
 returns-2 c = let s = c .before .before .before .before .before .before .before .before .before .args in let n = c .before .before .before .before .before .before .before .before .count-records in
     attachment-election (s .plan) (n .result) (n .ensures .0) (s .k) _ (c .before .before .before .before .before .before .if1 .left) (c .before .before .before .if2 .taken)
 
+no-election-requires : tie.Need-no-election-requires
+no-election-requires c κs = search needs
+
 returns-3 : tie.Need-returns-3
 unfolding electionOf
-returns-3 c = let s = c .before .before .before .before .before .before .args in let n = c .before .before .before .before .before .count-records in
-    no-election (s .plan) (n .result) (n .ensures .0) (s .k) (c .before .before .before .if1 .left) (c .if2 .left)
+returns-3 c = let s = c .before .before .before .before .before .before .before .args in let n = c .before .before .before .before .before .before .count-records in
+    ap electionOf (c .no-election .ensures) ∙ no-election (s .plan) (n .result) (n .ensures .0) (s .k) (c .before .before .before .before .if1 .left) (c .before .if2 .left)
 
 pub election-at-spec : {M : Type 1} → statement M
 election-at-spec =
@@ -44,4 +48,5 @@ election-at-spec =
     mul-attachment
     element-copy-out-attachment
     returns-2
+    no-election-requires
     returns-3)

@@ -1,4 +1,5 @@
 -- The four bytes of an election, or none. Assumes nothing.
+use mathlib.Core.Path.{ap}
 use borrow.Author.Tests.{not-true, not-false}
 use Rattle.records.specs.Fields.{fieldAt, bytesAt}
 use Rattle.records.specs.Plan.{electionOf}
@@ -15,8 +16,8 @@ no-election-requires : tie.Need-no-election-requires
 no-election-requires c κs = search needs
 
 returns : tie.Need-returns
-unfolding electionOf
-returns c = rw (not-true (c .before .before .before .args .present) (c .before .if1 .taken), c .no-election .ensures)
+unfolding electionOf decoded.electionOf
+returns c = rw (not-true (c .before .before .before .args .present) (c .before .if1 .taken), ap decoded.electionOf (c .no-election .ensures))
 
 byte-at-requires : tie.Need-byte-at-requires
 byte-at-requires c κs = search needs
