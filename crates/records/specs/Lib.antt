@@ -5,6 +5,7 @@ pub mod Case
 pub mod Decoded
 pub mod Readers
 pub mod Passes
+pub mod PlanPasses
 pub mod CaseSteps
 pub mod CaseNamed
 pub mod PlanRead
