@@ -10,10 +10,10 @@ use lib.Dec.{eqb, leb}
 use borrow.Author.Tests.{eq-eqb, ne-eqb}
 use Rattle.records.specs.Sets.{odd}
 use Rattle.records.specs.Fields.{Shape, bytes, list, most, number, Read, got, bad, andThen, Raw, Format, Range, byteAt, bytesAt, fieldAt, fieldsAt, formatOf, repeat, little}
-use Rattle.records.specs.Readers.{fieldIf, first, span}
+use Rattle.records.specs.Readers.{mapRead, fieldIf, first, span}
 use Rattle.records.specs.Decoded.{given}
 use Rattle.records.specs.Passes.{rawOf}
-use Rattle.records.proofs.Reading.{byte-next, bytes-got, bad-got, got-inj}
+use Rattle.records.proofs.Reading.{byte-next, bytes-got, bad-got, got-inj, found}
 
 -- the test `m % 2 == 1`
 pub odd-test : (d : ℕ) → d < 2 → eqb d 1 ≡ odd d
@@ -136,6 +136,11 @@ pub one-given : (s : List ℕ) (at : ℕ) (b : Bool) (r : Range) {bs : List ℕ}
 unfolding fieldAt span
 one-given s at true r e f = let h = bytes-got s at (r ∷ []) e .0 in h ∙ ap (λ (x : ℕ). x ∷ []) (sym (ap first h) ∙ f)
 one-given s at false r e f = sym (got-inj e .0)
+
+-- and the same of an answer
+pub given-of : (b : Bool) (s : List ℕ) (at : ℕ) (r : Range) {v p : ℕ} → mapRead first (fieldIf b s at (bytes (r ∷ []))) ≡ got v p → fieldIf b s at (bytes (r ∷ [])) ≡ got (given b v) p
+given-of b s at r {p = p} e =
+    let f = found first (fieldIf b s at (bytes (r ∷ []))) e in f .is ∙ ap (λ (bs : List ℕ). got bs p) (one-given s at b r (f .is) (f .means))
 
 pub list-absent : (s : List ℕ) (at p k : ℕ) (b : Bool) (f : Shape) {n : ℕ} → got (span s p k) n ≡ fieldIf b s at f → b ≡ false → k ≡ 0
 unfolding span

@@ -36,6 +36,10 @@ use Rattle.records.proofs.DecisionLaws.{unresolved-more, all-more}
 pub bit-test : (b w : ℕ) → eqb (b / w % 2) 1 ≡ odd (b / w % 2)
 bit-test b w = odd-test (b / w % 2) (mod-lt (b / w) (zero-lt-suc 1))
 
+pub has-bit : (b p w : ℕ) → 2 ^ p ≡ w → eqb (b / w % 2) 1 ≡ has b p
+unfolding has
+has-bit b p w e = bit-test b w ∙ ap (λ (x : ℕ). odd (b / x % 2)) (sym e)
+
 odd-not-one : (d : ℕ) → d < 2 → (d ≡ 1 → ⊥) → odd d ≡ false
 odd-not-one zero h n = refl
 odd-not-one (suc d) h n = absurd (n (omega arith))
@@ -80,8 +84,11 @@ length-more [] x = refl
 length-more (y ∷ xs) x = ap suc (length-more xs x)
 
 -- an array with a count: one more record is set
+pub take-more : {A : Type 0} (xs : List A) (n : ℕ) (x : A) → n < length xs → take (n + 1) (set xs n x) ≡ take n xs ++ (x ∷ [])
+take-more xs n x h = ap (λ (k : ℕ). take k (set xs n x)) (add-one n) ∙ take-suc-set xs n x h
+
 pub made-more : {A B : Type 0} (f : A → B) (xs : List A) (n : ℕ) (x : A) → n < length xs → map f (take (n + 1) (set xs n x)) ≡ map f (take n xs) ++ (f x ∷ [])
-made-more f xs n x h = ap (λ (k : ℕ). map f (take k (set xs n x))) (add-one n) ∙ ap (map f) (take-suc-set xs n x h) ∙ map-more f (take n xs) x
+made-more f xs n x h = ap (map f) (take-more xs n x h) ∙ map-more f (take n xs) x
 
 pub past : (limit n : ℕ) → ltb limit (suc n) ≡ leb limit n
 past limit n = lib.Dec.leb·suc-suc limit n
@@ -340,6 +347,11 @@ heading-count (suc (suc n)) x h = absurd (omega arith)
 pub heading-none : {A : Type 0} (n : ℕ) (x : A) → n < 1 → take n (x ∷ []) ≡ []
 heading-none zero x h = refl
 heading-none (suc n) x h = absurd (omega arith)
+
+pub heading-there : {A : Type 0} (n : ℕ) (x : A) → n ≤ 1 → eqb (length (take n (x ∷ []))) 0 ≡ not (eqb n 1)
+heading-there zero x h = refl
+heading-there (suc zero) x h = refl
+heading-there (suc (suc n)) x h = absurd (omega arith)
 
 -- the fact that the code keeps
 pub fact-is : (s : List ℕ) (b f at k : ℕ) (ts : List ℕ) → take k ts ≡ span s at k

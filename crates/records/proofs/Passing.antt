@@ -45,13 +45,13 @@ module _ (formats : List Format) (s : List ℕ) (at : ℕ) where
 
 -- what a kind's reader says of a record
 module _ {A : Type 0} (formats : List Format) (K : ℕ) (make : Raw → A) (s : List ℕ) (at : ℕ) where
-  pub record Taken (b : ℕ) (x : A) (p : ℕ) : Type 0 where
+  record Taken (b : ℕ) (x : A) (p : ℕ) : Type 0 where
     pub fields : List (List ℕ)
     pub reads : rawOf formats K s at ≡ got (raw K b fields) p
     pub makes : make (raw K b fields) ≡ x
     pub later : at < p
 
-  pub taken : {b : ℕ} {x : A} {p : ℕ} → mapRead (seenBy make) (rawOf formats K s at) ≡ got (record { bits = b; item = x }) p → Taken b x p
+  taken : {b : ℕ} {x : A} {p : ℕ} → mapRead (seenBy make) (rawOf formats K s at) ≡ got (record { bits = b; item = x }) p → Taken b x p
   taken {b = b} {x = x} {p = p} e =
       let f = found (seenBy make) (rawOf formats K s at) e in
       let q = raw-parts formats K s at (f .is) in
@@ -83,7 +83,7 @@ module _ {F : Type 0} (R : Reading F) (s : List ℕ) (at kind : ℕ) (a : F) (k 
 
   -- what comes has another kind, or nothing comes
   module _ (kind′ : ℕ) where
-    pub next-kind : ((r : Raw) (p : ℕ) → recordAt (R .formats) s at ≡ got r p → ltb (r .kind) kind ≡ ltb (r .kind) kind′) → readOn R s at kind a k ≡ readOn R s at kind′ a k
+    next-kind : ((r : Raw) (p : ℕ) → recordAt (R .formats) s at ≡ got r p → ltb (r .kind) kind ≡ ltb (r .kind) kind′) → readOn R s at kind a k ≡ readOn R s at kind′ a k
     unfolding readFrom
     next-kind same = pick (recordAt (R .formats) s at) refl
       where

@@ -1,15 +1,15 @@
 -- A plan in which nothing is wrong so far, and the first pass over it. Assumes nothing.
 use mathlib.Core.Path.{_≡_, refl}
-use mathlib.Core.Bool.{Bool, true, false, not}
+use mathlib.Core.Bool.{Bool, true, false}
 use mathlib.Core.List.{List, [], _∷_}
-use Prim.Native.Nat.{ℕ, zero, suc, _≤_}
-use native.Mathlib.Omega.{arith}
-use lib.ListN.{length, take}
+use Prim.Native.Nat.{ℕ, _≤_}
+use lib.ListN.{take}
 use lib.Dec.{eqb, ltb}
 use Rattle.records.specs.Sets.{allOf}
 use Rattle.records.specs.Plan.{Plan, Heading, Fact, Node, Edge, Cut, Attachment, Bar, emptyPlan, planRecords, factsRise, decidedOnce, unresolved}
 use Rattle.records.specs.Passes.{Passed}
 use Rattle.records.specs.PlanPasses.{Clean, planReading, withHeadings, withFacts, withNodes, withEdges, withCuts, withAttachments, withBars}
+use Rattle.records.proofs.KindLaws.{heading-there}
 use Rattle.records.proofs.Passing.{Reached, first-kind, next-pass}
 
 -- ---- nothing is wrong so far
@@ -18,14 +18,9 @@ pub clean-none : Clean false emptyPlan
 unfolding factsRise unresolved allOf
 clean-none = record { heads = refl; rise = refl; few = refl; once = refl }
 
-heads-is : (n : ℕ) (x : Heading) → n ≤ 1 → eqb (length (take n (x ∷ []))) 0 ≡ not (eqb n 1)
-heads-is zero x h = refl
-heads-is (suc zero) x h = refl
-heads-is (suc (suc n)) x h = absurd (omega arith)
-
 pub clean-heading : (n : ℕ) (x : Heading) → n ≤ 1 → Clean (eqb n 1) (withHeadings emptyPlan (take n (x ∷ [])))
 unfolding factsRise unresolved allOf
-clean-heading n x h = record { heads = heads-is n x h; rise = refl; few = refl; once = refl }
+clean-heading n x h = record { heads = heading-there n x h; rise = refl; few = refl; once = refl }
 
 module _ {headed : Bool} {P : Plan} (c : Clean headed P) where
   pub clean-facts : (xs : List Fact) → factsRise xs ≡ true → Clean headed (withFacts P xs)

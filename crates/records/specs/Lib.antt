@@ -6,7 +6,8 @@ pub mod Decoded
 pub mod Readers
 pub mod Passes
 pub mod PlanPasses
-pub mod CaseSteps
+pub mod CasePasses
+pub mod CaseRead
 pub mod CaseNamed
 pub mod PlanRead
 pub mod Sound
