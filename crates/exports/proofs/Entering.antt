@@ -14,7 +14,7 @@ use Rattle.records.specs.Plan.{Plan, checkedPlan}
 use Rattle.records.specs.Case.{Case, readCase}
 use Rattle.records.specs.Decoded.{planOf, caseOf}
 use Rattle.records.specs.PlanRead.{planReadOf}
-use Rattle.records.specs.CaseSteps.{caseReadOf}
+use Rattle.records.specs.CaseRead.{caseReadOf}
 use Rattle.records.specs.Sound.{Sound, SoundCase}
 use Rattle.records.specs.declared.plan.Plan.{Plan as Coded}
 use Rattle.records.specs.declared.case.Case.{Case as CodedCase}

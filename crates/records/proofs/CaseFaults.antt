@@ -15,7 +15,7 @@ use Rattle.records.specs.Plan as paper
 use Rattle.records.specs.Case as case
 use Rattle.records.specs.Decoded.{given, factOf, familyOf, booleanOf, relationOf, caseOf}
 use Rattle.records.specs.Check.{checkedOf}
-use Rattle.records.specs.CaseSteps.{caseReadOf}
+use Rattle.records.specs.CaseRead.{caseReadOf}
 use Rattle.records.specs.CaseNamed.{CaseCountsOf, sameFamily}
 use Rattle.records.specs.declared.plan.Fact.{Fact}
 use Rattle.records.specs.declared.case.Family.{Family}

@@ -9,12 +9,11 @@ use lib.ListN.{length}
 use lib.Dec.{eqb, leb}
 use borrow.Author.Tests.{eq-eqb, ne-eqb}
 use Rattle.records.specs.Sets.{odd}
-use Rattle.records.specs.Fields.{Shape, bytes, list, most, number, Read, got, bad, andThen, Raw, Range, byteAt, bytesAt, fieldAt, fieldsAt, formatOf, repeat, little}
-use Rattle.records.specs.Plan.{planFormats}
-use Rattle.records.specs.Readers.{fieldIf, first, span}
+use Rattle.records.specs.Fields.{Shape, bytes, list, most, number, Read, got, bad, andThen, Raw, Format, Range, byteAt, bytesAt, fieldAt, fieldsAt, formatOf, repeat, little}
+use Rattle.records.specs.Readers.{mapRead, fieldIf, first, span}
 use Rattle.records.specs.Decoded.{given}
-use Rattle.records.specs.Passes.{rawAt}
-use Rattle.records.proofs.Reading.{byte-next, bytes-got, bad-got, got-inj}
+use Rattle.records.specs.Passes.{rawOf}
+use Rattle.records.proofs.Reading.{byte-next, bytes-got, bad-got, got-inj, found}
 
 -- the test `m % 2 == 1`
 pub odd-test : (d : ℕ) → d < 2 → eqb d 1 ≡ odd d
@@ -45,15 +44,15 @@ unfolding fieldsAt
 unknown s at m e = rw (ne-eqb m 0 e)
 
 -- a record from its bit map on
-module _ (kind : ℕ) (s : List ℕ) (at : ℕ) where
-  pub raw-got : {b p q : ℕ} {vs : List (List ℕ)} → byteAt s at number ≡ got b p → fieldsAt s p b (formatOf planFormats kind .fields) ≡ got vs q
-      → rawAt kind s at ≡ got (record { kind = kind; bits = b; fields = vs }) q
+module _ (formats : List Format) (kind : ℕ) (s : List ℕ) (at : ℕ) where
+  pub raw-got : {b p q : ℕ} {vs : List (List ℕ)} → byteAt s at number ≡ got b p → fieldsAt s p b (formatOf formats kind .fields) ≡ got vs q
+      → rawOf formats kind s at ≡ got (record { kind = kind; bits = b; fields = vs }) q
   raw-got e f = rw (e, f)
 
-  pub raw-bits : byteAt s at number ≡ bad → rawAt kind s at ≡ bad
+  pub raw-bits : byteAt s at number ≡ bad → rawOf formats kind s at ≡ bad
   raw-bits e = rw e
 
-  pub raw-bad : {b p : ℕ} → byteAt s at number ≡ got b p → fieldsAt s p b (formatOf planFormats kind .fields) ≡ bad → rawAt kind s at ≡ bad
+  pub raw-bad : {b p : ℕ} → byteAt s at number ≡ got b p → fieldsAt s p b (formatOf formats kind .fields) ≡ bad → rawOf formats kind s at ≡ bad
   raw-bad e f = rw (e, f)
 
 -- a bit without a field
@@ -114,11 +113,11 @@ pub record Parts (kind : ℕ) (s : List ℕ) (at : ℕ) (w : Raw) (p : ℕ) : Ty
   pub is : w ≡ raw kind (w .bits) (w .fields)
   pub later : at < p
 
-pub raw-parts : (kind : ℕ) (s : List ℕ) (at : ℕ) {w : Raw} {p : ℕ} → rawAt kind s at ≡ got w p → Parts kind s at w p
-raw-parts kind s at {w = w} {p = p} = outer (byteAt s at number) refl
+pub raw-parts : (formats : List Format) (kind : ℕ) (s : List ℕ) (at : ℕ) {w : Raw} {p : ℕ} → rawOf formats kind s at ≡ got w p → Parts kind s at w p
+raw-parts formats kind s at {w = w} {p = p} = outer (byteAt s at number) refl
   where
     fs : List Shape
-    fs = formatOf planFormats kind .fields
+    fs = formatOf formats kind .fields
 
     inner : (b q : ℕ) → at < q → (x : Read (List (List ℕ))) → fieldsAt s q b fs ≡ x → andThen x (λ vs r. got (raw kind b vs) r) ≡ got w p → Parts kind s at w p
     inner b q l (got vs r) h e =
@@ -137,6 +136,11 @@ pub one-given : (s : List ℕ) (at : ℕ) (b : Bool) (r : Range) {bs : List ℕ}
 unfolding fieldAt span
 one-given s at true r e f = let h = bytes-got s at (r ∷ []) e .0 in h ∙ ap (λ (x : ℕ). x ∷ []) (sym (ap first h) ∙ f)
 one-given s at false r e f = sym (got-inj e .0)
+
+-- and the same of an answer
+pub given-of : (b : Bool) (s : List ℕ) (at : ℕ) (r : Range) {v p : ℕ} → mapRead first (fieldIf b s at (bytes (r ∷ []))) ≡ got v p → fieldIf b s at (bytes (r ∷ [])) ≡ got (given b v) p
+given-of b s at r {p = p} e =
+    let f = found first (fieldIf b s at (bytes (r ∷ []))) e in f .is ∙ ap (λ (bs : List ℕ). got bs p) (one-given s at b r (f .is) (f .means))
 
 pub list-absent : (s : List ℕ) (at p k : ℕ) (b : Bool) (f : Shape) {n : ℕ} → got (span s p k) n ≡ fieldIf b s at f → b ≡ false → k ≡ 0
 unfolding span

@@ -11,7 +11,7 @@ use borrow.Author.Tests.{eq-eqb, ne-eqb}
 use Rattle.records.specs.Sets.{numbers, below, anyOf, allOf}
 use Rattle.records.specs.Plan.{Cut, decidedOnce, unresolvedIn, unresolved}
 use Rattle.records.specs.Decoded.{decisionsOf}
-use Rattle.records.specs.Passes.{decisionsFrom}
+use Rattle.records.specs.PlanPasses.{decisionsFrom}
 use Rattle.records.specs.declared.plan.Decisions.{Decisions}
 use Rattle.records.proofs.FactLaws.{and-true, and-assoc}
 

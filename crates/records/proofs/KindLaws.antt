@@ -21,7 +21,8 @@ use Rattle.records.specs.Readers.{span}
 use Rattle.records.specs.declared.plan.Election.{Election}
 use Rattle.records.specs.declared.plan.Decisions.{Decisions}
 use Rattle.records.specs.declared.plan.Numbers.{Numbers}
-use Rattle.records.specs.Passes.{Clean, judgement, factBits, headingFrom, factFrom, withHeadings, withFacts, withNodes, withCuts, withEdges, withAttachments, withBars, withStatuses, barFrom, statusFrom}
+use Rattle.records.specs.Passes.{judgement}
+use Rattle.records.specs.PlanPasses.{Clean, planReading, factBits, headingFrom, factFrom, withHeadings, withFacts, withNodes, withCuts, withEdges, withAttachments, withBars, withStatuses, barFrom, statusFrom}
 use Rattle.records.proofs.SetLaws.{has-zero, Within, antisym, of-meet, in-meet, subset-true, within-subset}
 use Rattle.records.proofs.Listing.{map-more}
 use Rattle.records.proofs.Chain.{raw, odd-test}
@@ -34,6 +35,10 @@ use Rattle.records.proofs.DecisionLaws.{unresolved-more, all-more}
 -- `bits / w % 2 == 1`
 pub bit-test : (b w : ℕ) → eqb (b / w % 2) 1 ≡ odd (b / w % 2)
 bit-test b w = odd-test (b / w % 2) (mod-lt (b / w) (zero-lt-suc 1))
+
+pub has-bit : (b p w : ℕ) → 2 ^ p ≡ w → eqb (b / w % 2) 1 ≡ has b p
+unfolding has
+has-bit b p w e = bit-test b w ∙ ap (λ (x : ℕ). odd (b / x % 2)) (sym e)
 
 odd-not-one : (d : ℕ) → d < 2 → (d ≡ 1 → ⊥) → odd d ≡ false
 odd-not-one zero h n = refl
@@ -68,6 +73,10 @@ needs-test b m = pick (subset m b) refl
     pick true e = eq-eqb (bitAnd b m) m (both (subset-true m b e)) ∙ sym e
     pick false e = ne-eqb (bitAnd b m) m (λ q. mathlib.Core.Bool.true≢false (sym (within-subset m b (back q)) ∙ e)) ∙ sym e
 
+pub plan-kinds : length planFormats ≡ 8
+unfolding planFormats
+plan-kinds = refl
+
 -- ---- one more of a kind
 
 pub length-more : {A : Type 0} (xs : List A) (x : A) → length (xs ++ (x ∷ [])) ≡ suc (length xs)
@@ -75,8 +84,11 @@ length-more [] x = refl
 length-more (y ∷ xs) x = ap suc (length-more xs x)
 
 -- an array with a count: one more record is set
+pub take-more : {A : Type 0} (xs : List A) (n : ℕ) (x : A) → n < length xs → take (n + 1) (set xs n x) ≡ take n xs ++ (x ∷ [])
+take-more xs n x h = ap (λ (k : ℕ). take k (set xs n x)) (add-one n) ∙ take-suc-set xs n x h
+
 pub made-more : {A B : Type 0} (f : A → B) (xs : List A) (n : ℕ) (x : A) → n < length xs → map f (take (n + 1) (set xs n x)) ≡ map f (take n xs) ++ (f x ∷ [])
-made-more f xs n x h = ap (λ (k : ℕ). map f (take k (set xs n x))) (add-one n) ∙ ap (map f) (take-suc-set xs n x h) ∙ map-more f (take n xs) x
+made-more f xs n x h = ap (map f) (take-more xs n x h) ∙ map-more f (take n xs) x
 
 pub past : (limit n : ℕ) → ltb limit (suc n) ≡ leb limit n
 past limit n = lib.Dec.leb·suc-suc limit n
@@ -97,11 +109,11 @@ unfolding judgePlan planFormats planCounts
 edge-judges headed P xs b vs c u =
     rw (length-more xs (paper.edgeOf (raw 4 b vs)), past 64 (length xs), c .few, c .heads, c .rise, c .once) (plain (leb 64 (length xs) || false) (needs 15 b) headed 0)
 
-abbrev pub edgeKind : Kind paper.Edge
+abbrev pub edgeKind : Kind planReading paper.Edge
 edgeKind = record {
   K = 4;
   low = omega arith;
-  top = omega arith;
+  top = omega (arith, plan-kinds);
   put = withEdges;
   make = paper.edgeOf;
   judge = λ headed xs b x. judgement (length xs) 64 false (needs 15 b && headed) true;
@@ -120,11 +132,11 @@ unfolding judgePlan planFormats planCounts
 bar-judges headed P xs b vs c u =
     rw (length-more xs (barFrom (raw 7 b vs)), past 32 (length xs), c .few, c .heads, c .rise, c .once) (plain (leb 32 (length xs) || false) (needs 7 b) headed 0)
 
-abbrev pub barKind : Kind paper.Bar
+abbrev pub barKind : Kind planReading paper.Bar
 barKind = record {
   K = 7;
   low = omega arith;
-  top = omega arith;
+  top = omega (arith, plan-kinds);
   put = withBars;
   make = barFrom;
   judge = λ headed xs b x. judgement (length xs) 32 false (needs 7 b && headed) true;
@@ -143,11 +155,11 @@ unfolding judgePlan planFormats planCounts
 status-judges headed P xs b vs c u =
     rw (length-more xs (statusFrom (raw 8 b vs)), past 32 (length xs), c .few, c .heads, c .rise, c .once) (plain (leb 32 (length xs) || false) (needs 7 b) headed 0)
 
-abbrev pub statusKind : Kind paper.Status
+abbrev pub statusKind : Kind planReading paper.Status
 statusKind = record {
   K = 8;
   low = omega arith;
-  top = omega arith;
+  top = omega (arith, plan-kinds);
   put = withStatuses;
   make = statusFrom;
   judge = λ headed xs b x. judgement (length xs) 32 false (needs 7 b && headed) true;
@@ -166,11 +178,11 @@ unfolding judgePlan planFormats planCounts
 attachment-judges headed P xs b vs c u =
     rw (length-more xs (paper.attachmentOf (raw 6 b vs)), past 32 (length xs), c .few, c .heads, c .rise, c .once) (plain (leb 32 (length xs) || false) (needs 31 b) headed 0)
 
-abbrev pub attachmentKind : Kind paper.Attachment
+abbrev pub attachmentKind : Kind planReading paper.Attachment
 attachmentKind = record {
   K = 6;
   low = omega arith;
-  top = omega arith;
+  top = omega (arith, plan-kinds);
   put = withAttachments;
   make = paper.attachmentOf;
   judge = λ headed xs b x. judgement (length xs) 32 false (needs 31 b && headed) true;
@@ -189,11 +201,11 @@ unfolding judgePlan planFormats planCounts
 node-judges headed P xs b vs c u =
     rw (length-more xs (paper.nodeOf (raw 3 b vs)), past 256 (length xs), c .few, c .heads, c .rise, c .once) (plain (leb 256 (length xs) || false) (single b) headed 0)
 
-abbrev pub nodeKind : Kind paper.Node
+abbrev pub nodeKind : Kind planReading paper.Node
 nodeKind = record {
   K = 3;
   low = omega arith;
-  top = omega arith;
+  top = omega (arith, plan-kinds);
   put = withNodes;
   make = paper.nodeOf;
   judge = λ headed xs b x. judgement (length xs) 256 false (single b && headed) true;
@@ -212,11 +224,11 @@ unfolding judgePlan planFormats planCounts
 heading-judges headed P xs b vs c u =
     rw (length-more xs (headingFrom (raw 1 b vs)), past 1 (length xs), lib.Dec.eqb·suc-zero (length xs), c .few, c .rise, c .once) (plain (leb 1 (length xs) || false) (needs 1 b) true 0)
 
-abbrev pub headingKind : Kind paper.Heading
+abbrev pub headingKind : Kind planReading paper.Heading
 headingKind = record {
   K = 1;
   low = omega arith;
-  top = omega arith;
+  top = omega (arith, plan-kinds);
   put = withHeadings;
   make = headingFrom;
   judge = λ headed xs b x. judgement (length xs) 1 false (needs 1 b && true) true;
@@ -237,11 +249,11 @@ fact-judges headed P xs b vs c g =
     rw (length-more xs x, past 64 (length xs), c .few, c .heads, rise-more xs x, g, c .once)
     (plain (leb 64 (length xs) || false) (factBits b) headed (cond (paper.rises (lastFact xs) x && true) 0 5) ∙ ap (λ (t : Bool). judgement (length xs) 64 false (factBits b && headed) t) (and-true (paper.rises (lastFact xs) x)))
 
-abbrev pub factKind : Kind paper.Fact
+abbrev pub factKind : Kind planReading paper.Fact
 factKind = record {
   K = 2;
   low = omega arith;
-  top = omega arith;
+  top = omega (arith, plan-kinds);
   put = withFacts;
   make = factFrom;
   judge = λ headed xs b x. judgement (length xs) 64 false (factBits b && headed) (paper.rises (lastFact xs) x);
@@ -268,11 +280,11 @@ cut-judges headed P xs b vs c g =
     rw (length-more xs x, past 16 (length xs), unresolved-more xs x, c .heads, c .rise, all-more once xs x, g)
     (plain (leb 16 (length xs) || ltb 16 (paper.unresolved xs + paper.unresolvedIn (x .decisions))) (needs 7 b) headed (cond (once x) 0 5))
 
-abbrev pub cutKind : Kind paper.Cut
+abbrev pub cutKind : Kind planReading paper.Cut
 cutKind = record {
   K = 5;
   low = omega arith;
-  top = omega arith;
+  top = omega (arith, plan-kinds);
   put = withCuts;
   make = paper.cutOf;
   judge = cutJudge;
@@ -327,14 +339,19 @@ not-not false = refl
 
 -- ---- the heading's list of none or one
 
-pub heading-count : (n : ℕ) (x : paper.Heading) → n ≤ 1 → length (take n (x ∷ [])) ≡ n
+pub heading-count : {A : Type 0} (n : ℕ) (x : A) → n ≤ 1 → length (take n (x ∷ [])) ≡ n
 heading-count zero x h = refl
 heading-count (suc zero) x h = refl
 heading-count (suc (suc n)) x h = absurd (omega arith)
 
-pub heading-none : (n : ℕ) (x : paper.Heading) → n < 1 → take n (x ∷ []) ≡ []
+pub heading-none : {A : Type 0} (n : ℕ) (x : A) → n < 1 → take n (x ∷ []) ≡ []
 heading-none zero x h = refl
 heading-none (suc n) x h = absurd (omega arith)
+
+pub heading-there : {A : Type 0} (n : ℕ) (x : A) → n ≤ 1 → eqb (length (take n (x ∷ []))) 0 ≡ not (eqb n 1)
+heading-there zero x h = refl
+heading-there (suc zero) x h = refl
+heading-there (suc (suc n)) x h = absurd (omega arith)
 
 -- the fact that the code keeps
 pub fact-is : (s : List ℕ) (b f at k : ℕ) (ts : List ℕ) → take k ts ≡ span s at k

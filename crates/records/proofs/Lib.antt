@@ -18,10 +18,8 @@ pub mod MemberLaws
 pub mod Local
 pub mod Reading
 pub mod Chain
-pub mod RawLaws
 pub mod KindLaws
 pub mod CaseKinds
-pub mod CaseLoop
 pub mod CaseFaults
 pub mod Pairs
 pub mod Listing

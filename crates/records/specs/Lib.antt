@@ -5,7 +5,9 @@ pub mod Case
 pub mod Decoded
 pub mod Readers
 pub mod Passes
-pub mod CaseSteps
+pub mod PlanPasses
+pub mod CasePasses
+pub mod CaseRead
 pub mod CaseNamed
 pub mod PlanRead
 pub mod Sound

@@ -7,7 +7,7 @@ ghost use lib.Dec.{eqb};
 ghost use Rattle.records.specs.Sets.{anyOf, numbers};
 ghost use Rattle.records.specs.Plan.{decidedOnce, unresolvedIn};
 ghost use Rattle.records.specs.Decoded.{decisionsOf};
-ghost use Rattle.records.specs.Passes.{decisionsFrom};
+ghost use Rattle.records.specs.PlanPasses.{decisionsFrom};
 
 // whether one of the decisions from number i on is of this edge
 fn decided_from(d: Decisions, edge: u8, i: usize) -> bool

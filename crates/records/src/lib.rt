@@ -1,8 +1,6 @@
 // Bytes to plan and case, and the sets of persons that everything above uses.
 pub mod case;
 pub mod case_naming;
-pub mod case_records;
-pub mod case_steps;
 pub mod check;
 pub mod checked;
 pub mod counts;
@@ -18,12 +16,17 @@ pub mod naming;
 pub mod plan;
 pub mod read_attachments;
 pub mod read_bars;
+pub mod read_booleans;
 pub mod read_case;
+pub mod read_case_heading;
+pub mod read_constraints;
 pub mod read_cuts;
 pub mod read_edges;
 pub mod read_facts;
+pub mod read_families;
 pub mod read_heading;
 pub mod read_nodes;
 pub mod read_plan;
+pub mod read_relations;
 pub mod read_statuses;
 pub mod sets;

@@ -1,12 +1,14 @@
 // The entries of a list that was read, copied out of the bytes.
+use crate::case::Observations;
 use crate::fields::to_index;
 use crate::plan::Decisions;
 use crate::plan::Numbers;
 ghost use mathlib.Core.Path.{_≡_};
 ghost use Prim.Native.Nat.{_+_, _*_, _≤_};
 ghost use lib.ListN.{length, take};
+ghost use Rattle.records.specs.Case as case;
 ghost use Rattle.records.specs.Plan as paper;
-ghost use Rattle.records.specs.Decoded.{numbersOf, decisionsOf};
+ghost use Rattle.records.specs.Decoded.{numbersOf, decisionsOf, observationsOf};
 ghost use Rattle.records.specs.Readers.{span};
 
 pub fn numbers_from(s: &[u8], first: usize, count: u8) -> Numbers
@@ -57,5 +59,25 @@ pub fn decisions_from(s: &[u8], first: usize, count: u8) -> Decisions
         count: count,
         edges: edges,
         verdicts: verdicts,
+    }
+}
+
+pub fn observations_from(s: &[u8], first: usize, count: u8) -> Observations
+    requires { ⌜ (count ≤ 16) × (first + count * 2 ≤ length (now s)) ⌝ }
+    ensures { λ r. ⌜ observationsOf r ≡ case.observationsOf (span (now (s .entry)) first (count * 2)) ⌝ }
+{
+    let n = to_index(count);
+    let mut values = [0u8; 16];
+    let mut evidence = [0u8; 16];
+    let mut i: usize = 0;
+    while i < n {
+        values[i] = s[first + i * 2];
+        evidence[i] = s[first + i * 2 + 1];
+        i = i + 1;
+    }
+    Observations {
+        count: count,
+        values: values,
+        evidence: evidence,
     }
 }

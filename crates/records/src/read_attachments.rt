@@ -16,7 +16,8 @@ ghost use Prim.Native.Nat.{_≤_, _+_};
 ghost use lib.ListN.{length};
 ghost use Rattle.records.specs.Plan as paper;
 ghost use Rattle.records.specs.Readers.{mapRead};
-ghost use Rattle.records.specs.Passes.{rawAt, seenBy, Passed, attachmentRead, attachmentsOf, withAttachments};
+ghost use Rattle.records.specs.Passes.{rawOf, seenBy, Passed};
+ghost use Rattle.records.specs.PlanPasses.{planReading, attachmentRead, attachmentsOf, withAttachments};
 
 pub enum AttachmentSeen {
     Got(u8, Attachment, usize),
@@ -24,7 +25,7 @@ pub enum AttachmentSeen {
 }
 
 pub fn attachment_at(s: &[u8], at: usize) -> AttachmentSeen
-    ensures { λ r. ⌜ attachmentRead r ≡ mapRead (seenBy paper.attachmentOf) (rawAt 6 (now (s .entry)) at) ⌝ }
+    ensures { λ r. ⌜ attachmentRead r ≡ mapRead (seenBy paper.attachmentOf) (rawOf paper.planFormats 6 (now (s .entry)) at) ⌝ }
 {
     let Field::Got(bits, p) = byte_at(s, at, 0, 255) else {
         return AttachmentSeen::Bad;
@@ -90,7 +91,7 @@ pub fn no_attachments() -> Attachments
 pub fn read_attachments(s: &[u8], start: usize, before: usize, headed: bool) -> AttachmentsRead
     requires { ⌜ before ≤ start ⌝ }
     ensures { λ r.
-        ⌜ Passed withAttachments 6 (now (s .entry)) headed start before (r .number) (r .record) (r .at) (attachmentsOf (r .attachments))
+        ⌜ Passed planReading withAttachments 6 (now (s .entry)) headed start before (r .number) (r .record) (r .at) (attachmentsOf (r .attachments))
         × (r .record ≤ r .at) ⌝ }
 {
     let mut attachments = no_attachments();

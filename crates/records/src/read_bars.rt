@@ -11,8 +11,10 @@ ghost use mathlib.Core.Path.{_≡_};
 ghost use mathlib.Core.List.{[]};
 ghost use Prim.Native.Nat.{_≤_, _+_};
 ghost use lib.ListN.{length};
+ghost use Rattle.records.specs.Plan.{planFormats};
 ghost use Rattle.records.specs.Readers.{mapRead};
-ghost use Rattle.records.specs.Passes.{rawAt, seenBy, Passed, barRead, barFrom, barsOf, withBars};
+ghost use Rattle.records.specs.Passes.{rawOf, seenBy, Passed};
+ghost use Rattle.records.specs.PlanPasses.{planReading, barRead, barFrom, barsOf, withBars};
 
 pub enum BarSeen {
     Got(u8, Bar, usize),
@@ -20,7 +22,7 @@ pub enum BarSeen {
 }
 
 pub fn bar_at(s: &[u8], at: usize) -> BarSeen
-    ensures { λ r. ⌜ barRead r ≡ mapRead (seenBy barFrom) (rawAt 7 (now (s .entry)) at) ⌝ }
+    ensures { λ r. ⌜ barRead r ≡ mapRead (seenBy barFrom) (rawOf planFormats 7 (now (s .entry)) at) ⌝ }
 {
     let Field::Got(bits, p) = byte_at(s, at, 0, 255) else {
         return BarSeen::Bad;
@@ -70,7 +72,7 @@ pub fn no_bars() -> Bars
 pub fn read_bars(s: &[u8], start: usize, before: usize, headed: bool) -> BarsRead
     requires { ⌜ before ≤ start ⌝ }
     ensures { λ r.
-        ⌜ Passed withBars 7 (now (s .entry)) headed start before (r .number) (r .record) (r .at) (barsOf (r .bars))
+        ⌜ Passed planReading withBars 7 (now (s .entry)) headed start before (r .number) (r .record) (r .at) (barsOf (r .bars))
         × (r .record ≤ r .at) ⌝ }
 {
     let mut bars = no_bars();

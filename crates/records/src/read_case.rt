@@ -1,22 +1,22 @@
-// A case out of its bytes: record after record, kinds never falling.
-use crate::case::Boolean;
-use crate::case::Booleans;
+// A case out of its bytes, kind after kind, then over its plan.
 use crate::case::Case;
-use crate::case::CaseHeading;
-use crate::case::Constraints;
-use crate::case::Families;
-use crate::case::Family;
-use crate::case::Observations;
-use crate::case::Relation;
-use crate::case::Relations;
 use crate::case_naming::case_naming;
-use crate::case_steps::add_record;
 use crate::checked::Checked;
 use crate::plan::Plan;
+use crate::read_booleans::no_booleans;
+use crate::read_booleans::read_booleans;
+use crate::read_case_heading::no_heading;
+use crate::read_case_heading::read_case_heading;
+use crate::read_constraints::no_constraints;
+use crate::read_constraints::read_constraints;
+use crate::read_families::no_families;
+use crate::read_families::read_families;
+use crate::read_relations::no_relations;
+use crate::read_relations::read_relations;
 ghost use mathlib.Core.Path.{_≡_};
-ghost use Rattle.records.specs.Case.{caseRecords, emptyCase, readCase};
-ghost use Rattle.records.specs.Decoded.{planOf, caseOf};
-ghost use Rattle.records.specs.CaseSteps.{caseReadOf};
+ghost use Rattle.records.specs.Case.{caseRecords, readCase};
+ghost use Rattle.records.specs.Decoded.{planOf};
+ghost use Rattle.records.specs.CaseRead.{caseReadOf};
 
 // number 0: read; else the refusal and its record
 pub struct CaseRead {
@@ -25,102 +25,72 @@ pub struct CaseRead {
     pub case: Case,
 }
 
-fn no_case() -> Case
-    ensures { λ r. ⌜ caseOf r ≡ emptyCase ⌝ }
+fn refused(number: u8, k: usize) -> CaseRead
+    ensures { λ r. ⌜ (r .number ≡ number) × (r .record ≡ k) ⌝ }
 {
-    let heading = CaseHeading {
-        relation: 0,
-        scope: 0,
-        segment: 0,
-        segment_complete: false,
-        roster: 0,
-        complete: false,
-        evidence: 0,
-        most_worlds: 0,
-    };
-    let family = Family {
-        number: 0,
-        scope: 0,
-        complete: false,
-        evidence: 0,
-    };
-    let observations = Observations {
-        count: 0,
-        values: [0; 16],
-        evidence: [0; 16],
-    };
-    let boolean = Boolean {
-        fact: 0,
-        unknown: false,
-        evidence: 0,
-        observations: observations,
-    };
-    let relation = Relation {
-        fact: 0,
-        value: 0,
-        evidence: 0,
-    };
-    let families = Families {
-        count: 0,
-        items: [family; 16],
-    };
-    let booleans = Booleans {
-        count: 0,
-        items: [boolean; 64],
-    };
-    let relations = Relations {
-        count: 0,
-        items: [relation; 256],
-    };
-    let constraints = Constraints {
-        count: 0,
-        items: [0; 16],
-    };
-    Case {
+    let heading = no_heading();
+    let families = no_families();
+    let booleans = no_booleans();
+    let relations = no_relations();
+    let constraints = no_constraints();
+    let case = Case {
         headings: 0,
         heading: heading,
         families: families,
         booleans: booleans,
         relations: relations,
         constraints: constraints,
+    };
+    CaseRead {
+        number: number,
+        record: k,
+        case: case,
     }
 }
 
 pub fn read_case_records(s: &[u8]) -> CaseRead
     ensures { λ r. ⌜ caseReadOf r ≡ caseRecords (now (s .entry)) ⌝ }
 {
-    let mut case = no_case();
-    let mut at: usize = 0;
-    let mut kind: u8 = 0;
-    let mut k: usize = 0;
-    while at < s.len() {
-        if s[at] < kind {
-            return CaseRead {
-                number: 1,
-                record: k,
-                case: case,
-            };
-        }
-        let step = add_record(s, at, case);
-        if step.number != 0 {
-            return CaseRead {
-                number: step.number,
-                record: k,
-                case: case,
-            };
-        }
-        kind = s[at];
-        at = step.next;
-        case = step.case;
-        k = k + 1;
+    let h = read_case_heading(s);
+    if h.number != 0 {
+        return refused(h.number, h.record);
     }
-    if k == 0 {
-        return CaseRead {
-            number: 3,
-            record: 0,
-            case: case,
-        };
+    let headed = h.headings == 1;
+    let f = read_families(s, h.at, h.record, headed);
+    if f.number != 0 {
+        return refused(f.number, f.record);
     }
+    let b = read_booleans(s, f.at, f.record, headed);
+    if b.number != 0 {
+        return refused(b.number, b.record);
+    }
+    let r = read_relations(s, b.at, b.record, headed);
+    if r.number != 0 {
+        return refused(r.number, r.record);
+    }
+    let c = read_constraints(s, r.at, r.record, headed);
+    if c.number != 0 {
+        return refused(c.number, c.record);
+    }
+    if c.at < s.len() {
+        return refused(1, c.record);
+    }
+    if c.record == 0 {
+        return refused(3, 0);
+    }
+    let heading = h.heading;
+    let families = f.families;
+    let booleans = b.booleans;
+    let relations = r.relations;
+    let constraints = c.constraints;
+    let case = Case {
+        headings: h.headings,
+        heading: heading,
+        families: families,
+        booleans: booleans,
+        relations: relations,
+        constraints: constraints,
+    };
     CaseRead {
         number: 0,
         record: 0,

@@ -29,7 +29,8 @@ ghost use lib.Dec.{ltb};
 ghost use Rattle.records.specs.Sets.{allOf};
 ghost use Rattle.records.specs.Plan as paper;
 ghost use Rattle.records.specs.Readers.{mapRead};
-ghost use Rattle.records.specs.Passes.{rawAt, seenBy, Passed, cutRead, cutFits, cutsOf, withCuts};
+ghost use Rattle.records.specs.Passes.{rawOf, seenBy, Passed};
+ghost use Rattle.records.specs.PlanPasses.{planReading, cutRead, cutFits, cutsOf, withCuts};
 
 // `pairs` and `decided`, `first` and `count`: where the decisions and the cuts
 // it precedes stand
@@ -39,7 +40,7 @@ pub enum CutSeen {
 }
 
 pub fn cut_at(s: &[u8], at: usize) -> CutSeen
-    ensures { λ r. ⌜ (cutRead (now (s .entry)) r ≡ mapRead (seenBy paper.cutOf) (rawAt 5 (now (s .entry)) at)) × cutFits (now (s .entry)) r ⌝ }
+    ensures { λ r. ⌜ (cutRead (now (s .entry)) r ≡ mapRead (seenBy paper.cutOf) (rawOf paper.planFormats 5 (now (s .entry)) at)) × cutFits (now (s .entry)) r ⌝ }
 {
     let Field::Got(bits, p) = byte_at(s, at, 0, 255) else {
         return CutSeen::Bad;
@@ -117,7 +118,7 @@ pub fn no_cuts() -> Cuts
 pub fn read_cuts(s: &[u8], start: usize, before: usize, headed: bool) -> CutsRead
     requires { ⌜ before ≤ start ⌝ }
     ensures { λ r.
-        ⌜ Passed withCuts 5 (now (s .entry)) headed start before (r .number) (r .record) (r .at) (cutsOf (r .cuts))
+        ⌜ Passed planReading withCuts 5 (now (s .entry)) headed start before (r .number) (r .record) (r .at) (cutsOf (r .cuts))
         × (r .record ≤ r .at) × (ltb 16 (paper.unresolved (cutsOf (r .cuts))) ≡ false)
         × (allOf (λ c. paper.decidedOnce (c .decisions)) (cutsOf (r .cuts)) ≡ true) ⌝ }
 {

@@ -15,7 +15,8 @@ ghost use Prim.Native.Nat.{_≤_, _+_};
 ghost use lib.ListN.{length};
 ghost use Rattle.records.specs.Plan as paper;
 ghost use Rattle.records.specs.Readers.{mapRead};
-ghost use Rattle.records.specs.Passes.{rawAt, seenBy, Passed, edgeRead, edgeFits, edgesOf, withEdges};
+ghost use Rattle.records.specs.Passes.{rawOf, seenBy, Passed};
+ghost use Rattle.records.specs.PlanPasses.{planReading, edgeRead, edgeFits, edgesOf, withEdges};
 
 // `first` and `count`: where the defeaters stand
 pub enum EdgeSeen {
@@ -24,7 +25,7 @@ pub enum EdgeSeen {
 }
 
 pub fn edge_at(s: &[u8], at: usize) -> EdgeSeen
-    ensures { λ r. ⌜ (edgeRead (now (s .entry)) r ≡ mapRead (seenBy paper.edgeOf) (rawAt 4 (now (s .entry)) at)) × edgeFits (now (s .entry)) r ⌝ }
+    ensures { λ r. ⌜ (edgeRead (now (s .entry)) r ≡ mapRead (seenBy paper.edgeOf) (rawOf paper.planFormats 4 (now (s .entry)) at)) × edgeFits (now (s .entry)) r ⌝ }
 {
     let Field::Got(bits, p) = byte_at(s, at, 0, 255) else {
         return EdgeSeen::Bad;
@@ -82,7 +83,7 @@ pub fn no_edges() -> Edges
 pub fn read_edges(s: &[u8], start: usize, before: usize, headed: bool) -> EdgesRead
     requires { ⌜ before ≤ start ⌝ }
     ensures { λ r.
-        ⌜ Passed withEdges 4 (now (s .entry)) headed start before (r .number) (r .record) (r .at) (edgesOf (r .edges))
+        ⌜ Passed planReading withEdges 4 (now (s .entry)) headed start before (r .number) (r .record) (r .at) (edgesOf (r .edges))
         × (r .record ≤ r .at) ⌝ }
 {
     let mut edges = no_edges();

@@ -16,7 +16,8 @@ ghost use Prim.Native.Nat.{_≤_};
 ghost use lib.ListN.{length};
 ghost use Rattle.records.specs.Plan as paper;
 ghost use Rattle.records.specs.Readers.{mapRead};
-ghost use Rattle.records.specs.Passes.{rawAt, seenBy, Passed, factBits, factRead, factFits, factFrom, factsOf, withFacts};
+ghost use Rattle.records.specs.Passes.{rawOf, seenBy, Passed};
+ghost use Rattle.records.specs.PlanPasses.{planReading, factBits, factRead, factFits, factFrom, factsOf, withFacts};
 
 // `first` and `count`: where the tuple stands
 pub enum FactSeen {
@@ -25,7 +26,7 @@ pub enum FactSeen {
 }
 
 pub fn fact_at(s: &[u8], at: usize) -> FactSeen
-    ensures { λ r. ⌜ (factRead (now (s .entry)) r ≡ mapRead (seenBy factFrom) (rawAt 2 (now (s .entry)) at)) × factFits (now (s .entry)) r ⌝ }
+    ensures { λ r. ⌜ (factRead (now (s .entry)) r ≡ mapRead (seenBy factFrom) (rawOf paper.planFormats 2 (now (s .entry)) at)) × factFits (now (s .entry)) r ⌝ }
 {
     let Field::Got(bits, p) = byte_at(s, at, 0, 255) else {
         return FactSeen::Bad;
@@ -68,7 +69,7 @@ pub fn no_facts() -> Facts
 pub fn read_facts(s: &[u8], start: usize, before: usize, headed: bool) -> FactsRead
     requires { ⌜ before ≤ start ⌝ }
     ensures { λ r.
-        ⌜ Passed withFacts 2 (now (s .entry)) headed start before (r .number) (r .record) (r .at) (factsOf (r .facts))
+        ⌜ Passed planReading withFacts 2 (now (s .entry)) headed start before (r .number) (r .record) (r .at) (factsOf (r .facts))
         × (r .record ≤ r .at) × (paper.factsRise (factsOf (r .facts)) ≡ true) ⌝ }
 {
     let mut facts = no_facts();

@@ -6,8 +6,10 @@ use crate::judge::judged;
 ghost use mathlib.Core.Path.{_≡_};
 ghost use mathlib.Core.Bool.{false};
 ghost use Prim.Native.Nat.{_≤_};
+ghost use Rattle.records.specs.Plan.{planFormats};
 ghost use Rattle.records.specs.Readers.{mapRead};
-ghost use Rattle.records.specs.Passes.{rawAt, seenBy, Passed, headingRead, headingFrom, headingsBy, withHeadings};
+ghost use Rattle.records.specs.Passes.{rawOf, seenBy, Passed};
+ghost use Rattle.records.specs.PlanPasses.{planReading, headingRead, headingFrom, headingsBy, withHeadings};
 
 pub enum HeadingSeen {
     Got(u8, u8, u8, usize),
@@ -15,7 +17,7 @@ pub enum HeadingSeen {
 }
 
 pub fn heading_at(s: &[u8], at: usize) -> HeadingSeen
-    ensures { λ r. ⌜ headingRead r ≡ mapRead (seenBy headingFrom) (rawAt 1 (now (s .entry)) at) ⌝ }
+    ensures { λ r. ⌜ headingRead r ≡ mapRead (seenBy headingFrom) (rawOf planFormats 1 (now (s .entry)) at) ⌝ }
 {
     let Field::Got(bits, p) = byte_at(s, at, 0, 255) else {
         return HeadingSeen::Bad;
@@ -45,7 +47,7 @@ pub struct HeadingRead {
 
 pub fn read_heading(s: &[u8]) -> HeadingRead
     ensures { λ r.
-        ⌜ Passed withHeadings 1 (now (s .entry)) false 0 0 (r .number) (r .record) (r .at) (headingsBy (r .headings) (r .relation) (r .chained) (r .chain))
+        ⌜ Passed planReading withHeadings 1 (now (s .entry)) false 0 0 (r .number) (r .record) (r .at) (headingsBy (r .headings) (r .relation) (r .chained) (r .chain))
         × (r .record ≤ r .at) × (r .headings ≤ 1) ⌝ }
 {
     let mut headings: usize = 0;

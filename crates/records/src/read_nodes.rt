@@ -18,7 +18,8 @@ ghost use Rattle.records.specs.Fields.{single};
 ghost use Rattle.records.specs.Plan as paper;
 ghost use Rattle.records.specs.Decoded as decoded;
 ghost use Rattle.records.specs.Readers.{mapRead};
-ghost use Rattle.records.specs.Passes.{rawAt, seenBy, Passed, nodeSeen, nodeRead, nodeFits, nodesOf, withNodes};
+ghost use Rattle.records.specs.Passes.{rawOf, seenBy, Passed};
+ghost use Rattle.records.specs.PlanPasses.{planReading, nodeSeen, nodeRead, nodeFits, nodesOf, withNodes};
 
 // `ands`, `ors` with their counts: where the children stand
 pub enum NodeSeen {
@@ -27,7 +28,7 @@ pub enum NodeSeen {
 }
 
 pub fn node_at(s: &[u8], at: usize) -> NodeSeen
-    ensures { λ r. ⌜ (nodeRead (now (s .entry)) r ≡ mapRead (seenBy paper.nodeOf) (rawAt 3 (now (s .entry)) at)) × nodeFits (now (s .entry)) r ⌝ }
+    ensures { λ r. ⌜ (nodeRead (now (s .entry)) r ≡ mapRead (seenBy paper.nodeOf) (rawOf paper.planFormats 3 (now (s .entry)) at)) × nodeFits (now (s .entry)) r ⌝ }
 {
     let Field::Got(bits, p) = byte_at(s, at, 0, 255) else {
         return NodeSeen::Bad;
@@ -144,7 +145,7 @@ pub fn no_nodes() -> Nodes
 pub fn read_nodes(s: &[u8], start: usize, before: usize, headed: bool) -> NodesRead
     requires { ⌜ before ≤ start ⌝ }
     ensures { λ r.
-        ⌜ Passed withNodes 3 (now (s .entry)) headed start before (r .number) (r .record) (r .at) (nodesOf (r .nodes))
+        ⌜ Passed planReading withNodes 3 (now (s .entry)) headed start before (r .number) (r .record) (r .at) (nodesOf (r .nodes))
         × (r .record ≤ r .at) ⌝ }
 {
     let mut nodes = no_nodes();

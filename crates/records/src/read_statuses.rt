@@ -9,8 +9,10 @@ ghost use mathlib.Core.Path.{_≡_};
 ghost use mathlib.Core.List.{[]};
 ghost use Prim.Native.Nat.{_≤_, _+_};
 ghost use lib.ListN.{length};
+ghost use Rattle.records.specs.Plan.{planFormats};
 ghost use Rattle.records.specs.Readers.{mapRead};
-ghost use Rattle.records.specs.Passes.{rawAt, seenBy, Passed, statusRead, statusFrom, statusesOf, withStatuses};
+ghost use Rattle.records.specs.Passes.{rawOf, seenBy, Passed};
+ghost use Rattle.records.specs.PlanPasses.{planReading, statusRead, statusFrom, statusesOf, withStatuses};
 
 pub enum StatusSeen {
     Got(u8, Status, usize),
@@ -18,7 +20,7 @@ pub enum StatusSeen {
 }
 
 pub fn status_at(s: &[u8], at: usize) -> StatusSeen
-    ensures { λ r. ⌜ statusRead r ≡ mapRead (seenBy statusFrom) (rawAt 8 (now (s .entry)) at) ⌝ }
+    ensures { λ r. ⌜ statusRead r ≡ mapRead (seenBy statusFrom) (rawOf planFormats 8 (now (s .entry)) at) ⌝ }
 {
     let Field::Got(bits, p) = byte_at(s, at, 0, 255) else {
         return StatusSeen::Bad;
@@ -68,7 +70,7 @@ pub fn no_statuses() -> Statuses
 pub fn read_statuses(s: &[u8], start: usize, before: usize, headed: bool) -> StatusesRead
     requires { ⌜ before ≤ start ⌝ }
     ensures { λ r.
-        ⌜ Passed withStatuses 8 (now (s .entry)) headed start before (r .number) (r .record) (r .at) (statusesOf (r .statuses))
+        ⌜ Passed planReading withStatuses 8 (now (s .entry)) headed start before (r .number) (r .record) (r .at) (statusesOf (r .statuses))
         × (r .record ≤ r .at) ⌝ }
 {
     let mut statuses = no_statuses();

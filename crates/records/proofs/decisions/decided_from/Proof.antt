@@ -4,7 +4,7 @@ use Prim.Native.Nat.{_-_, _≤_}
 use native.Mathlib.Omega.{arith}
 use lib.Dec.{eqb}
 use Rattle.records.specs.Sets.{anyOf}
-use Rattle.records.specs.Passes.{decisionsFrom}
+use Rattle.records.specs.PlanPasses.{decisionsFrom}
 use Rattle.records.proofs.DecisionLaws.{any-here, any-later, any-none}
 use borrow.Author.Needs.{needs}
 use Rattle.records.proofs.decisions.decided_from.Statement.{statement}

@@ -4,7 +4,7 @@ use Prim.Native.Nat.{_-_, _≤_}
 use native.Mathlib.Omega.{arith}
 use Rattle.records.specs.Plan.{decidedOnce}
 use Rattle.records.specs.Decoded.{decisionsOf}
-use Rattle.records.specs.Passes.{decisionsFrom}
+use Rattle.records.specs.PlanPasses.{decisionsFrom}
 use Rattle.records.proofs.DecisionLaws.{from-all, once-not, once-more, once-done}
 use borrow.Author.Needs.{needs}
 use Rattle.records.proofs.decisions.decided_once.Statement.{statement}

@@ -5,7 +5,7 @@ use Prim.Native.Nat.{_+_, _-_, _≤_, _<_}
 use native.Mathlib.Omega.{arith}
 use Rattle.records.specs.Plan.{unresolvedIn}
 use Rattle.records.specs.Decoded.{decisionsOf}
-use Rattle.records.specs.Passes.{decisionsFrom}
+use Rattle.records.specs.PlanPasses.{decisionsFrom}
 use Rattle.records.proofs.DecisionLaws.{from-all, open-some, open-other, open-done}
 use borrow.Author.Needs.{needs}
 use Rattle.records.proofs.decisions.unresolved_in.Statement.{statement}

@@ -23,7 +23,7 @@ enum-told : tie.Need-enum-told
 enum-told c = search needs
 
 returns : tie.Need-returns
-returns c = (sym (ap (mapRead (seenBy paper.cutOf)) (raw-bits 5 (now (c .before .before .before .before .args .s)) (c .before .before .before .before .args .at) (seen fieldRead (c .before .before .byte-at .ensures) (c .enum-told .given .1)))), tt)
+returns c = (sym (ap (mapRead (seenBy paper.cutOf)) (raw-bits paper.planFormats 5 (now (c .before .before .before .before .args .s)) (c .before .before .before .before .args .at) (seen fieldRead (c .before .before .byte-at .ensures) (c .enum-told .given .1)))), tt)
 
 mask-at-requires : tie.Need-mask-at-requires
 mask-at-requires c κs = search needs
@@ -37,7 +37,7 @@ enum-told-2 c = search needs
 returns-2 : tie.Need-returns-2
 unfolding paper.planFormats
 returns-2 c = (
-  sym (ap (mapRead (seenBy paper.cutOf)) (raw-bad 5 (now (c .before .before .before .before .before .before .before .before .args .s)) (c .before .before .before .before .before .before .before .before .args .at) (seen fieldRead (c .before .before .before .before .before .before .byte-at .ensures) (c .before .before .before .before .bits .given .1))
+  sym (ap (mapRead (seenBy paper.cutOf)) (raw-bad paper.planFormats 5 (now (c .before .before .before .before .before .before .before .before .args .s)) (c .before .before .before .before .before .before .before .before .args .at) (seen fieldRead (c .before .before .before .before .before .before .byte-at .ensures) (c .before .before .before .before .bits .given .1))
       (stop _ _ _ _ refl _ _ (none little _ (seen wideRead (c .before .before .mask-at .ensures) (c .enum-told2 .given .1)))))),
   tt,
 )
@@ -54,7 +54,7 @@ enum-told-3 c = search needs
 returns-3 : tie.Need-returns-3
 unfolding paper.planFormats
 returns-3 c = (
-  sym (ap (mapRead (seenBy paper.cutOf)) (raw-bad 5 (now (c .before .before .before .before .before .before .before .before .before .before .before .before .args .s)) (c .before .before .before .before .before .before .before .before .before .before .before .before .args .at) (seen fieldRead (c .before .before .before .before .before .before .before .before .before .before .byte-at .ensures) (c .before .before .before .before .before .before .before .before .bits .given .1))
+  sym (ap (mapRead (seenBy paper.cutOf)) (raw-bad paper.planFormats 5 (now (c .before .before .before .before .before .before .before .before .before .before .before .before .args .s)) (c .before .before .before .before .before .before .before .before .before .before .before .before .args .at) (seen fieldRead (c .before .before .before .before .before .before .before .before .before .before .byte-at .ensures) (c .before .before .before .before .before .before .before .before .bits .given .1))
       (skip _ _ _ _ refl _ _ (found little _ (seen wideRead (c .before .before .before .before .before .before .mask-at .ensures) (c .before .before .before .before .members .given .1)) .is)
       (stop _ _ _ _ (half-of _ 2) _ _ (none first _ (seen fieldRead (c .before .before .opt-at .ensures) (c .enum-told3 .given .1))))))),
   tt,
@@ -72,7 +72,7 @@ enum-told-4 c = search needs
 returns-4 : tie.Need-returns-4
 unfolding paper.planFormats
 returns-4 c = (
-  sym (ap (mapRead (seenBy paper.cutOf)) (raw-bad 5 (now (c .before .before .before .before .before .before .before .before .before .before .before .before .before .before .before .before .args .s)) (c .before .before .before .before .before .before .before .before .before .before .before .before .before .before .before .before .args .at) (seen fieldRead (c .before .before .before .before .before .before .before .before .before .before .before .before .before .before .byte-at .ensures) (c .before .before .before .before .before .before .before .before .before .before .before .before .bits .given .1))
+  sym (ap (mapRead (seenBy paper.cutOf)) (raw-bad paper.planFormats 5 (now (c .before .before .before .before .before .before .before .before .before .before .before .before .before .before .before .before .args .s)) (c .before .before .before .before .before .before .before .before .before .before .before .before .before .before .before .before .args .at) (seen fieldRead (c .before .before .before .before .before .before .before .before .before .before .before .before .before .before .byte-at .ensures) (c .before .before .before .before .before .before .before .before .before .before .before .before .bits .given .1))
       (skip _ _ _ _ refl _ _ (found little _ (seen wideRead (c .before .before .before .before .before .before .before .before .before .before .mask-at .ensures) (c .before .before .before .before .before .before .before .before .members .given .1)) .is)
       (skip _ _ _ _ (half-of _ 2) _ _ (found first _ (seen fieldRead (c .before .before .before .before .before .before .opt-at .ensures) (c .before .before .before .before .condition .given .1)) .is)
       (stop _ _ _ _ (half-of _ 4) _ _ (none first _ (seen fieldRead (c .before .before .opt-at2 .ensures) (c .enum-told4 .given .1)))))))),
@@ -91,7 +91,7 @@ enum-told-5 c = search needs
 returns-5 : tie.Need-returns-5
 unfolding paper.planFormats
 returns-5 c = (
-  sym (ap (mapRead (seenBy paper.cutOf)) (raw-bad 5 (now (c .before .before .before .before .before .before .before .before .before .before .before .before .before .before .before .before .before .before .before .before .args .s)) (c .before .before .before .before .before .before .before .before .before .before .before .before .before .before .before .before .before .before .before .before .args .at) (seen fieldRead (c .before .before .before .before .before .before .before .before .before .before .before .before .before .before .before .before .before .before .byte-at .ensures) (c .before .before .before .before .before .before .before .before .before .before .before .before .before .before .before .before .bits .given .1))
+  sym (ap (mapRead (seenBy paper.cutOf)) (raw-bad paper.planFormats 5 (now (c .before .before .before .before .before .before .before .before .before .before .before .before .before .before .before .before .before .before .before .before .args .s)) (c .before .before .before .before .before .before .before .before .before .before .before .before .before .before .before .before .before .before .before .before .args .at) (seen fieldRead (c .before .before .before .before .before .before .before .before .before .before .before .before .before .before .before .before .before .before .byte-at .ensures) (c .before .before .before .before .before .before .before .before .before .before .before .before .before .before .before .before .bits .given .1))
       (skip _ _ _ _ refl _ _ (found little _ (seen wideRead (c .before .before .before .before .before .before .before .before .before .before .before .before .before .before .mask-at .ensures) (c .before .before .before .before .before .before .before .before .before .before .before .before .members .given .1)) .is)
       (skip _ _ _ _ (half-of _ 2) _ _ (found first _ (seen fieldRead (c .before .before .before .before .before .before .before .before .before .before .opt-at .ensures) (c .before .before .before .before .before .before .before .before .condition .given .1)) .is)
       (skip _ _ _ _ (half-of _ 4) _ _ (found first _ (seen fieldRead (c .before .before .before .before .before .before .opt-at2 .ensures) (c .before .before .before .before .citation .given .1)) .is)
@@ -111,7 +111,7 @@ enum-told-6 c = search needs
 returns-6 : tie.Need-returns-6
 unfolding paper.planFormats
 returns-6 c = (
-  sym (ap (mapRead (seenBy paper.cutOf)) (raw-bad 5 (now (c .before .before .before .before .before .before .before .before .before .before .before .before .before .before .before .before .before .before .before .before .before .before .before .before .args .s)) (c .before .before .before .before .before .before .before .before .before .before .before .before .before .before .before .before .before .before .before .before .before .before .before .before .args .at) (seen fieldRead (c .before .before .before .before .before .before .before .before .before .before .before .before .before .before .before .before .before .before .before .before .before .before .byte-at .ensures) (c .before .before .before .before .before .before .before .before .before .before .before .before .before .before .before .before .before .before .before .before .bits .given .1))
+  sym (ap (mapRead (seenBy paper.cutOf)) (raw-bad paper.planFormats 5 (now (c .before .before .before .before .before .before .before .before .before .before .before .before .before .before .before .before .before .before .before .before .before .before .before .before .args .s)) (c .before .before .before .before .before .before .before .before .before .before .before .before .before .before .before .before .before .before .before .before .before .before .before .before .args .at) (seen fieldRead (c .before .before .before .before .before .before .before .before .before .before .before .before .before .before .before .before .before .before .before .before .before .before .byte-at .ensures) (c .before .before .before .before .before .before .before .before .before .before .before .before .before .before .before .before .before .before .before .before .bits .given .1))
       (skip _ _ _ _ refl _ _ (found little _ (seen wideRead (c .before .before .before .before .before .before .before .before .before .before .before .before .before .before .before .before .before .before .mask-at .ensures) (c .before .before .before .before .before .before .before .before .before .before .before .before .before .before .before .before .members .given .1)) .is)
       (skip _ _ _ _ (half-of _ 2) _ _ (found first _ (seen fieldRead (c .before .before .before .before .before .before .before .before .before .before .before .before .before .before .opt-at .ensures) (c .before .before .before .before .before .before .before .before .before .before .before .before .condition .given .1)) .is)
       (skip _ _ _ _ (half-of _ 4) _ _ (found first _ (seen fieldRead (c .before .before .before .before .before .before .before .before .before .before .opt-at2 .ensures) (c .before .before .before .before .before .before .before .before .citation .given .1)) .is)
@@ -132,7 +132,7 @@ enum-told-7 c = search needs
 returns-7 : tie.Need-returns-7
 unfolding paper.planFormats
 returns-7 c = (
-  sym (ap (mapRead (seenBy paper.cutOf)) (raw-bad 5 (now (c .before .before .before .before .before .before .before .before .before .before .before .before .before .before .before .before .before .before .before .before .before .before .before .before .before .before .before .before .args .s)) (c .before .before .before .before .before .before .before .before .before .before .before .before .before .before .before .before .before .before .before .before .before .before .before .before .before .before .before .before .args .at) (seen fieldRead (c .before .before .before .before .before .before .before .before .before .before .before .before .before .before .before .before .before .before .before .before .before .before .before .before .before .before .byte-at .ensures) (c .before .before .before .before .before .before .before .before .before .before .before .before .before .before .before .before .before .before .before .before .before .before .before .before .bits .given .1))
+  sym (ap (mapRead (seenBy paper.cutOf)) (raw-bad paper.planFormats 5 (now (c .before .before .before .before .before .before .before .before .before .before .before .before .before .before .before .before .before .before .before .before .before .before .before .before .before .before .before .before .args .s)) (c .before .before .before .before .before .before .before .before .before .before .before .before .before .before .before .before .before .before .before .before .before .before .before .before .before .before .before .before .args .at) (seen fieldRead (c .before .before .before .before .before .before .before .before .before .before .before .before .before .before .before .before .before .before .before .before .before .before .before .before .before .before .byte-at .ensures) (c .before .before .before .before .before .before .before .before .before .before .before .before .before .before .before .before .before .before .before .before .before .before .before .before .bits .given .1))
       (skip _ _ _ _ refl _ _ (found little _ (seen wideRead (c .before .before .before .before .before .before .before .before .before .before .before .before .before .before .before .before .before .before .before .before .before .before .mask-at .ensures) (c .before .before .before .before .before .before .before .before .before .before .before .before .before .before .before .before .before .before .before .before .members .given .1)) .is)
       (skip _ _ _ _ (half-of _ 2) _ _ (found first _ (seen fieldRead (c .before .before .before .before .before .before .before .before .before .before .before .before .before .before .before .before .before .before .opt-at .ensures) (c .before .before .before .before .before .before .before .before .before .before .before .before .before .before .before .before .condition .given .1)) .is)
       (skip _ _ _ _ (half-of _ 4) _ _ (found first _ (seen fieldRead (c .before .before .before .before .before .before .before .before .before .before .before .before .before .before .opt-at2 .ensures) (c .before .before .before .before .before .before .before .before .before .before .before .before .citation .given .1)) .is)
@@ -148,7 +148,7 @@ returns-8 c =
     let f0 = (rw (c .before .before .before .before .before .before .pairs .given .1) at (c .before .before .before .before .before .before .before .before .pairs-at .ensures .1)) in
     let f1 = (rw (c .before .before .first .given .1) at (c .before .before .before .before .list-at .ensures .1)) in (
       rw (
-        raw-got 5 (now (c .before .before .before .before .before .before .before .before .before .before .before .before .before .before .before .before .before .before .before .before .before .before .before .before .before .before .before .before .before .before .args .s)) (c .before .before .before .before .before .before .before .before .before .before .before .before .before .before .before .before .before .before .before .before .before .before .before .before .before .before .before .before .before .before .args .at) (seen fieldRead (c .before .before .before .before .before .before .before .before .before .before .before .before .before .before .before .before .before .before .before .before .before .before .before .before .before .before .before .before .byte-at .ensures) (c .before .before .before .before .before .before .before .before .before .before .before .before .before .before .before .before .before .before .before .before .before .before .before .before .before .before .bits .given .1))
+        raw-got paper.planFormats 5 (now (c .before .before .before .before .before .before .before .before .before .before .before .before .before .before .before .before .before .before .before .before .before .before .before .before .before .before .before .before .before .before .args .s)) (c .before .before .before .before .before .before .before .before .before .before .before .before .before .before .before .before .before .before .before .before .before .before .before .before .before .before .before .before .before .before .args .at) (seen fieldRead (c .before .before .before .before .before .before .before .before .before .before .before .before .before .before .before .before .before .before .before .before .before .before .before .before .before .before .before .before .byte-at .ensures) (c .before .before .before .before .before .before .before .before .before .before .before .before .before .before .before .before .before .before .before .before .before .before .before .before .before .before .bits .given .1))
             (more _ _ _ _ refl _ _ (found little _ (seen wideRead (c .before .before .before .before .before .before .before .before .before .before .before .before .before .before .before .before .before .before .before .before .before .before .before .before .mask-at .ensures) (c .before .before .before .before .before .before .before .before .before .before .before .before .before .before .before .before .before .before .before .before .before .before .members .given .1)) .is)
             (more _ _ _ _ (half-of _ 2) _ _ (found first _ (seen fieldRead (c .before .before .before .before .before .before .before .before .before .before .before .before .before .before .before .before .before .before .before .before .opt-at .ensures) (c .before .before .before .before .before .before .before .before .before .before .before .before .before .before .before .before .before .before .condition .given .1)) .is)
             (more _ _ _ _ (half-of _ 4) _ _ (found first _ (seen fieldRead (c .before .before .before .before .before .before .before .before .before .before .before .before .before .before .before .before .opt-at2 .ensures) (c .before .before .before .before .before .before .before .before .before .before .before .before .before .before .citation .given .1)) .is)
@@ -167,7 +167,7 @@ returns-8 c =
 returns-9 : tie.Need-returns-9
 unfolding paper.planFormats
 returns-9 c = (
-  sym (ap (mapRead (seenBy paper.cutOf)) (raw-bad 5 (now (c .before .before .before .before .before .before .before .before .before .before .before .before .before .before .before .before .before .before .before .before .before .before .before .before .before .before .before .before .before .before .args .s)) (c .before .before .before .before .before .before .before .before .before .before .before .before .before .before .before .before .before .before .before .before .before .before .before .before .before .before .before .before .before .before .args .at) (seen fieldRead (c .before .before .before .before .before .before .before .before .before .before .before .before .before .before .before .before .before .before .before .before .before .before .before .before .before .before .before .before .byte-at .ensures) (c .before .before .before .before .before .before .before .before .before .before .before .before .before .before .before .before .before .before .before .before .before .before .before .before .before .before .bits .given .1))
+  sym (ap (mapRead (seenBy paper.cutOf)) (raw-bad paper.planFormats 5 (now (c .before .before .before .before .before .before .before .before .before .before .before .before .before .before .before .before .before .before .before .before .before .before .before .before .before .before .before .before .before .before .args .s)) (c .before .before .before .before .before .before .before .before .before .before .before .before .before .before .before .before .before .before .before .before .before .before .before .before .before .before .before .before .before .before .args .at) (seen fieldRead (c .before .before .before .before .before .before .before .before .before .before .before .before .before .before .before .before .before .before .before .before .before .before .before .before .before .before .before .before .byte-at .ensures) (c .before .before .before .before .before .before .before .before .before .before .before .before .before .before .before .before .before .before .before .before .before .before .before .before .before .before .bits .given .1))
       (skip _ _ _ _ refl _ _ (found little _ (seen wideRead (c .before .before .before .before .before .before .before .before .before .before .before .before .before .before .before .before .before .before .before .before .before .before .before .before .mask-at .ensures) (c .before .before .before .before .before .before .before .before .before .before .before .before .before .before .before .before .before .before .before .before .before .before .members .given .1)) .is)
       (skip _ _ _ _ (half-of _ 2) _ _ (found first _ (seen fieldRead (c .before .before .before .before .before .before .before .before .before .before .before .before .before .before .before .before .before .before .before .before .opt-at .ensures) (c .before .before .before .before .before .before .before .before .before .before .before .before .before .before .before .before .before .before .condition .given .1)) .is)
       (skip _ _ _ _ (half-of _ 4) _ _ (found first _ (seen fieldRead (c .before .before .before .before .before .before .before .before .before .before .before .before .before .before .before .before .opt-at2 .ensures) (c .before .before .before .before .before .before .before .before .before .before .before .before .before .before .citation .given .1)) .is)

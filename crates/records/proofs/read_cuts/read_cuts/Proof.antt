@@ -11,7 +11,7 @@ use lib.ListN.{length, length-set}
 use borrow.Author.Tests.{le-ltb, ltb-false}
 use Rattle.records.specs.Sets.{allOf}
 use Rattle.records.specs.Decoded.{cutOf}
-use Rattle.records.specs.Passes.{cutRead, cutsOf}
+use Rattle.records.specs.PlanPasses.{cutRead, cutsOf}
 use Rattle.records.proofs.LoopLaws.{length-made}
 use Rattle.records.proofs.Reading.{seen}
 use Rattle.records.proofs.Passing.{Going, going, ends-short, ends-other, refused-bad, refused-judged, goes-on, goes-later}

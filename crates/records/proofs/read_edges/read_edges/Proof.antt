@@ -7,7 +7,7 @@ use denote.Ref.{now}
 use lib.ListN.{length, length-set}
 use Rattle.records.specs.Sets.{has}
 use Rattle.records.specs.Decoded.{edgeOf}
-use Rattle.records.specs.Passes.{edgesOf, edgeRead}
+use Rattle.records.specs.PlanPasses.{edgesOf, edgeRead}
 use Rattle.records.proofs.LoopLaws.{length-made}
 use Rattle.records.proofs.Reading.{seen}
 use Rattle.records.proofs.Passing.{Going, going, ends-short, ends-other, refused-bad, refused-judged, goes-on, goes-later}

@@ -8,7 +8,7 @@ use denote.Ref.{now}
 use lib.ListN.{length}
 use Rattle.records.specs.Plan.{Heading}
 use Rattle.records.specs.Decoded.{given}
-use Rattle.records.specs.Passes.{headingRead, headingsBy}
+use Rattle.records.specs.PlanPasses.{headingRead, headingsBy}
 use Rattle.records.proofs.Reading.{seen}
 use Rattle.records.proofs.Passing.{Going, going, ends-short, ends-other, refused-bad, refused-judged, goes-on, goes-later}
 use Rattle.records.proofs.KindLaws.{headingKind, needs-test, judge-same, heading-count, heading-none}

@@ -7,7 +7,7 @@ use denote.Ref.{now}
 use lib.ListN.{length, length-set}
 use Rattle.records.specs.Fields as fields
 use Rattle.records.specs.Decoded.{statusOf}
-use Rattle.records.specs.Passes.{statusesOf, statusRead}
+use Rattle.records.specs.PlanPasses.{statusesOf, statusRead}
 use Rattle.records.proofs.LoopLaws.{length-made}
 use Rattle.records.proofs.Reading.{seen}
 use Rattle.records.proofs.Passing.{Going, going, ends-short, ends-other, refused-bad, refused-judged, goes-on, goes-later}

@@ -1,0 +1,113 @@
+-- The passes over a case: what each kind's reader and its list stand for. Contracts of src/read_case_heading.rt, read_families.rt,
+-- read_booleans.rt, read_relations.rt and read_constraints.rt cite it.
+use mathlib.Core.Path.{_≡_}
+use mathlib.Core.Bool.{Bool, not}
+use mathlib.Core.List.{List, [], _∷_, map}
+use Prim.Native.Nat.{ℕ, _+_, _*_, _/_, _%_, _≤_}
+use lib.ListN.{length, take}
+use lib.Dec.{eqb}
+use Rattle.records.specs.Fields.{field, num, Read, got, bad, Raw}
+use Rattle.records.specs.Case.{Case, CaseHeading, Family, Boolean, Relation, caseFormats, addToCase, judgeCase, observationsOf}
+use Rattle.records.specs.Decoded as decoded
+use Rattle.records.specs.Decoded.{given}
+use Rattle.records.specs.Readers.{span}
+use Rattle.records.specs.Passes.{Seen, Reading}
+use Rattle.records.specs.declared.case.CaseHeading as code
+use Rattle.records.specs.declared.read_case_heading.HeadingSeen.{HeadingSeen}
+use Rattle.records.specs.declared.read_case_heading.HeadingSeen.the-variants as heading
+use Rattle.records.specs.declared.case.Families.{Families}
+use Rattle.records.specs.declared.read_families.FamilySeen.{FamilySeen}
+use Rattle.records.specs.declared.read_families.FamilySeen.the-variants as family
+use Rattle.records.specs.declared.case.Booleans.{Booleans}
+use Rattle.records.specs.declared.read_booleans.BooleanSeen.{BooleanSeen}
+use Rattle.records.specs.declared.read_booleans.BooleanSeen.the-variants as boolean
+use Rattle.records.specs.declared.case.Relations.{Relations}
+use Rattle.records.specs.declared.read_relations.RelationSeen.{RelationSeen}
+use Rattle.records.specs.declared.read_relations.RelationSeen.the-variants as relation
+use Rattle.records.specs.declared.case.Constraints.{Constraints}
+use Rattle.records.specs.declared.read_constraints.ConstraintSeen.{ConstraintSeen}
+use Rattle.records.specs.declared.read_constraints.ConstraintSeen.the-variants as constraint
+
+-- there is a heading or none; nothing else of what was read is judged again
+abbrev pub Clean : Bool → Case → Type 0
+Clean headed C = not (eqb (length (C .headings)) 0) ≡ headed
+
+abbrev pub caseReading : Reading Case
+caseReading = record { formats = caseFormats; add = addToCase; judge = judgeCase; Clean = Clean }
+
+-- ---- the heading
+
+abbrev pub withHeadings : Case → List CaseHeading → Case
+withHeadings C xs = record { headings = xs; families = C .families; booleans = C .booleans; relations = C .relations; constraints = C .constraints }
+
+abbrev pub headingsBy : ℕ → code.CaseHeading → List CaseHeading
+headingsBy n h = take n (decoded.caseHeadingOf h ∷ [])
+
+abbrev pub headingRead : HeadingSeen → Read (Seen CaseHeading)
+headingRead (heading.Got b x n) = got (record { bits = b; item = decoded.caseHeadingOf x }) n
+headingRead heading.Bad = bad
+
+-- ---- families
+
+abbrev pub withFamilies : Case → List Family → Case
+withFamilies C xs = record { headings = C .headings; families = xs; booleans = C .booleans; relations = C .relations; constraints = C .constraints }
+
+abbrev pub familiesOf : Families → List Family
+familiesOf x = map decoded.familyOf (take (x .count) (x .items))
+
+abbrev pub familyBy : Raw → Family
+familyBy r = record { number = num r 0; scope = num r 1; complete = field r 2 }
+
+abbrev pub familyRead : FamilySeen → Read (Seen Family)
+familyRead (family.Got b x n) = got (record { bits = b; item = decoded.familyOf x }) n
+familyRead family.Bad = bad
+
+-- ---- booleans
+
+abbrev pub withBooleans : Case → List Boolean → Case
+withBooleans C xs = record { headings = C .headings; families = C .families; booleans = xs; relations = C .relations; constraints = C .constraints }
+
+abbrev pub booleansOf : Booleans → List Boolean
+booleansOf x = map decoded.booleanOf (take (x .count) (x .items))
+
+abbrev pub booleanBy : Raw → Boolean
+booleanBy r = record { fact = num r 0; unknown = field r 1; observations = observationsOf (field r 2) }
+
+abbrev pub booleanRead : List ℕ → BooleanSeen → Read (Seen Boolean)
+booleanRead s (boolean.Got b fact evidence at k n) =
+    got (record { bits = b; item = record { fact = fact; unknown = given (eqb (b / 2 % 2) 1) evidence; observations = observationsOf (span s at (k * 2)) } }) n
+booleanRead s boolean.Bad = bad
+
+abbrev pub booleanFits : List ℕ → BooleanSeen → Type 0
+booleanFits s (boolean.Got b fact evidence at k n) = (k ≤ 16) × (at + k * 2 ≤ length s)
+booleanFits s boolean.Bad = Unit {0}
+
+-- ---- relations
+
+abbrev pub withRelations : Case → List Relation → Case
+withRelations C xs = record { headings = C .headings; families = C .families; booleans = C .booleans; relations = xs; constraints = C .constraints }
+
+abbrev pub relationsOf : Relations → List Relation
+relationsOf x = map decoded.relationOf (take (x .count) (x .items))
+
+abbrev pub relationBy : Raw → Relation
+relationBy r = record { fact = num r 0; observation = record { value = num r 1; evidence = num r 2 } }
+
+abbrev pub relationRead : RelationSeen → Read (Seen Relation)
+relationRead (relation.Got b x n) = got (record { bits = b; item = decoded.relationOf x }) n
+relationRead relation.Bad = bad
+
+-- ---- constraints
+
+abbrev pub withConstraints : Case → List ℕ → Case
+withConstraints C xs = record { headings = C .headings; families = C .families; booleans = C .booleans; relations = C .relations; constraints = xs }
+
+abbrev pub constraintsOf : Constraints → List ℕ
+constraintsOf x = take (x .count) (x .items)
+
+abbrev pub constraintBy : Raw → ℕ
+constraintBy r = num r 0
+
+abbrev pub constraintRead : ConstraintSeen → Read (Seen ℕ)
+constraintRead (constraint.Got b node n) = got (record { bits = b; item = node }) n
+constraintRead constraint.Bad = bad

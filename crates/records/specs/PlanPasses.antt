@@ -1,0 +1,198 @@
+-- The passes over a plan: what each kind's reader and its list stand for. Contracts of src/read_*.rt cite it.
+use mathlib.Core.Path.{_≡_}
+use mathlib.Core.Bool.{Bool, true, false, _||_, not, cond}
+use mathlib.Core.List.{List, [], _∷_, map}
+use Prim.Native.Nat.{ℕ, _+_, _-_, _*_, _/_, _%_, _≤_}
+use lib.ListN.{length, getD, take}
+use lib.Dec.{eqb, ltb}
+use Rattle.records.specs.Sets.{has, allOf, numbers}
+use Rattle.records.specs.Fields.{field, num, wide, Read, got, bad, Raw}
+use Rattle.records.specs.Plan.{Plan, Heading, Fact, Node, literal, conj, disj, neg, Edge, Decision, Cut, Attachment, Bar, Status, planFormats, addToPlan, judgePlan, factsRise, decidedOnce, unresolved, decisionsOf}
+use Rattle.records.specs.Plan as paper
+use Rattle.records.specs.Decoded as decoded
+use Rattle.records.specs.Decoded.{given}
+use Rattle.records.specs.Readers.{span}
+use Rattle.records.specs.Passes.{Seen, Reading}
+use Rattle.records.specs.declared.plan.Edges.{Edges}
+use Rattle.records.specs.declared.read_edges.EdgeSeen.{EdgeSeen}
+use Rattle.records.specs.declared.read_edges.EdgeSeen.the-variants as edge
+use Rattle.records.specs.declared.plan.Bars.{Bars}
+use Rattle.records.specs.declared.read_bars.BarSeen.{BarSeen}
+use Rattle.records.specs.declared.read_bars.BarSeen.the-variants as bar
+use Rattle.records.specs.declared.plan.Statuses.{Statuses}
+use Rattle.records.specs.declared.read_statuses.StatusSeen.{StatusSeen}
+use Rattle.records.specs.declared.read_statuses.StatusSeen.the-variants as status
+use Rattle.records.specs.declared.plan.Attachments.{Attachments}
+use Rattle.records.specs.declared.read_attachments.AttachmentSeen.{AttachmentSeen}
+use Rattle.records.specs.declared.read_attachments.AttachmentSeen.the-variants as attachment
+use Rattle.records.specs.declared.read_heading.HeadingSeen.{HeadingSeen}
+use Rattle.records.specs.declared.read_heading.HeadingSeen.the-variants as heading
+use Rattle.records.specs.declared.plan.Facts.{Facts}
+use Rattle.records.specs.declared.read_facts.FactSeen.{FactSeen}
+use Rattle.records.specs.declared.read_facts.FactSeen.the-variants as fact
+use Rattle.records.specs.declared.plan.Nodes.{Nodes}
+use Rattle.records.specs.declared.read_nodes.NodeSeen.{NodeSeen}
+use Rattle.records.specs.declared.read_nodes.NodeSeen.the-variants as node
+use Rattle.records.specs.declared.plan.Cuts.{Cuts}
+use Rattle.records.specs.declared.read_cuts.CutSeen.{CutSeen}
+use Rattle.records.specs.declared.read_cuts.CutSeen.the-variants as cut
+use Rattle.records.specs.declared.plan.Decisions.{Decisions}
+
+-- nothing is wrong with what was read, and there is a heading or none
+pub record Clean (headed : Bool) (P : Plan) : Type 0 where
+  pub heads : eqb (length (P .headings)) 0 ≡ not headed
+  pub rise : factsRise (P .facts) ≡ true
+  pub few : ltb 16 (unresolved (P .cuts)) ≡ false
+  pub once : allOf (λ c. decidedOnce (c .decisions)) (P .cuts) ≡ true
+
+abbrev pub planReading : Reading Plan
+planReading = record { formats = planFormats; add = addToPlan; judge = judgePlan; Clean = Clean }
+
+-- ---- edges
+
+abbrev pub withEdges : Plan → List Edge → Plan
+withEdges P es = record { headings = P .headings; facts = P .facts; nodes = P .nodes; edges = es; cuts = P .cuts; attachments = P .attachments; bars = P .bars; statuses = P .statuses }
+
+abbrev pub edgesOf : Edges → List Edge
+edgesOf x = map decoded.edgeOf (take (x .count) (x .items))
+
+abbrev pub edgeRead : List ℕ → EdgeSeen → Read (Seen Edge)
+edgeRead s (edge.Got bits left right condition citation at k n) =
+    got (record { bits = bits; item = record { left = left; right = right; condition = condition; citation = citation; defeaters = span s at k; combination = has bits 5 } }) n
+edgeRead s edge.Bad = bad
+
+abbrev pub edgeFits : List ℕ → EdgeSeen → Type 0
+edgeFits s (edge.Got bits left right condition citation at k n) = (k ≤ 16) × (at + k ≤ length s)
+edgeFits s edge.Bad = Unit {0}
+
+-- ---- bars
+
+abbrev pub withBars : Plan → List Bar → Plan
+withBars P xs = record { headings = P .headings; facts = P .facts; nodes = P .nodes; edges = P .edges; cuts = P .cuts; attachments = P .attachments; bars = xs; statuses = P .statuses }
+
+abbrev pub barsOf : Bars → List Bar
+barsOf x = map decoded.barOf (take (x .count) (x .items))
+
+abbrev pub barFrom : Raw → Bar
+barFrom r = record { members = wide r 0; condition = num r 1; citation = num r 2 }
+
+abbrev pub barRead : BarSeen → Read (Seen Bar)
+barRead (bar.Got bits x n) = got (record { bits = bits; item = decoded.barOf x }) n
+barRead bar.Bad = bad
+
+-- ---- statuses
+
+abbrev pub withStatuses : Plan → List Status → Plan
+withStatuses P xs = record { headings = P .headings; facts = P .facts; nodes = P .nodes; edges = P .edges; cuts = P .cuts; attachments = P .attachments; bars = P .bars; statuses = xs }
+
+abbrev pub statusesOf : Statuses → List Status
+statusesOf x = map decoded.statusOf (take (x .count) (x .items))
+
+abbrev pub statusFrom : Raw → Status
+statusFrom r = record { person = num r 0; condition = num r 1; citation = num r 2 }
+
+abbrev pub statusRead : StatusSeen → Read (Seen Status)
+statusRead (status.Got bits x n) = got (record { bits = bits; item = decoded.statusOf x }) n
+statusRead status.Bad = bad
+
+-- ---- attachments
+
+abbrev pub withAttachments : Plan → List Attachment → Plan
+withAttachments P xs = record { headings = P .headings; facts = P .facts; nodes = P .nodes; edges = P .edges; cuts = P .cuts; attachments = xs; bars = P .bars; statuses = P .statuses }
+
+abbrev pub attachmentsOf : Attachments → List Attachment
+attachmentsOf x = map decoded.attachmentOf (take (x .count) (x .items))
+
+abbrev pub attachmentRead : AttachmentSeen → Read (Seen Attachment)
+attachmentRead (attachment.Got bits x n) = got (record { bits = bits; item = decoded.attachmentOf x }) n
+attachmentRead attachment.Bad = bad
+
+-- ---- the heading
+
+abbrev pub withHeadings : Plan → List Heading → Plan
+withHeadings P xs = record { headings = xs; facts = P .facts; nodes = P .nodes; edges = P .edges; cuts = P .cuts; attachments = P .attachments; bars = P .bars; statuses = P .statuses }
+
+abbrev pub headingsBy : ℕ → ℕ → Bool → ℕ → List Heading
+headingsBy n relation chained chain = take n (record { relation = relation; chain = given chained chain } ∷ [])
+
+abbrev pub headingFrom : Raw → Heading
+headingFrom r = record { relation = num r 0; chain = field r 1 }
+
+abbrev pub headingRead : HeadingSeen → Read (Seen Heading)
+headingRead (heading.Got bits relation chain n) = got (record { bits = bits; item = record { relation = relation; chain = given (eqb (bits / 2 % 2) 1) chain } }) n
+headingRead heading.Bad = bad
+
+-- ---- facts
+
+abbrev pub withFacts : Plan → List Fact → Plan
+withFacts P xs = record { headings = P .headings; facts = xs; nodes = P .nodes; edges = P .edges; cuts = P .cuts; attachments = P .attachments; bars = P .bars; statuses = P .statuses }
+
+abbrev pub factsOf : Facts → List Fact
+factsOf x = map decoded.factOf (take (x .count) (x .items))
+
+abbrev pub factFrom : Raw → Fact
+factFrom r = record { family = field r 0; tuple = field r 1 }
+
+-- "Both bits or, for a boolean fact, neither"
+abbrev pub factBits : ℕ → Bool
+factBits bits = eqb bits 3 || eqb bits 0
+
+abbrev pub factRead : List ℕ → FactSeen → Read (Seen Fact)
+factRead s (fact.Got bits family at k n) = got (record { bits = bits; item = record { family = given (eqb (bits % 2) 1) family; tuple = span s at k } }) n
+factRead s fact.Bad = bad
+
+abbrev pub factFits : List ℕ → FactSeen → Type 0
+factFits s (fact.Got bits family at k n) = (k ≤ 4) × (at + k ≤ length s) × (eqb (bits / 2 % 2) 1 ≡ false → k ≡ 0)
+factFits s fact.Bad = Unit {0}
+
+-- ---- nodes
+
+abbrev pub withNodes : Plan → List Node → Plan
+withNodes P xs = record { headings = P .headings; facts = P .facts; nodes = xs; edges = P .edges; cuts = P .cuts; attachments = P .attachments; bars = P .bars; statuses = P .statuses }
+
+abbrev pub nodesOf : Nodes → List Node
+nodesOf x = map decoded.nodeOf (take (x .count) (x .items))
+
+abbrev pub nodeSeen : List ℕ → ℕ → ℕ → ℕ → ℕ → ℕ → ℕ → ℕ → ℕ → Node
+nodeSeen s bits b f xs k ys m g =
+    cond (has bits 0) (literal b)
+    (cond (has bits 1) (paper.fact f) (cond (has bits 2) (conj (span s xs k)) (cond (has bits 3) (disj (span s ys m)) (neg g))))
+
+abbrev pub nodeRead : List ℕ → NodeSeen → Read (Seen Node)
+nodeRead s (node.Got bits b f xs k ys m g n) = got (record { bits = bits; item = nodeSeen s bits b f xs k ys m g }) n
+nodeRead s node.Bad = bad
+
+abbrev pub nodeFits : List ℕ → NodeSeen → Type 0
+nodeFits s (node.Got bits b f xs k ys m g n) = (k ≤ 16) × (xs + k ≤ length s) × (m ≤ 16) × (ys + m ≤ length s)
+nodeFits s node.Bad = Unit {0}
+
+-- ---- cuts
+
+abbrev pub withCuts : Plan → List Cut → Plan
+withCuts P xs = record { headings = P .headings; facts = P .facts; nodes = P .nodes; edges = P .edges; cuts = xs; attachments = P .attachments; bars = P .bars; statuses = P .statuses }
+
+abbrev pub cutsOf : Cuts → List Cut
+cutsOf x = map decoded.cutOf (take (x .count) (x .items))
+
+abbrev pub cutRead : List ℕ → CutSeen → Read (Seen Cut)
+cutRead s (cut.Got bits members condition citation e ps d at k n) =
+    got (record {
+      bits = bits;
+      item = record {
+        members = members;
+        condition = condition;
+        citation = citation;
+        election = decoded.electionOf e;
+        decisions = decisionsOf (span s ps (d * 2));
+        precedes = span s at k;
+      };
+    }) n
+cutRead s cut.Bad = bad
+
+abbrev pub cutFits : List ℕ → CutSeen → Type 0
+cutFits s (cut.Got bits members condition citation e ps d at k n) = (d ≤ 64) × (ps + d * 2 ≤ length s) × (k ≤ 16) × (at + k ≤ length s)
+cutFits s cut.Bad = Unit {0}
+
+-- the decisions from number i on
+abbrev pub decisionsFrom : Decisions → ℕ → List Decision
+decisionsFrom d i = map (λ j. record { edge = getD (d .edges) j 0; verdict = getD (d .verdicts) j 0 }) (numbers (d .count - i) i)
