@@ -1,4 +1,4 @@
--- Refusal 4 of a case: a search for a family, and the fault of each record by its place. Assumes nothing.
+-- Refusal 4 of a case: a search for a family, a relation, and the answer after all records. Assumes nothing.
 use mathlib.Core.Path.{_≡_, refl, sym, ap, ap₂, _∙_}
 use mathlib.Core.Bool.{Bool, true, false, _&&_, _||_, not}
 use mathlib.Core.List.{List, [], _∷_, _++_, map}
@@ -72,66 +72,6 @@ module _ (P : paper.Plan) (C : case.Case) (x : Relation) where
     pub family-fact : y .boolean ≡ false → anyOf (sameFamily (y .family)) (C .families) ≡ case.relationSound P C (relationOf x)
     unfolding case.relationSound relationOf
     family-fact b = rw (lt-ltb (x .fact) (length (P .facts)) h, e, boolean-of y ∙ b, family-of y b)
-
--- ---- the fault of record k, counted from the first boolean
-
--- one of the records of a kind, which are made from the first n of an array
-fault-at : {A B : Type 0} (ok : B → Bool) (f : A → B) (xs : List A) (n m i : ℕ) (d : A) → m ≡ length (map f (take n xs)) → i < m → fault 4 (ok (f (getD xs i d))) ≡ getD (paper.faults 4 ok (map f (take n xs))) i 0
-fault-at ok f xs n m i d e h =
-    let l : i < length (map f (take n xs)) = omega arith in
-    sym (getD-mapped (λ x. fault 4 (ok x)) (map f (take n xs)) i (f d) 0 l ∙ ap (λ x. fault 4 (ok x)) (getD-front f xs n i d (f d) l))
-
-module _ (P : paper.Plan) (p : Case) (n : CaseCounts) (h : CaseCountsOf (caseOf p) n) (k : ℕ) where
-  abbrev C : case.Case
-  C = caseOf p
-
-  abbrev constraints : List ℕ
-  constraints = paper.faults 4 (λ i. ltb i (length (P .nodes))) (C .constraints)
-
-  abbrev relations : List ℕ
-  relations = paper.faults 4 (case.relationSound P C) (C .relations)
-
-  abbrev booleans : List ℕ
-  booleans = paper.faults 4 (λ b. paper.booleanFact P (b .fact)) (C .booleans)
-
-  pub boolean-fault : (d : Boolean) → k < n .booleans → fault 4 (paper.booleanFact P (getD (p .booleans .items) k d .fact)) ≡ getD (case.caseNamingFaults P C) k 0
-  unfolding caseOf booleanOf case.caseNamingFaults
-  boolean-fault d l =
-      fault-at (λ b. paper.booleanFact P (b .fact)) booleanOf (p .booleans .items) (p .booleans .count) (n .booleans) k d (h .booleans) l
-      ∙ sym (getD-stay booleans (relations ++ constraints) (n .booleans) k 0 (h .booleans ∙ sym (length-map (C .booleans) _)) l)
-
-  to-relations : n .booleans ≤ k → getD (relations ++ constraints) (k - n .booleans) 0 ≡ getD (case.caseNamingFaults P C) k 0
-  unfolding caseOf case.caseNamingFaults
-  to-relations l = sym (getD-past booleans (relations ++ constraints) (n .booleans) k 0 (h .booleans ∙ sym (length-map (C .booleans) _)) l)
-
-  pub relation-fault : (d : Relation) → n .booleans ≤ k → k - n .booleans < n .relations → fault 4 (case.relationSound P C (relationOf (getD (p .relations .items) (k - n .booleans) d))) ≡ getD (case.caseNamingFaults P C) k 0
-  unfolding caseOf
-  relation-fault d l m =
-      fault-at (case.relationSound P C) relationOf (p .relations .items) (p .relations .count) (n .relations) (k - n .booleans) d (h .relations) m
-      ∙ sym (getD-stay relations constraints (n .relations) (k - n .booleans) 0 (h .relations ∙ sym (length-map (C .relations) _)) m)
-      ∙ to-relations l
-
-  to-constraints : n .booleans ≤ k → n .relations ≤ k - n .booleans → getD constraints (k - n .booleans - n .relations) 0 ≡ getD (case.caseNamingFaults P C) k 0
-  unfolding caseOf
-  to-constraints l m = sym (getD-past relations constraints (n .relations) (k - n .booleans) 0 (h .relations ∙ sym (length-map (C .relations) _)) m) ∙ to-relations l
-
-  pub constraint-fault : n .booleans ≤ k → n .relations ≤ k - n .booleans → k - n .booleans - n .relations < n .constraints
-      → fault 4 (ltb (getD (p .constraints .items) (k - n .booleans - n .relations) 0) (length (P .nodes))) ≡ getD (case.caseNamingFaults P C) k 0
-  unfolding caseOf
-  constraint-fault l m o =
-      let i = k - n .booleans - n .relations in
-      let xs = p .constraints .items in
-      let u : i < length (take (p .constraints .count) xs) = omega (arith, h .constraints) in
-      sym (getD-mapped (λ x. fault 4 (ltb x (length (P .nodes)))) (take (p .constraints .count) xs) i 0 0 u
-      ∙ ap (λ (x : ℕ). fault 4 (ltb x (length (P .nodes)))) (getD-take (p .constraints .count) xs i 0 (omega (arith, u, lib.ListN.length-take (p .constraints .count) xs))))
-      ∙ to-constraints l m
-
-  pub no-fault : n .booleans ≤ k → n .relations ≤ k - n .booleans → n .constraints ≤ k - n .booleans - n .relations → 0 ≡ getD (case.caseNamingFaults P C) k 0
-  no-fault l m o = sym (List·getD-eq-default constraints 0 (omega (arith, h .constraints, length-map (C .constraints) (λ i. fault 4 (ltb i (length (P .nodes))))))) ∙ to-constraints l m
-
-pub length-naming : (P : paper.Plan) (C : case.Case) (n : CaseCounts) → CaseCountsOf C n → length (case.caseNamingFaults P C) ≡ n .booleans + n .relations + n .constraints
-unfolding case.caseNamingFaults
-length-naming P C n h = simp (length-append, length-map, h .booleans, h .relations, h .constraints) (omega arith)
 
 -- ---- the answer after all records, and the case that comes out
 

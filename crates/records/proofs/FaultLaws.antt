@@ -36,28 +36,38 @@ module _ {A : Type 0} (first : ℕ) (fs : List ℕ) (a : A) where
     unfolding checkedOf
     ends h = ap checkedOf (fault-ends first fs k (fine a) (firstFault first fs (fine a)) h g)
 
--- ---- records that are made from the first n of an array
+-- ---- the items of a list
 
+module _ {B C : Type 0} (ok : B → Bool) (ys : List B) (first : ℕ) (a : C) (k : ℕ) (g : Going first (paper.faults 4 ok ys) a k) where
+  long : length (paper.faults 4 ok ys) ≡ length ys
+  long = length-map ys (λ x. fault 4 (ok x))
+
+  module _ (y d : B) (e : getD ys k d ≡ y) (l : k < length ys) where
+    its : fault 4 (ok y) ≡ getD (paper.faults 4 ok ys) k 0
+    its = sym (getD-mapped (λ x. fault 4 (ok x)) ys k d 0 l ∙ ap (λ x. fault 4 (ok x)) e)
+
+    pub item-faulty : ok y ≡ false → Refused 4 (first + k) ≡ checkedOf (firstFault first (paper.faults 4 ok ys) (fine a))
+    item-faulty z = faulty first (paper.faults 4 ok ys) a k g (omega (arith, long)) its z
+
+    pub item-sound : ok y ≡ true → Going first (paper.faults 4 ok ys) a (k + 1)
+    item-sound z = sound first (paper.faults 4 ok ys) a k g (omega (arith, long)) its z
+
+  pub items-end : length ys ≤ k → Accepted ≡ checkedOf (firstFault first (paper.faults 4 ok ys) (fine a))
+  items-end l = ends first (paper.faults 4 ok ys) a k g (omega (arith, long))
+
+-- records that are made from the first n of an array
 module _ {A B C : Type 0} (ok : B → Bool) (f : A → B) (xs : List A) (n m : ℕ) (long : m ≡ length (map f (take n xs))) (first : ℕ) (a : C) (k : ℕ) (g : Going first (paper.faults 4 ok (map f (take n xs))) a k) where
-  abbrev fs : List ℕ
-  fs = paper.faults 4 ok (map f (take n xs))
+  abbrev ys : List B
+  ys = map f (take n xs)
 
-  all : length fs ≡ m
-  all = length-map (map f (take n xs)) (λ x. fault 4 (ok x)) ∙ sym long
+  pub one-faulty : (d : A) → k < m → ok (f (getD xs k d)) ≡ false → Refused 4 (first + k) ≡ checkedOf (firstFault first (paper.faults 4 ok ys) (fine a))
+  one-faulty d l e = let u : k < length ys = omega (arith, long) in item-faulty ok ys first a k g (f (getD xs k d)) (f d) (getD-front f xs n k d (f d) u) u e
 
-  here : (d : A) → k < m → fault 4 (ok (f (getD xs k d))) ≡ getD fs k 0
-  here d l =
-      let u : k < length (map f (take n xs)) = omega (arith, long) in
-      sym (getD-mapped (λ x. fault 4 (ok x)) (map f (take n xs)) k (f d) 0 u ∙ ap (λ x. fault 4 (ok x)) (getD-front f xs n k d (f d) u))
+  pub one-sound : (d : A) → k < m → ok (f (getD xs k d)) ≡ true → Going first (paper.faults 4 ok ys) a (k + 1)
+  one-sound d l e = let u : k < length ys = omega (arith, long) in item-sound ok ys first a k g (f (getD xs k d)) (f d) (getD-front f xs n k d (f d) u) u e
 
-  pub one-faulty : (d : A) → k < m → ok (f (getD xs k d)) ≡ false → Refused 4 (first + k) ≡ checkedOf (firstFault first fs (fine a))
-  one-faulty d l e = faulty first fs a k g (omega (arith, all)) (here d l) e
-
-  pub one-sound : (d : A) → k < m → ok (f (getD xs k d)) ≡ true → Going first fs a (k + 1)
-  one-sound d l e = sound first fs a k g (omega (arith, all)) (here d l) e
-
-  pub none-left : m ≤ k → Accepted ≡ checkedOf (firstFault first fs (fine a))
-  none-left l = ends first fs a k g (omega (arith, all))
+  pub none-left : m ≤ k → Accepted ≡ checkedOf (firstFault first (paper.faults 4 ok ys) (fine a))
+  none-left l = items-end ok ys first a k g (omega (arith, long))
 
 -- ---- nodes, whose fault hangs on their number
 

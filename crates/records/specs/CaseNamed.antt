@@ -1,21 +1,23 @@
--- What the tests of refusal 4 in a case say: each of one record, in every plan that has these facts and so many nodes. Contracts of
+-- What the tests of refusal 4 in a case say: each of one record, then of a kind's records, in every plan that has these facts and so many nodes. Contracts of
 -- src/case_naming.rt cite it.
 use mathlib.Core.Path.{_≡_}
 use mathlib.Core.Bool.{Bool}
 use mathlib.Core.List.{List, [], _∷_, map}
 use Prim.Native.Nat.{ℕ, _≤_}
-use lib.Dec.{eqb}
-use lib.ListN.{length, getD, take}
+use lib.Dec.{eqb, ltb}
+use lib.ListN.{length, take}
 use Rattle.records.specs.Sets.{allOf, anyOf}
-use Rattle.records.specs.Fields.{fault}
 use Rattle.records.specs.Plan as paper
 use Rattle.records.specs.Case as case
-use Rattle.records.specs.Decoded.{familyOf, relationOf, caseOf}
-use Rattle.records.specs.Named.{factsOf}
+use Rattle.records.specs.Decoded.{familyOf, booleanOf, relationOf}
+use Rattle.records.specs.Named.{factsOf, Tells}
 use Rattle.records.specs.declared.plan.Facts.{Facts}
 use Rattle.records.specs.declared.case.Families.{Families}
 use Rattle.records.specs.declared.case.Relation.{Relation}
-use Rattle.records.specs.declared.case.Case.{Case}
+use Rattle.records.specs.declared.case.Booleans.{Booleans}
+use Rattle.records.specs.declared.case.Relations.{Relations}
+use Rattle.records.specs.declared.case.Constraints.{Constraints}
+use Rattle.records.specs.declared.checked.Checked.{Checked}
 use Rattle.records.specs.declared.case_naming.CaseCounts.{CaseCounts}
 
 -- the numbers of records of a case, and their limits
@@ -43,7 +45,23 @@ abbrev pub RelationSound : Facts → Families → Relation → Bool → Type 0
 RelationSound fs ms x r =
     (P : paper.Plan) (C : case.Case) → factsOf fs ≡ P .facts → familiesOf ms ≡ C .families → r ≡ case.relationSound P C (relationOf x)
 
--- record k, counted from the first boolean
-abbrev pub CaseNamed : Facts → ℕ → Case → ℕ → Bool → Type 0
-CaseNamed fs nodes c k r =
-    (P : paper.Plan) → factsOf fs ≡ P .facts → nodes ≡ length (P .nodes) → fault 4 r ≡ getD (case.caseNamingFaults P (caseOf c)) k 0
+-- ---- the first of a kind's records that names what is not there; the kind begins at record `first`
+
+abbrev pub booleanFaults : paper.Plan → Booleans → List ℕ
+booleanFaults P x = paper.faults 4 (λ b. paper.booleanFact P (b .fact)) (map booleanOf (take (x .count) (x .items)))
+
+abbrev pub BooleansNamed : Facts → Booleans → ℕ → Checked → Type 0
+BooleansNamed fs x first r = (P : paper.Plan) (C : case.Case) → factsOf fs ≡ P .facts → Tells C first (booleanFaults P x) r
+
+abbrev pub relationFaults : paper.Plan → case.Case → Relations → List ℕ
+relationFaults P C x = paper.faults 4 (case.relationSound P C) (map relationOf (take (x .count) (x .items)))
+
+abbrev pub RelationsNamed : Facts → Families → Relations → ℕ → Checked → Type 0
+RelationsNamed fs ms x first r =
+    (P : paper.Plan) (C : case.Case) → factsOf fs ≡ P .facts → familiesOf ms ≡ C .families → Tells C first (relationFaults P C x) r
+
+abbrev pub constraintFaults : paper.Plan → Constraints → List ℕ
+constraintFaults P x = paper.faults 4 (λ i. ltb i (length (P .nodes))) (take (x .count) (x .items))
+
+abbrev pub ConstraintsNamed : ℕ → Constraints → ℕ → Checked → Type 0
+ConstraintsNamed nodes x first r = (P : paper.Plan) (C : case.Case) → nodes ≡ length (P .nodes) → Tells C first (constraintFaults P x) r

@@ -76,8 +76,8 @@ AttachmentSound fs nodes a r =
 
 -- ---- the first of a kind's records that names what is not there; the kind begins at record `first`
 
-abbrev pub Tells : paper.Plan → ℕ → List ℕ → Checked → Type 0
-Tells P first fs r = r ≡ checkedOf (firstFault first fs (fine P))
+abbrev pub Tells : {A : Type 0} → A → ℕ → List ℕ → Checked → Type 0
+Tells a first fs r = r ≡ checkedOf (firstFault first fs (fine a))
 
 abbrev pub nodeFaults : paper.Plan → Nodes → List ℕ
 nodeFaults P x = paper.eachFrom (λ k n. fault 4 (paper.nodeSound P k n)) 0 (map nodeOf (take (x .count) (x .items)))

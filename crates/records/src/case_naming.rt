@@ -1,8 +1,11 @@
 // Refusal 4 of a case: a boolean that names no boolean fact, a relation that names no relation fact or one without its family's record, a
 // constraint that names no node.
+use crate::case::Booleans;
 use crate::case::Case;
+use crate::case::Constraints;
 use crate::case::Families;
 use crate::case::Relation;
+use crate::case::Relations;
 use crate::checked::Checked;
 use crate::counts::count_records;
 use crate::counts::least;
@@ -11,12 +14,13 @@ use crate::naming::boolean_fact;
 use crate::plan::Facts;
 use crate::plan::Plan;
 ghost use mathlib.Core.Path.{_≡_};
+ghost use Prim.Native.Nat.{_≤_};
 ghost use Rattle.records.specs.Sets.{anyOf};
 ghost use Rattle.records.specs.Fields.{fine, firstFault};
 ghost use Rattle.records.specs.Case.{caseNamingFaults, booleansAt};
 ghost use Rattle.records.specs.Decoded.{planOf, caseOf};
 ghost use Rattle.records.specs.Check.{checkedOf};
-ghost use Rattle.records.specs.CaseNamed.{CaseCountsOf, CaseCountLimits, familiesOf, sameFamily, RelationSound, CaseNamed};
+ghost use Rattle.records.specs.CaseNamed.{CaseCountsOf, CaseCountLimits, familiesOf, sameFamily, RelationSound, BooleansNamed, RelationsNamed, ConstraintsNamed};
 
 // How many records of each kind a case has, whatever its count fields say.
 pub struct CaseCounts {
@@ -68,40 +72,14 @@ pub fn relation_sound(facts: Facts, families: Families, relation: Relation) -> b
     has_family(families, fact.family)
 }
 
-// Whether record k, counted from the first boolean, names what it should.
-fn case_named(facts: Facts, nodes: usize, case: Case, k: usize) -> bool
-    ensures { λ r. ⌜ CaseNamed facts nodes case k r ⌝ }
+fn boolean_faults(facts: Facts, booleans: Booleans, first: usize) -> Checked
+    requires { ⌜ first ≤ 1000 ⌝ }
+    ensures { λ r. ⌜ BooleansNamed facts booleans first r ⌝ }
 {
-    let counts = count_case(case);
-    if k < counts.booleans {
-        let booleans = case.booleans;
-        return boolean_fact(facts, booleans.items[k].fact);
-    }
-    let r = k - counts.booleans;
-    if r < counts.relations {
-        let families = case.families;
-        let relations = case.relations;
-        return relation_sound(facts, families, relations.items[r]);
-    }
-    let i = r - counts.relations;
-    if i < counts.constraints {
-        let constraints = case.constraints;
-        return wide(constraints.items[i]) < nodes;
-    }
-    true
-}
-
-pub fn case_naming(plan: Plan, case: Case) -> Checked
-    ensures { λ r. ⌜ r ≡ checkedOf (firstFault (booleansAt (caseOf case)) (caseNamingFaults (planOf plan) (caseOf case)) (fine (caseOf case))) ⌝ }
-{
-    let facts = plan.facts;
-    let nodes = count_records(plan).nodes;
-    let counts = count_case(case);
-    let first = counts.headings + counts.families;
-    let total = counts.booleans + counts.relations + counts.constraints;
+    let count = least(booleans.count, 64);
     let mut k: usize = 0;
-    while k < total {
-        if !case_named(facts, nodes, case, k) {
+    while k < count {
+        if !boolean_fact(facts, booleans.items[k].fact) {
             return Checked::Refused {
                 number: 4,
                 record: first + k,
@@ -110,4 +88,64 @@ pub fn case_naming(plan: Plan, case: Case) -> Checked
         k = k + 1;
     }
     Checked::Accepted
+}
+
+fn relation_faults(facts: Facts, families: Families, relations: Relations, first: usize) -> Checked
+    requires { ⌜ first ≤ 1000 ⌝ }
+    ensures { λ r. ⌜ RelationsNamed facts families relations first r ⌝ }
+{
+    let count = least(relations.count, 256);
+    let mut k: usize = 0;
+    while k < count {
+        if !relation_sound(facts, families, relations.items[k]) {
+            return Checked::Refused {
+                number: 4,
+                record: first + k,
+            };
+        }
+        k = k + 1;
+    }
+    Checked::Accepted
+}
+
+fn constraint_faults(nodes: usize, constraints: Constraints, first: usize) -> Checked
+    requires { ⌜ first ≤ 1000 ⌝ }
+    ensures { λ r. ⌜ ConstraintsNamed nodes constraints first r ⌝ }
+{
+    let count = least(constraints.count, 16);
+    let mut k: usize = 0;
+    while k < count {
+        if wide(constraints.items[k]) >= nodes {
+            return Checked::Refused {
+                number: 4,
+                record: first + k,
+            };
+        }
+        k = k + 1;
+    }
+    Checked::Accepted
+}
+
+// Kind by kind, the first record that names what is not there.
+pub fn case_naming(plan: Plan, case: Case) -> Checked
+    ensures { λ r. ⌜ r ≡ checkedOf (firstFault (booleansAt (caseOf case)) (caseNamingFaults (planOf plan) (caseOf case)) (fine (caseOf case))) ⌝ }
+{
+    let facts = plan.facts;
+    let nodes = count_records(plan).nodes;
+    let counts = count_case(case);
+    let at_booleans = counts.headings + counts.families;
+    let booleans = case.booleans;
+    let a = boolean_faults(facts, booleans, at_booleans);
+    let Checked::Accepted = a else {
+        return a;
+    };
+    let at_relations = at_booleans + counts.booleans;
+    let families = case.families;
+    let relations = case.relations;
+    let b = relation_faults(facts, families, relations, at_relations);
+    let Checked::Accepted = b else {
+        return b;
+    };
+    let constraints = case.constraints;
+    constraint_faults(nodes, constraints, at_relations + counts.relations)
 }

@@ -1,123 +1,138 @@
--- A loop over the records from the first boolean on, left at the first fault. Assumes nothing.
+-- Refusal 4 of a case over its three kinds in their order. Assumes nothing.
 use mathlib.Core.Path.{_≡_, refl, sym, ap, _∙_}
-use mathlib.Core.Bool.{Bool}
-use Prim.Native.Nat.{ℕ, _≤_, _-_, _+_}
+use mathlib.Core.List.{List, _++_}
+use Prim.Native.Nat.{ℕ, _+_}
 use native.Mathlib.Omega.{arith}
-use lib.ListN.{length, getD, drop}
+use lib.ListN.{length, length-map}
 use borrow.Author.Needs.{needs}
-use borrow.Author.Tests.{not-true, not-false}
-use Rattle.records.specs.Fields.{fault, fine, firstFault}
+use Rattle.records.specs.Fields.{fine, firstFault}
 use Rattle.records.specs.Plan as paper
-use Rattle.records.specs.Case.{caseNamingFaults, booleansAt}
+use Rattle.records.specs.Case as case
 use Rattle.records.specs.Decoded.{planOf, caseOf}
-use Rattle.records.specs.Named.{factsOf}
 use Rattle.records.specs.Check.{checkedOf}
-use Rattle.records.proofs.ListLaws.{fault-goes, fault-stops, fault-ends}
-use Rattle.records.proofs.CaseFaults.{length-naming}
+use Rattle.records.specs.Named.{Tells}
+use Rattle.records.specs.CaseNamed.{CaseCountsOf, booleanFaults, relationFaults, constraintFaults}
+use Rattle.records.specs.declared.case.Case.{Case}
+use Rattle.records.specs.declared.case_naming.CaseCounts.{CaseCounts}
+use Rattle.records.specs.declared.checked.Checked.{Checked}
+use Rattle.records.specs.declared.checked.Checked.the-variants.{Accepted, Refused}
+use Rattle.records.proofs.FaultLaws.{kind-refused, kind-passed}
 use Rattle.records.proofs.case_naming.case_naming.Statement.{statement}
 use Rattle.records.proofs.case_naming.case_naming.Tie as tie
 
-abbrev Inv-loop : tie.InvT-loop
-Inv-loop case facts nodes first total k₀ k =
-    (k ≤ total) × ((P : paper.Plan) → factsOf facts ≡ P .facts → nodes ≡ length (P .nodes) → firstFault (first + k) (drop k (caseNamingFaults P (caseOf case))) (fine (caseOf case)) ≡ firstFault first (caseNamingFaults P (caseOf case)) (fine (caseOf case)))
+-- the faults of each kind and of the kinds after it, and the record at which the kind begins
+module _ (P : paper.Plan) (p : Case) (n : CaseCounts) (h : CaseCountsOf (caseOf p) n) where
+  abbrev C : case.Case
+  C = caseOf p
 
-abbrev μ-loop : tie.MeasureT-loop
-μ-loop case facts nodes first total k₀ k = total - k
+  abbrev from-relations : List ℕ
+  from-relations = relationFaults P C (p .relations) ++ constraintFaults P (p .constraints)
 
-count-records-requires : tie.Need-count-records-requires Inv-loop μ-loop
+  abbrev at-booleans : ℕ
+  at-booleans = n .headings + n .families
+
+  abbrev at-relations : ℕ
+  at-relations = at-booleans + n .booleans
+
+  long-booleans : at-relations ≡ at-booleans + length (booleanFaults P (p .booleans))
+  unfolding caseOf
+  long-booleans = ap (λ (i : ℕ). at-booleans + i) (h .booleans ∙ sym (length-map (C .booleans) _))
+
+  long-relations : at-relations + n .relations ≡ at-relations + length (relationFaults P C (p .relations))
+  unfolding caseOf
+  long-relations = ap (λ (i : ℕ). at-relations + i) (h .relations ∙ sym (length-map (C .relations) _))
+
+  all : {s : Checked} → Tells C at-booleans (booleanFaults P (p .booleans) ++ from-relations) s → Tells C (case.booleansAt C) (case.caseNamingFaults P C) s
+  unfolding caseOf case.caseNamingFaults
+  all e = let z : at-booleans ≡ case.booleansAt C = omega (arith, h .headings, h .families) in e ∙ ap (λ (i : ℕ). checkedOf (firstFault i (case.caseNamingFaults P C) (fine C))) z
+
+  boolean-refused : {r : Checked} {i j : ℕ} → r ≡ Refused i j → Tells C at-booleans (booleanFaults P (p .booleans)) r → Tells C (case.booleansAt C) (case.caseNamingFaults P C) r
+  boolean-refused {r = r} e is = all (kind-refused at-booleans at-relations (booleanFaults P (p .booleans)) from-relations C r long-booleans is e)
+
+  relation-refused : {r : Checked} {i j : ℕ} → r ≡ Refused i j → Tells C at-relations (relationFaults P C (p .relations)) r → Tells C at-relations from-relations r
+  relation-refused {r = r} e is = kind-refused at-relations (at-relations + n .relations) (relationFaults P C (p .relations)) (constraintFaults P (p .constraints)) C r long-relations is e
+
+  -- a kind in which nothing was found: what is said of the kinds after it is said of it and them
+  module _ {r s : Checked} (e : r ≡ Accepted) where
+    over-booleans : Tells C at-booleans (booleanFaults P (p .booleans)) r → Tells C at-relations from-relations s → Tells C (case.booleansAt C) (case.caseNamingFaults P C) s
+    over-booleans is z = all (kind-passed at-booleans at-relations (booleanFaults P (p .booleans)) from-relations C r long-booleans is e z)
+
+    over-relations : Tells C at-relations (relationFaults P C (p .relations)) r → Tells C (at-relations + n .relations) (constraintFaults P (p .constraints)) s → Tells C at-relations from-relations s
+    over-relations is z = kind-passed at-relations (at-relations + n .relations) (relationFaults P C (p .relations)) (constraintFaults P (p .constraints)) C r long-relations is e z
+
+count-records-requires : tie.Need-count-records-requires
 count-records-requires c κs = search needs
 
-count-case-requires : tie.Need-count-case-requires Inv-loop μ-loop
+count-case-requires : tie.Need-count-case-requires
 count-case-requires c κs = search needs
 
-add-first : tie.Need-add-first Inv-loop μ-loop
-add-first c = omega (arith, c .before .count-case .ensures .1)
+add-at-booleans : tie.Need-add-at-booleans
+add-at-booleans c = omega (arith, c .before .count-case .ensures .1)
 
-add-total : tie.Need-add-total Inv-loop μ-loop
-add-total c = omega (arith, c .before .before .count-case .ensures .1)
+boolean-faults-requires : tie.Need-boolean-faults-requires
+boolean-faults-requires c κs = omega (arith, c .before .before .count-case .ensures .1)
 
-add-total-2 : tie.Need-add-total-2 Inv-loop μ-loop
-add-total-2 c = omega (arith, c .before .before .before .count-case .ensures .1)
+enum-told : tie.Need-enum-told
+enum-told c = search needs
 
-loop-holds : tie.Need-loop-holds Inv-loop μ-loop
-loop-holds c =
-    let C = caseOf (c .before .before .before .before .before .before .args .case) in
-    (omega arith, λ P e f. ap (λ (i : ℕ). firstFault i (caseNamingFaults P C) (fine C)) (omega arith))
+enum-told-2 : tie.Need-enum-told-2
+enum-told-2 c = search needs
 
-case-named-requires : tie.Need-case-named-requires Inv-loop μ-loop
-case-named-requires c κs = search needs
-
-add-t13 : tie.Need-add-t13 Inv-loop μ-loop
-add-t13 c = omega (arith, c .before .before .before .before .before .before .before .count-case .ensures .1)
-
-returns : tie.Need-returns Inv-loop μ-loop
-unfolding checkedOf planOf
+returns : tie.Need-returns
+unfolding planOf
 returns c =
-    let a = c .before .before .before .before .before .before .before .before .before .before .args in
-    let C = caseOf (a .case) in
-    let n = c .before .before .before .before .before .before .before .count-case in
-    let l = c .before .before .before .loop in
-    let first = n .result .headings + n .result .families in
-    let P = planOf (a .plan) in
-    let fs = caseNamingFaults P C in
-    let f = c .before .before .before .before .before .before .before .before .count-records .ensures .0 .nodes in
-    let long = length-naming P C (n .result) (n .ensures .0) in
-    let t : 4 ≡ getD fs (l .k) 0 = ap (λ (z : Bool). fault 4 z) (sym (not-true (c .before .case-named .result) (c .if1 .taken))) ∙ c .before .case-named .ensures P refl f in
-    let at : first ≡ booleansAt C = omega (arith, n .ensures .0) in
-    ap checkedOf (fault-stops first fs (l .k) 3 (fine C) (firstFault first fs (fine C)) (omega arith) t (l .inv .1 P refl f)) ∙ ap (λ (i : ℕ). checkedOf (firstFault i fs (fine C))) at
+    let a = c .before .before .before .before .before .before .before .before .args in let n = c .before .before .before .before .before .count-case in
+    boolean-refused (planOf (a .plan)) (a .case) (n .result) (n .ensures .0) (c .enum-told2 .given .1) (c .before .before .boolean-faults .ensures (planOf (a .plan)) (caseOf (a .case)) refl)
 
-add-k : tie.Need-add-k Inv-loop μ-loop
-add-k c = omega (arith, c .before .before .before .before .before .before .before .count-case .ensures .1)
+add-at-relations : tie.Need-add-at-relations
+add-at-relations c = omega (arith, c .before .before .before .before .before .before .count-case .ensures .1)
 
-loop-less : tie.Need-loop-less Inv-loop μ-loop
-loop-less c = search needs
+relation-faults-requires : tie.Need-relation-faults-requires
+relation-faults-requires c κs = omega (arith, c .before .before .before .before .before .before .before .before .count-case .ensures .1)
 
-loop-again : tie.Need-loop-again Inv-loop μ-loop
-loop-again c =
-    let a = c .before .before .before .before .before .before .before .before .before .before .args in
-    let C = caseOf (a .case) in
-    let n = c .before .before .before .before .before .before .before .count-case in
-    let l = c .before .before .before .loop in
-    let first = n .result .headings + n .result .families in (
-      omega arith,
-      λ P e f.
-          let fs = caseNamingFaults P C in
-          let long = length-naming P C (n .result) (n .ensures .0) in
-          let t : 0 ≡ getD fs (l .k) 0 = ap (λ (z : Bool). fault 4 z) (sym (not-false (c .before .case-named .result) (c .if1 .left))) ∙ c .before .case-named .ensures P e f in
-          fault-goes first fs (l .k) (fine C) (firstFault first fs (fine C)) (omega arith) t (l .inv .1 P e f),
-    )
+enum-told-3 : tie.Need-enum-told-3
+enum-told-3 c = search needs
 
-returns-2 : tie.Need-returns-2 Inv-loop μ-loop
-unfolding checkedOf planOf
+enum-told-4 : tie.Need-enum-told-4
+enum-told-4 c = search needs
+
+returns-2 : tie.Need-returns-2
+unfolding planOf caseOf
 returns-2 c =
-    let a = c .before .before .before .before .before .before .before .before .args in
-    let C = caseOf (a .case) in
-    let n = c .before .before .before .before .before .count-case in
-    let l = c .before .loop in
-    let first = n .result .headings + n .result .families in
-    let P = planOf (a .plan) in
-    let fs = caseNamingFaults P C in
-    let f = c .before .before .before .before .before .before .count-records .ensures .0 .nodes in
-    let long = length-naming P C (n .result) (n .ensures .0) in
-    let at : first ≡ booleansAt C = omega (arith, n .ensures .0) in
-    ap checkedOf (fault-ends first fs (l .k) (fine C) (firstFault first fs (fine C)) (omega arith) (l .inv .1 P refl f)) ∙ ap (λ (i : ℕ). checkedOf (firstFault i fs (fine C))) at
+    let a = c .before .before .before .before .before .before .before .before .before .before .before .before .before .before .args in let n = c .before .before .before .before .before .before .before .before .before .before .before .count-case in
+    over-booleans (planOf (a .plan)) (a .case) (n .result) (n .ensures .0) (c .before .before .before .before .before .before .enum-told .given .1) (c .before .before .before .before .before .before .before .before .boolean-faults .ensures (planOf (a .plan)) (caseOf (a .case)) refl)
+    (relation-refused (planOf (a .plan)) (a .case) (n .result) (n .ensures .0) (c .enum-told4 .given .1) (c .before .before .relation-faults .ensures (planOf (a .plan)) (caseOf (a .case)) refl refl))
+
+add-constraint-faults : tie.Need-add-constraint-faults
+add-constraint-faults c = omega (arith, c .before .before .before .before .before .before .before .before .before .before .before .before .before .count-case .ensures .1)
+
+constraint-faults-requires : tie.Need-constraint-faults-requires
+constraint-faults-requires c κs = omega (arith, c .before .before .before .before .before .before .before .before .before .before .before .before .before .count-case .ensures .1)
+
+returns-3 : tie.Need-returns-3
+unfolding planOf caseOf
+returns-3 c =
+    let a = c .before .before .before .before .before .before .before .before .before .before .before .before .before .before .before .before .before .args in let n = c .before .before .before .before .before .before .before .before .before .before .before .before .before .before .count-case in
+    over-booleans (planOf (a .plan)) (a .case) (n .result) (n .ensures .0) (c .before .before .before .before .before .before .before .before .before .enum-told .given .1) (c .before .before .before .before .before .before .before .before .before .before .before .boolean-faults .ensures (planOf (a .plan)) (caseOf (a .case)) refl)
+    (over-relations (planOf (a .plan)) (a .case) (n .result) (n .ensures .0) (c .before .before .before .enum-told3 .given .1) (c .before .before .before .before .before .relation-faults .ensures (planOf (a .plan)) (caseOf (a .case)) refl refl)
+    (c .constraint-faults .ensures (planOf (a .plan)) (caseOf (a .case)) (c .before .before .before .before .before .before .before .before .before .before .before .before .before .before .before .count-records .ensures .0 .nodes)))
 
 pub case-naming-spec : {M : Type 1} → statement M
 case-naming-spec =
     tie.close
     (tie.spec
-    Inv-loop
-    μ-loop
     count-records-requires
     count-case-requires
-    add-first
-    add-total
-    add-total-2
-    loop-holds
-    case-named-requires
-    add-t13
+    add-at-booleans
+    boolean-faults-requires
+    enum-told
+    enum-told-2
     returns
-    add-k
-    loop-less
-    loop-again
-    returns-2)
+    add-at-relations
+    relation-faults-requires
+    enum-told-3
+    enum-told-4
+    returns-2
+    add-constraint-faults
+    constraint-faults-requires
+    returns-3)
