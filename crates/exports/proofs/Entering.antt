@@ -1,23 +1,20 @@
 -- From what was read to the definitions: a plan or case that was read is the accepted one, and binds as the codes say. Assumes nothing.
 use mathlib.Core.Path.{_≡_, refl, sym, ap, _∙_, subst}
-use mathlib.Core.Bool.{Bool, true, false, cond}
+use mathlib.Core.Bool.{Bool, cond}
 use mathlib.Core.List.{List, []}
-use Prim.Native.Nat.{ℕ, zero, suc, _≤_, _<_}
+use Prim.Native.Nat.{ℕ, _≤_, _<_, min}
 use native.Mathlib.Nat.{le-trans}
 use native.Mathlib.Omega.{arith}
-use lib.ListN.{length, getD, take, replicate, length-take, List·getD-eq-default}
-use lib.Seq.{getD-take}
-use lib.Dec.{eqb, leb}
+use lib.ListN.{length, getD, take, length-take, List·getD-eq-default}
+use lib.Dec.{leb}
 use borrow.Author.Tests.{eq-eqb, ne-eqb}
 use Rattle.records.specs.Fields.{Verdict, fine, refused}
 use Rattle.records.specs.Plan.{Plan, checkedPlan}
-use Rattle.records.specs.Case.{Case, readCase}
+use Rattle.records.specs.Case.{readCase}
 use Rattle.records.specs.Decoded.{planOf, caseOf}
 use Rattle.records.specs.PlanRead.{planReadOf}
 use Rattle.records.specs.CaseSteps.{caseReadOf}
-use Rattle.records.specs.Sound.{Sound, SoundCase}
-use Rattle.records.specs.declared.plan.Plan.{Plan as Coded}
-use Rattle.records.specs.declared.case.Case.{Case as CodedCase}
+use Rattle.records.specs.Sound.{Sound}
 use Rattle.records.specs.declared.read_plan.PlanRead.{PlanRead}
 use Rattle.records.specs.declared.read_case.CaseRead.{CaseRead}
 use Rattle.records.proofs.Accepted.{accepted}
@@ -36,9 +33,8 @@ use Rattle.expressions.specs.Coded.{frameBy}
 use Rattle.expressions.proofs.FactLaws.{bindings-by}
 use Rattle.expressions.proofs.ReachLaws.{frame-of, influence-list}
 use Rattle.records.specs.Check.{checkedOf}
-use Rattle.records.specs.declared.checked.Checked.{Checked}
 use Rattle.records.specs.declared.checked.Checked.the-variants.{Accepted, Refused}
-use Rattle.exports.specs.Entries.{numberOf, recordOf, boundIn, boundBy, bound, listed, influencesIn, influencesBy, influences}
+use Rattle.exports.specs.Entries.{numberOf, recordOf, boundIn, boundBy, bound, influencesIn, influencesBy, influences}
 
 -- ---- the plan
 
@@ -123,22 +119,11 @@ unfolding checkedOf
 told-refused (fine P′) n k e = let z : _≡_ {A = ℕ} 0 1 = cc in absurd (omega arith)
 told-refused (refused m j) n k e = (cc, cc)
 
--- ---- nothing, and what is read of it
-
-pub zeros : (n f : ℕ) → _≡_ {A = ℕ} (getD (replicate n 0) f 0) 0
-zeros zero f = refl
-zeros (suc n) zero = refl
-zeros (suc n) (suc f) = zeros n f
+-- ---- an empty list, and what is read past one
 
 pub none-listed : (i : Influence) → i .count ≡ 0 → setsOf i ≡ []
 unfolding setsOf
 none-listed i e = ap (λ (n : ℕ). take n (i .sets)) e
 
-pub taken-at : (xs : List ℕ) (count n : ℕ) → n < count → getD xs n 0 ≡ getD (take count xs) n 0
-taken-at xs count n h = sym (getD-take count xs n 0 h)
-
-pub taken-past : (xs : List ℕ) (count n : ℕ) → count ≤ n → _≡_ {A = ℕ} 0 (getD (take count xs) n 0)
-taken-past xs count n h = sym (List·getD-eq-default (take count xs) 0 (subst (λ (m : ℕ). m ≤ n) (sym (length-take count xs)) (omega arith)))
-
-pub taken-long : (xs : List ℕ) (count n : ℕ) → length xs ≤ n → _≡_ {A = ℕ} 0 (getD (take count xs) n 0)
-taken-long xs count n h = sym (List·getD-eq-default (take count xs) 0 (subst (λ (m : ℕ). m ≤ n) (sym (length-take count xs)) (omega arith)))
+pub taken-past : (xs : List ℕ) (count n : ℕ) → min count (length xs) ≤ n → _≡_ {A = ℕ} 0 (getD (take count xs) n 0)
+taken-past xs count n h = sym (List·getD-eq-default (take count xs) 0 (subst (λ (m : ℕ). m ≤ n) (sym (length-take count xs)) h))

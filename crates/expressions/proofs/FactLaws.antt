@@ -2,7 +2,7 @@
 use mathlib.Core.Path.{_≡_, refl, sym, ap, _∙_}
 use mathlib.Core.Bool.{Bool, true, false, _&&_, not, cond}
 use mathlib.Core.List.{List, [], _∷_}
-use Prim.Native.Nat.{ℕ, zero, suc, _+_, _<_, zero-le}
+use Prim.Native.Nat.{ℕ, _+_, _<_, zero-le}
 use native.Mathlib.Omega.{arith}
 use lib.ListN.{length, getD, set, replicate}
 use lib.Seq.{getD-set-same, getD-set-other}
@@ -18,14 +18,7 @@ use Rattle.records.specs.Decoded.{factOf}
 use Rattle.records.specs.declared.plan.Fact.{Fact}
 use Rattle.expressions.specs.Bindings.{Bound, unbound, bindingBy, boundBoolean, boundRelation, inScope, scoped, inFamily, observed, saidUnknown, defaultOf, elections, tookDefaultBy, tookDefault, bindings, bindingsBy, bindingOf, frameOf}
 use Rattle.expressions.specs.Influence.{boundFacts}
-
-pub boolean-fact : (f : Fact) → isBoolean (factOf f) ≡ f .boolean
-unfolding isBoolean factOf
-boolean-fact f = pick (f .boolean)
-  where
-    pick : (b : Bool) → eqb (length (cond (not b) (f .family ∷ []) [])) 0 ≡ b
-    pick true = refl
-    pick false = refl
+use Rattle.expressions.proofs.ListLaws.{filled-at}
 
 pub family-fact : (f : Fact) → f .boolean ≡ false → factOf f .family ≡ f .family ∷ []
 unfolding factOf
@@ -53,12 +46,7 @@ module _ (g : ℕ → Bound) where
 
   pub filled-none : (n : ℕ) → Filled (replicate n 0) 0
   unfolding boundOf
-  filled-none n = record { at = λ k. ap boundOf (zeros n k) ∙ sym (ap (λ (b : Bool). cond b (g k) unbound) (le-ltb k 0 zero-le)) }
-    where
-      zeros : (n k : ℕ) → getD {A = ℕ} (replicate n 0) k 0 ≡ 0
-      zeros zero k = refl
-      zeros (suc n) zero = refl
-      zeros (suc n) (suc k) = zeros n k
+  filled-none n = record { at = λ k. ap boundOf (filled-at n k 0) ∙ sym (ap (λ (b : Bool). cond b (g k) unbound) (le-ltb k 0 zero-le)) }
 
   pub filled-next : (out : List ℕ) (i v : ℕ) → i < length out → boundOf v ≡ g i → Filled out i → Filled (set out i v) (i + 1)
   filled-next out i v h e f = record { at = λ k. pick k (eqb k i) refl }

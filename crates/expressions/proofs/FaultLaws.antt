@@ -1,7 +1,7 @@
 -- Laws of faults that a record has beside the earlier ones, for families and booleans alike. Assumes nothing.
 use mathlib.Core.Path.{_≡_, refl, sym, ap, ap₂, _∙_}
-use mathlib.Core.Bool.{Bool, true, false, _||_, not, cond}
-use mathlib.Core.List.{List, [], _∷_, _++_, map}
+use mathlib.Core.Bool.{Bool, true, false, _||_, not, cond, or-comm}
+use mathlib.Core.List.{List, [], _∷_, map, map-append}
 use Prim.Native.Nat.{ℕ, zero, suc, _+_, _≤_, _<_, min}
 use native.Mathlib.Nat.{add-zero}
 use native.Mathlib.Numerals.{add-one}
@@ -20,30 +20,18 @@ use Rattle.records.specs.declared.case.Boolean.{Boolean}
 use Rattle.records.proofs.LoopLaws.{length-below}
 use Rattle.records.specs.Decoded.{booleanOf, observationsOf}
 use Rattle.expressions.specs.Bindings.{familyFaults, booleanFault, booleanFaults, bindable}
+use Rattle.expressions.proofs.ListLaws.{any-last}
 use Rattle.expressions.proofs.Rests.{made-next, made-none}
 
 -- ---- one of a list
 
-any-append : {A : Type 0} (p : A → Bool) (xs : List A) (y : A) → anyOf p (xs ++ (y ∷ [])) ≡ anyOf p (y ∷ xs)
-unfolding anyOf
-any-append p [] y = refl
-any-append p (x ∷ xs) y = ap (λ (b : Bool). p x || b) (any-append p xs y) ∙ swap (p x) (p y) (anyOf p xs)
-  where
-    swap : (a b c : Bool) → (a || (b || c)) ≡ (b || (a || c))
-    swap true true c = refl
-    swap true false c = refl
-    swap false b c = refl
-
-map-append : {A B : Type 0} (g : A → B) (xs ys : List A) → map g (xs ++ ys) ≡ map g xs ++ map g ys
-map-append g [] ys = refl
-map-append g (x ∷ xs) ys = ap (λ zs. g x ∷ zs) (map-append g xs ys)
-
 -- one entry more among the earlier ones
 any-more : {A B : Type 0} (p : B → Bool) (g : A → B) (xs : List A) (i : ℕ) (d : A) → i < length xs
     → anyOf p (map g (take (i + 1) xs)) ≡ anyOf p (g (getD xs i d) ∷ map g (take i xs))
+unfolding anyOf
 any-more p g xs i d h =
     ap (λ (k : ℕ). anyOf p (map g (take k xs))) (add-one i) ∙ ap (λ ys. anyOf p (map g ys)) (take-suc xs i d h)
-    ∙ ap (anyOf p) (map-append g (take i xs) (getD xs i d ∷ [])) ∙ any-append p (map g (take i xs)) (g (getD xs i d))
+    ∙ ap (anyOf p) (map-append g (take i xs) (getD xs i d ∷ [])) ∙ any-last p (map g (take i xs)) (g (getD xs i d)) ∙ or-comm (anyOf p (map g (take i xs))) (p (g (getD xs i d)))
 
 -- a search through a made list
 module _ {A B : Type 0} (p : B → Bool) (g : A → B) (xs : List A) (n i : ℕ) where

@@ -82,10 +82,6 @@ unfolding usesFrom
 uses-next = table-next 0 uses usesFrom (λ done. refl) (λ n ns done. refl) uses-agree
 
 -- the nodes of a plan's table are the plan's
-pub nodes-of : (plan : Plan) → nodesOf (plan .nodes) ≡ planOf plan .nodes
-unfolding nodesOf planOf
-nodes-of plan = refl
-
 pub values-of : (plan : Plan) (facts : ℕ) → valuesFrom facts (nodesOf (plan .nodes)) [] ≡ values (planOf plan) facts
 unfolding nodesOf planOf values
 values-of plan facts = refl
