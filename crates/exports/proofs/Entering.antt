@@ -45,15 +45,17 @@ read-plan s r e z = sym e ∙ ap (λ (b : Bool). cond b (fine (planOf (r .plan))
 pub plan-sound : (s : List ℕ) (r : PlanRead) → planReadOf r ≡ checkedPlan s → r .number ≡ 0 → Sound (planOf (r .plan))
 plan-sound s r e z = accepted s (planOf (r .plan)) (read-plan s r e z)
 
+refused-plan : (s : List ℕ) (r : PlanRead) → planReadOf r ≡ checkedPlan s → (r .number ≡ 0 → ⊥) → refused (r .number) (r .«record») ≡ checkedPlan s
+unfolding planReadOf
+refused-plan s r e n = sym (ap (λ (b : Bool). cond b (fine (planOf (r .plan))) (refused (r .number) (r .«record»))) (ne-eqb (r .number) 0 n)) ∙ e
+
 pub plan-refused : (s t : List ℕ) (f : ℕ) (r : PlanRead) → planReadOf r ≡ checkedPlan s → (r .number ≡ 0 → ⊥) → unbound ≡ bound s t f
-unfolding bound planReadOf
-plan-refused s t f r e n =
-    ap (boundBy t f) (sym (ap (λ (b : Bool). cond b (fine (planOf (r .plan))) (refused (r .number) (r .«record»))) (ne-eqb (r .number) 0 n)) ∙ e)
+unfolding bound
+plan-refused s t f r e n = ap (boundBy t f) (refused-plan s r e n)
 
 pub plan-silent : (s t : List ℕ) (r : PlanRead) → planReadOf r ≡ checkedPlan s → (r .number ≡ 0 → ⊥) → [] ≡ influences s t
-unfolding influences planReadOf
-plan-silent s t r e n =
-    ap (influencesBy t) (sym (ap (λ (b : Bool). cond b (fine (planOf (r .plan))) (refused (r .number) (r .«record»))) (ne-eqb (r .number) 0 n)) ∙ e)
+unfolding influences
+plan-silent s t r e n = ap (influencesBy t) (refused-plan s r e n)
 
 -- ---- the case over it
 
@@ -65,19 +67,19 @@ module _ (s t : List ℕ) (r : PlanRead) (e : planReadOf r ≡ checkedPlan s) (z
   unfolding bound
   bound-in f = ap (boundBy t f) (sym (read-plan s r e z))
 
-  pub case-refused : (f : ℕ) → (q .number ≡ 0 → ⊥) → unbound ≡ bound s t f
+  refused-case : (q .number ≡ 0 → ⊥) → refused (q .number) (q .«record») ≡ readCase P t
   unfolding caseReadOf
-  case-refused f n =
-      ap (boundIn P f) (sym (ap (λ (b : Bool). cond b (fine (caseOf (q .case))) (refused (q .number) (q .«record»))) (ne-eqb (q .number) 0 n)) ∙ k) ∙ bound-in f
+  refused-case n = sym (ap (λ (b : Bool). cond b (fine (caseOf (q .case))) (refused (q .number) (q .«record»))) (ne-eqb (q .number) 0 n)) ∙ k
+
+  pub case-refused : (f : ℕ) → (q .number ≡ 0 → ⊥) → unbound ≡ bound s t f
+  case-refused f n = ap (boundIn P f) (refused-case n) ∙ bound-in f
 
   influences-in : influencesIn P (readCase P t) ≡ influences s t
   unfolding influences
   influences-in = ap (influencesBy t) (sym (read-plan s r e z))
 
   pub case-silent : (q .number ≡ 0 → ⊥) → [] ≡ influences s t
-  unfolding caseReadOf
-  case-silent n =
-      ap (influencesIn P) (sym (ap (λ (b : Bool). cond b (fine (caseOf (q .case))) (refused (q .number) (q .«record»))) (ne-eqb (q .number) 0 n)) ∙ k) ∙ influences-in
+  case-silent n = ap (influencesIn P) (refused-case n) ∙ influences-in
 
   module _ (y : q .number ≡ 0) where
     read-case′ : readCase P t ≡ fine (caseOf (q .case))
@@ -87,15 +89,14 @@ module _ (s t : List ℕ) (r : PlanRead) (e : planReadOf r ≡ checkedPlan s) (z
     binds : (f : ℕ) → bindingAt (bindings P (caseOf (q .case))) f ≡ bound s t f
     binds f = ap (boundIn P f) (sym read-case′) ∙ bound-in f
 
+    framed : frameBy (r .plan) (q .case .heading .roster) (q .case .constraints) ≡ frameOf P (caseOf (q .case))
+    framed = frame-of (r .plan) (q .case) (accepted-case P t (caseOf (q .case)) read-case′ .heading)
+
     pub bound-code : (set f : ℕ) → set ≡ boundFacts (frameBy (r .plan) (q .case .heading .roster) (q .case .constraints))
         → bindingAt (bindingsBy P (caseOf (q .case)) set) f ≡ bound s t f
     bound-code set f h =
-        ap (λ (m : ℕ). bindingAt (bindingsBy P (caseOf (q .case)) m) f)
-        (h ∙ ap boundFacts (frame-of (r .plan) (q .case) (accepted-case P t (caseOf (q .case)) read-case′ .heading)))
+        ap (λ (m : ℕ). bindingAt (bindingsBy P (caseOf (q .case)) m) f) (h ∙ ap boundFacts framed)
         ∙ ap (λ (bs : List Bound). bindingAt bs f) (bindings-by P (caseOf (q .case))) ∙ binds f
-
-    framed : frameBy (r .plan) (q .case .heading .roster) (q .case .constraints) ≡ frameOf P (caseOf (q .case))
-    framed = frame-of (r .plan) (q .case) (accepted-case P t (caseOf (q .case)) read-case′ .heading)
 
     -- codes of the bindings, and the facts whose code is from 3 on
     pub listed-sets : (reach : Reach) (codes : List ℕ) (variables : ℕ) → Reached (frameBy (r .plan) (q .case .heading .roster) (q .case .constraints)) reach

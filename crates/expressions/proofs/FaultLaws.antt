@@ -1,13 +1,11 @@
 -- Laws of faults that a record has beside the earlier ones, for families and booleans alike. Assumes nothing.
 use mathlib.Core.Path.{_≡_, refl, sym, ap, ap₂, _∙_}
 use mathlib.Core.Bool.{Bool, true, false, _||_, not, cond, or-comm}
-use mathlib.Core.List.{List, [], _∷_, map, map-append}
+use mathlib.Core.List.{List, [], _∷_, map}
 use Prim.Native.Nat.{ℕ, zero, suc, _+_, _≤_, _<_, min}
 use native.Mathlib.Nat.{add-zero}
-use native.Mathlib.Numerals.{add-one}
 use native.Mathlib.Omega.{arith}
 use lib.ListN.{length, getD, take, drop}
-use lib.Seq.{take-suc}
 use lib.Dec.{eqb}
 use borrow.Author.Tests.{not-true, not-false}
 use Rattle.records.specs.Sets.{anyOf}
@@ -20,7 +18,7 @@ use Rattle.records.specs.declared.case.Boolean.{Boolean}
 use Rattle.records.proofs.LoopLaws.{length-below}
 use Rattle.records.specs.Decoded.{booleanOf, observationsOf}
 use Rattle.expressions.specs.Bindings.{familyFaults, booleanFault, booleanFaults, bindable}
-use Rattle.expressions.proofs.ListLaws.{any-last}
+use Rattle.expressions.proofs.ListLaws.{front-more, any-go, any-stop, any-last}
 use Rattle.expressions.proofs.Rests.{made-next, made-none}
 
 -- ---- one of a list
@@ -30,8 +28,7 @@ any-more : {A B : Type 0} (p : B → Bool) (g : A → B) (xs : List A) (i : ℕ)
     → anyOf p (map g (take (i + 1) xs)) ≡ anyOf p (g (getD xs i d) ∷ map g (take i xs))
 unfolding anyOf
 any-more p g xs i d h =
-    ap (λ (k : ℕ). anyOf p (map g (take k xs))) (add-one i) ∙ ap (λ ys. anyOf p (map g ys)) (take-suc xs i d h)
-    ∙ ap (anyOf p) (map-append g (take i xs) (getD xs i d ∷ [])) ∙ any-last p (map g (take i xs)) (g (getD xs i d)) ∙ or-comm (anyOf p (map g (take i xs))) (p (g (getD xs i d)))
+    ap (anyOf p) (front-more g xs i d h) ∙ any-last p (map g (take i xs)) (g (getD xs i d)) ∙ or-comm (anyOf p (map g (take i xs))) (p (g (getD xs i d)))
 
 -- a search through a made list
 module _ {A B : Type 0} (p : B → Bool) (g : A → B) (xs : List A) (n i : ℕ) where
@@ -44,12 +41,10 @@ module _ {A B : Type 0} (p : B → Bool) (g : A → B) (xs : List A) (n i : ℕ)
 
   module _ (d : A) (h : i < min n (length xs)) where
     pub any-here : p (g (getD xs i d)) ≡ true → anyFrom i ≡ true
-    unfolding anyOf
-    any-here e = ap (anyOf p) (made-next g xs n i d h) ∙ ap (λ (b : Bool). b || anyOf p (drop (i + 1) (map g (take n xs)))) e
+    any-here e = ap (anyOf p) (made-next g xs n i d h) ∙ any-stop p (g (getD xs i d)) (drop (i + 1) (map g (take n xs))) e
 
     pub any-on : p (g (getD xs i d)) ≡ false → anyFrom i ≡ anyFrom (i + 1)
-    unfolding anyOf
-    any-on e = ap (anyOf p) (made-next g xs n i d h) ∙ ap (λ (b : Bool). b || anyOf p (drop (i + 1) (map g (take n xs)))) e
+    any-on e = ap (anyOf p) (made-next g xs n i d h) ∙ any-go p (g (getD xs i d)) (drop (i + 1) (map g (take n xs))) e
 
 -- ---- the fault of each record: by whether an earlier one is like it, and by itself
 

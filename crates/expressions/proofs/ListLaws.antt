@@ -2,17 +2,23 @@
 use Prim.Native.Nat.{ℕ, zero, suc, _+_, _≤_, _<_, min}
 use mathlib.Core.Path.{_≡_, refl, sym, ap, ap₂, _∙_, subst}
 use mathlib.Core.Bool.{Bool, true, false, _&&_, _||_, cond, or-assoc, or-false}
-use mathlib.Core.List.{append-assoc, List, [], _∷_, _++_, map, map-map, flatMap}
+use mathlib.Core.Logic.{⊎-elim}
+use mathlib.Core.List.{append-assoc, List, [], _∷_, _++_, map, map-append, map-map, flatMap}
 use native.Mathlib.Numerals.{add-one}
 use native.Mathlib.Omega.{arith}
 use lib.ListN.{length, getD, take, drop, set, replicate, length-take, drop-of-length-le}
 use lib.Seq.{ext-getD, take-suc-set, drop-cons, getD-take, take-suc, take-all, length-take-le}
 use Rattle.records.specs.Sets.{allOf, anyOf, numbers, below}
 use Rattle.records.specs.Sound.{All}
-use Rattle.records.proofs.LoopLaws.{getD-below, length-below, all-at}
+use Rattle.records.proofs.LoopLaws.{getD-below, getD-past, length-below, all-at}
+use Rattle.records.proofs.SetLaws.{lt-or-le}
 use Rattle.records.proofs.ListLaws.{length-front, getD-front, take-min}
 use Rattle.records.proofs.Listing.{below-more}
 use Rattle.expressions.specs.Coded.{Holds}
+
+-- what is left of a list, in the code's i + 1
+pub rest-next : {A : Type 0} (xs : List A) (i : ℕ) (d : A) → i < length xs → drop i xs ≡ getD xs i d ∷ drop (i + 1) xs
+rest-next xs i d h = drop-cons xs i d h ∙ ap (λ (k : ℕ). getD xs i d ∷ drop k xs) (sym (add-one i))
 
 -- ---- the entries in use: n of them, as many as the count says and no more than there are
 
@@ -31,7 +37,7 @@ module _ {A : Type 0} (xs : List A) (count most n : ℕ) (long : length xs ≡ m
   pub used-next : (i : ℕ) (d k : A) → i < n → k ≡ getD xs i d → drop i (take count xs) ≡ k ∷ drop (i + 1) (take count xs)
   used-next i d k h e =
       let l = used-length in
-      drop-cons (take count xs) i d (omega arith) ∙ ap₂ _∷_ (used-at i d h ∙ sym e) (ap (λ (j : ℕ). drop j (take count xs)) (sym (add-one i)))
+      rest-next (take count xs) i d (omega arith) ∙ ap (λ (x : A). x ∷ drop (i + 1) (take count xs)) (used-at i d h ∙ sym e)
 
   pub used-end : (i : ℕ) → n ≤ i → drop i (take count xs) ≡ []
   used-end i h = let l = used-length in let k : length (take count xs) ≤ i = omega arith in drop-of-length-le (take count xs) k
@@ -39,7 +45,12 @@ module _ {A : Type 0} (xs : List A) (count most n : ℕ) (long : length xs ≡ m
   pub used-take : take n xs ≡ take count xs
   used-take = ap (λ (k : ℕ). take k xs) some ∙ take-min count most xs long
 
--- ---- a list made from the entries in use, one entry at a time
+-- ---- a list made from the entries of an array, one entry at a time
+
+pub front-more : {A B : Type 0} (f : A → B) (xs : List A) (i : ℕ) (d : A) → i < length xs → map f (take (i + 1) xs) ≡ map f (take i xs) ++ (f (getD xs i d) ∷ [])
+front-more f xs i d h = ap (map f) (ap (λ (k : ℕ). take k xs) (add-one i) ∙ take-suc xs i d h) ∙ map-append f (take i xs) (getD xs i d ∷ [])
+
+-- of those in use
 
 module _ {A B : Type 0} (f : A → B) (xs : List A) (count most n : ℕ) (long : length xs ≡ most) (some : n ≡ min count most) where
   pub made-length : length (map f (take count xs)) ≡ n
@@ -146,6 +157,11 @@ below-last n f = ap (λ (k : ℕ). below k f) (sym (add-one n)) ∙ below-more n
 pub below-map : {A B : Type 0} (g : A → B) (n : ℕ) (f : ℕ → A) → map g (below n f) ≡ below n (λ i. g (f i))
 unfolding below
 below-map g n f = map-map g f (numbers n 0)
+
+-- an entry of two that are equal below n
+pub below-at : {A : Type 0} (n : ℕ) (f g : ℕ → A) (d : A) (i : ℕ) → (i < n → f i ≡ g i) → getD (below n f) i d ≡ getD (below n g) i d
+below-at n f g d i h =
+    ⊎-elim (λ l. getD-below n f d i l ∙ h l ∙ sym (getD-below n g d i l)) (λ l. getD-past n f d i l ∙ sym (getD-past n g d i l)) (lt-or-le i n)
 
 -- an array filled by number
 pub fill-next : {A : Type 0} (d : A) (f : ℕ → A) (out : List A) (i : ℕ) (v : A) → i < length out → Holds d out (below i f) → v ≡ f i

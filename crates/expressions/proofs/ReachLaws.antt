@@ -1,9 +1,10 @@
 -- What the code lists as influence is the influence that document 01 gives each variable, and what it joins is what makes a circle; the frame of a case. Assumes nothing.
-use Prim.Native.Nat.{ℕ, zero, suc, _<_}
-use mathlib.Core.Path.{_≡_, refl, sym, ap, ap₂, _∙_}
+use Prim.Native.Nat.{ℕ, _<_}
+use mathlib.Core.Path.{_≡_, sym, ap, ap₂, _∙_}
 use mathlib.Core.List.{List, [], _∷_, _++_}
 use native.Mathlib.Omega.{arith}
-use lib.ListN.{length, getD, take}
+use lib.ListN.{length, take, length-take}
+use lib.Seq.{getD-take}
 use Rattle.records.specs.Sets.{has, only, closeOf, below}
 use Rattle.records.proofs.LoopLaws.{getD-below}
 use Rattle.records.proofs.Listing.{below-ext}
@@ -58,12 +59,10 @@ module _ (F : Frame) (r : Reach) (reached : Reached F r) where
       reached .decisions .at d ∙ getD-below (decisionCount (F .plan)) (decisionTouch (F .plan)) 0 d h)))
 
 -- the frame of a case that has its heading
-heading-first : (n : ℕ) (h : CaseHeading) → length (take n (h ∷ [])) ≡ 1 → (d : CaseHeading) → getD (take n (h ∷ [])) 0 d ≡ h
-heading-first zero h e d = absurd (omega arith)
-heading-first (suc n) h e d = refl
-
 pub frame-of : (plan : Plan) (case : Case) → length (caseOf case .headings) ≡ 1
     → frameBy plan (case .heading .roster) (case .constraints) ≡ frameOf (planOf plan) (caseOf case)
 unfolding frameBy caseOf caseHeading caseHeadingOf
 frame-of plan case e =
-    ap (λ (h : CaseHeading). record { plan = planOf plan; roster = h .roster; constraints = caseOf case .constraints }) (sym (heading-first (case .headings) (caseHeadingOf (case .heading)) e _))
+    let h = caseHeadingOf (case .heading) in
+    let l = length-take (case .headings) (h ∷ []) in
+    ap (λ (h : CaseHeading). record { plan = planOf plan; roster = h .roster; constraints = caseOf case .constraints }) (sym (getD-take (case .headings) (h ∷ []) 0 _ (omega (arith, l, e))))

@@ -1,18 +1,13 @@
 -- What is left of a list from its entry i on: one entry and the rest, or nothing. Assumes nothing.
-use mathlib.Core.Path.{_≡_, refl, sym, ap, _∙_}
+use mathlib.Core.Path.{_≡_, refl, ap, _∙_}
 use mathlib.Core.List.{List, [], _∷_, map}
 use Prim.Native.Nat.{ℕ, _+_, _≤_, _<_, min}
-use native.Mathlib.Numerals.{add-one}
 use native.Mathlib.Omega.{arith}
 use lib.ListN.{length, getD, take, drop, drop-of-length-le, List·getD-eq-default}
-use lib.Seq.{drop-cons}
 use Rattle.records.specs.Sets.{below}
 use Rattle.records.proofs.LoopLaws.{length-below, getD-below}
 use Rattle.records.proofs.ListLaws.{length-front, getD-front}
-
--- of any list, in the code's `i + 1`
-rest-next : {A : Type 0} (xs : List A) (i : ℕ) (d : A) → i < length xs → drop i xs ≡ getD xs i d ∷ drop (i + 1) xs
-rest-next xs i d h = drop-cons xs i d h ∙ ap (λ (k : ℕ). getD xs i d ∷ drop k xs) (sym (add-one i))
+use Rattle.expressions.proofs.ListLaws.{rest-next}
 
 -- of a list made from the first n of another
 pub made-next : {A B : Type 0} (g : A → B) (xs : List A) (n i : ℕ) (d : A) → i < min n (length xs)
