@@ -51,7 +51,6 @@ pub front-more : {A B : Type 0} (f : A → B) (xs : List A) (i : ℕ) (d : A) �
 front-more f xs i d h = ap (map f) (ap (λ (k : ℕ). take k xs) (add-one i) ∙ take-suc xs i d h) ∙ map-append f (take i xs) (getD xs i d ∷ [])
 
 -- of those in use
-
 module _ {A B : Type 0} (f : A → B) (xs : List A) (count most n : ℕ) (long : length xs ≡ most) (some : n ≡ min count most) where
   pub made-length : length (map f (take count xs)) ≡ n
   made-length = length-front f xs count most long ∙ sym some

@@ -19,6 +19,9 @@ made-next g xs n i d h =
 pub made-none : {A B : Type 0} (g : A → B) (xs : List A) (n i : ℕ) → min n (length xs) ≤ i → drop i (map g (take n xs)) ≡ []
 made-none g xs n i h = let e = length-front g xs n (length xs) refl in drop-of-length-le (map g (take n xs)) {i = i} (omega arith)
 
+pub made-past : {A B : Type 0} (g : A → B) (xs : List A) (n i : ℕ) (e : B) → min n (length xs) ≤ i → getD (map g (take n xs)) i e ≡ e
+made-past g xs n i e h = let k = length-front g xs n (length xs) refl in List·getD-eq-default (map g (take n xs)) e {n = i} (omega arith)
+
 -- of f 0 … f (n − 1)
 pub below-next : {A : Type 0} (n : ℕ) (f : ℕ → A) (i : ℕ) → i < n → drop i (below n f) ≡ f i ∷ drop (i + 1) (below n f)
 below-next n f i h =
@@ -27,7 +30,3 @@ below-next n f i h =
 
 pub below-none : {A : Type 0} (n : ℕ) (f : ℕ → A) (i : ℕ) → n ≤ i → drop i (below n f) ≡ []
 below-none n f i h = let e = length-below n f in drop-of-length-le (below n f) {i = i} (omega arith)
-
--- no entry past it
-pub made-past : {A B : Type 0} (g : A → B) (xs : List A) (n i : ℕ) (e : B) → min n (length xs) ≤ i → getD (map g (take n xs)) i e ≡ e
-made-past g xs n i e h = let k = length-front g xs n (length xs) refl in List·getD-eq-default (map g (take n xs)) e {n = i} (omega arith)
