@@ -1,23 +1,20 @@
 -- From what was read to the definitions: a plan or case that was read is the accepted one, and binds as the codes say. Assumes nothing.
 use mathlib.Core.Path.{_≡_, refl, sym, ap, _∙_, subst}
-use mathlib.Core.Bool.{Bool, true, false, cond}
+use mathlib.Core.Bool.{Bool, cond}
 use mathlib.Core.List.{List, []}
-use Prim.Native.Nat.{ℕ, zero, suc, _≤_, _<_}
+use Prim.Native.Nat.{ℕ, _≤_, _<_, min}
 use native.Mathlib.Nat.{le-trans}
 use native.Mathlib.Omega.{arith}
-use lib.ListN.{length, getD, take, replicate, length-take, List·getD-eq-default}
-use lib.Seq.{getD-take}
-use lib.Dec.{eqb, leb}
+use lib.ListN.{length, getD, take, length-take, List·getD-eq-default}
+use lib.Dec.{leb}
 use borrow.Author.Tests.{eq-eqb, ne-eqb}
 use Rattle.records.specs.Fields.{Verdict, fine, refused}
 use Rattle.records.specs.Plan.{Plan, checkedPlan}
-use Rattle.records.specs.Case.{Case, readCase}
+use Rattle.records.specs.Case.{readCase}
 use Rattle.records.specs.Decoded.{planOf, caseOf}
 use Rattle.records.specs.PlanRead.{planReadOf}
 use Rattle.records.specs.CaseRead.{caseReadOf}
-use Rattle.records.specs.Sound.{Sound, SoundCase}
-use Rattle.records.specs.declared.plan.Plan.{Plan as Coded}
-use Rattle.records.specs.declared.case.Case.{Case as CodedCase}
+use Rattle.records.specs.Sound.{Sound}
 use Rattle.records.specs.declared.read_plan.PlanRead.{PlanRead}
 use Rattle.records.specs.declared.read_case.CaseRead.{CaseRead}
 use Rattle.records.proofs.Accepted.{accepted}
@@ -36,9 +33,8 @@ use Rattle.expressions.specs.Coded.{frameBy}
 use Rattle.expressions.proofs.FactLaws.{bindings-by}
 use Rattle.expressions.proofs.ReachLaws.{frame-of, influence-list}
 use Rattle.records.specs.Check.{checkedOf}
-use Rattle.records.specs.declared.checked.Checked.{Checked}
 use Rattle.records.specs.declared.checked.Checked.the-variants.{Accepted, Refused}
-use Rattle.exports.specs.Entries.{numberOf, recordOf, boundIn, boundBy, bound, listed, influencesIn, influencesBy, influences}
+use Rattle.exports.specs.Entries.{numberOf, recordOf, boundIn, boundBy, bound, influencesIn, influencesBy, influences}
 
 -- ---- the plan
 
@@ -49,15 +45,17 @@ read-plan s r e z = sym e ∙ ap (λ (b : Bool). cond b (fine (planOf (r .plan))
 pub plan-sound : (s : List ℕ) (r : PlanRead) → planReadOf r ≡ checkedPlan s → r .number ≡ 0 → Sound (planOf (r .plan))
 plan-sound s r e z = accepted s (planOf (r .plan)) (read-plan s r e z)
 
+refused-plan : (s : List ℕ) (r : PlanRead) → planReadOf r ≡ checkedPlan s → (r .number ≡ 0 → ⊥) → refused (r .number) (r .«record») ≡ checkedPlan s
+unfolding planReadOf
+refused-plan s r e n = sym (ap (λ (b : Bool). cond b (fine (planOf (r .plan))) (refused (r .number) (r .«record»))) (ne-eqb (r .number) 0 n)) ∙ e
+
 pub plan-refused : (s t : List ℕ) (f : ℕ) (r : PlanRead) → planReadOf r ≡ checkedPlan s → (r .number ≡ 0 → ⊥) → unbound ≡ bound s t f
-unfolding bound planReadOf
-plan-refused s t f r e n =
-    ap (boundBy t f) (sym (ap (λ (b : Bool). cond b (fine (planOf (r .plan))) (refused (r .number) (r .«record»))) (ne-eqb (r .number) 0 n)) ∙ e)
+unfolding bound
+plan-refused s t f r e n = ap (boundBy t f) (refused-plan s r e n)
 
 pub plan-silent : (s t : List ℕ) (r : PlanRead) → planReadOf r ≡ checkedPlan s → (r .number ≡ 0 → ⊥) → [] ≡ influences s t
-unfolding influences planReadOf
-plan-silent s t r e n =
-    ap (influencesBy t) (sym (ap (λ (b : Bool). cond b (fine (planOf (r .plan))) (refused (r .number) (r .«record»))) (ne-eqb (r .number) 0 n)) ∙ e)
+unfolding influences
+plan-silent s t r e n = ap (influencesBy t) (refused-plan s r e n)
 
 -- ---- the case over it
 
@@ -69,19 +67,19 @@ module _ (s t : List ℕ) (r : PlanRead) (e : planReadOf r ≡ checkedPlan s) (z
   unfolding bound
   bound-in f = ap (boundBy t f) (sym (read-plan s r e z))
 
-  pub case-refused : (f : ℕ) → (q .number ≡ 0 → ⊥) → unbound ≡ bound s t f
+  refused-case : (q .number ≡ 0 → ⊥) → refused (q .number) (q .«record») ≡ readCase P t
   unfolding caseReadOf
-  case-refused f n =
-      ap (boundIn P f) (sym (ap (λ (b : Bool). cond b (fine (caseOf (q .case))) (refused (q .number) (q .«record»))) (ne-eqb (q .number) 0 n)) ∙ k) ∙ bound-in f
+  refused-case n = sym (ap (λ (b : Bool). cond b (fine (caseOf (q .case))) (refused (q .number) (q .«record»))) (ne-eqb (q .number) 0 n)) ∙ k
+
+  pub case-refused : (f : ℕ) → (q .number ≡ 0 → ⊥) → unbound ≡ bound s t f
+  case-refused f n = ap (boundIn P f) (refused-case n) ∙ bound-in f
 
   influences-in : influencesIn P (readCase P t) ≡ influences s t
   unfolding influences
   influences-in = ap (influencesBy t) (sym (read-plan s r e z))
 
   pub case-silent : (q .number ≡ 0 → ⊥) → [] ≡ influences s t
-  unfolding caseReadOf
-  case-silent n =
-      ap (influencesIn P) (sym (ap (λ (b : Bool). cond b (fine (caseOf (q .case))) (refused (q .number) (q .«record»))) (ne-eqb (q .number) 0 n)) ∙ k) ∙ influences-in
+  case-silent n = ap (influencesIn P) (refused-case n) ∙ influences-in
 
   module _ (y : q .number ≡ 0) where
     read-case′ : readCase P t ≡ fine (caseOf (q .case))
@@ -91,15 +89,14 @@ module _ (s t : List ℕ) (r : PlanRead) (e : planReadOf r ≡ checkedPlan s) (z
     binds : (f : ℕ) → bindingAt (bindings P (caseOf (q .case))) f ≡ bound s t f
     binds f = ap (boundIn P f) (sym read-case′) ∙ bound-in f
 
+    framed : frameBy (r .plan) (q .case .heading .roster) (q .case .constraints) ≡ frameOf P (caseOf (q .case))
+    framed = frame-of (r .plan) (q .case) (accepted-case P t (caseOf (q .case)) read-case′ .heading)
+
     pub bound-code : (set f : ℕ) → set ≡ boundFacts (frameBy (r .plan) (q .case .heading .roster) (q .case .constraints))
         → bindingAt (bindingsBy P (caseOf (q .case)) set) f ≡ bound s t f
     bound-code set f h =
-        ap (λ (m : ℕ). bindingAt (bindingsBy P (caseOf (q .case)) m) f)
-        (h ∙ ap boundFacts (frame-of (r .plan) (q .case) (accepted-case P t (caseOf (q .case)) read-case′ .heading)))
+        ap (λ (m : ℕ). bindingAt (bindingsBy P (caseOf (q .case)) m) f) (h ∙ ap boundFacts framed)
         ∙ ap (λ (bs : List Bound). bindingAt bs f) (bindings-by P (caseOf (q .case))) ∙ binds f
-
-    framed : frameBy (r .plan) (q .case .heading .roster) (q .case .constraints) ≡ frameOf P (caseOf (q .case))
-    framed = frame-of (r .plan) (q .case) (accepted-case P t (caseOf (q .case)) read-case′ .heading)
 
     -- codes of the bindings, and the facts whose code is from 3 on
     pub listed-sets : (reach : Reach) (codes : List ℕ) (variables : ℕ) → Reached (frameBy (r .plan) (q .case .heading .roster) (q .case .constraints)) reach
@@ -123,22 +120,11 @@ unfolding checkedOf
 told-refused (fine P′) n k e = let z : _≡_ {A = ℕ} 0 1 = cc in absurd (omega arith)
 told-refused (refused m j) n k e = (cc, cc)
 
--- ---- nothing, and what is read of it
-
-pub zeros : (n f : ℕ) → _≡_ {A = ℕ} (getD (replicate n 0) f 0) 0
-zeros zero f = refl
-zeros (suc n) zero = refl
-zeros (suc n) (suc f) = zeros n f
+-- ---- an empty list, and what is read past one
 
 pub none-listed : (i : Influence) → i .count ≡ 0 → setsOf i ≡ []
 unfolding setsOf
 none-listed i e = ap (λ (n : ℕ). take n (i .sets)) e
 
-pub taken-at : (xs : List ℕ) (count n : ℕ) → n < count → getD xs n 0 ≡ getD (take count xs) n 0
-taken-at xs count n h = sym (getD-take count xs n 0 h)
-
-pub taken-past : (xs : List ℕ) (count n : ℕ) → count ≤ n → _≡_ {A = ℕ} 0 (getD (take count xs) n 0)
-taken-past xs count n h = sym (List·getD-eq-default (take count xs) 0 (subst (λ (m : ℕ). m ≤ n) (sym (length-take count xs)) (omega arith)))
-
-pub taken-long : (xs : List ℕ) (count n : ℕ) → length xs ≤ n → _≡_ {A = ℕ} 0 (getD (take count xs) n 0)
-taken-long xs count n h = sym (List·getD-eq-default (take count xs) 0 (subst (λ (m : ℕ). m ≤ n) (sym (length-take count xs)) (omega arith)))
+pub taken-past : (xs : List ℕ) (count n : ℕ) → min count (length xs) ≤ n → _≡_ {A = ℕ} 0 (getD (take count xs) n 0)
+taken-past xs count n h = sym (List·getD-eq-default (take count xs) 0 (subst (λ (m : ℕ). m ≤ n) (sym (length-take count xs)) h))

@@ -1,6 +1,6 @@
 -- No rule, no fact's touch and no decision reaches across a circle's line. Assumes nothing.
-use mathlib.Core.Path.{_≡_, refl, sym, ap, _∙_, subst}
-use mathlib.Core.Bool.{Bool, true, false, _||_, not}
+use mathlib.Core.Path.{_≡_, sym, ap, subst}
+use mathlib.Core.Bool.{Bool, true, not}
 use mathlib.Core.List.{List, [], _∷_, _++_}
 use mathlib.Core.Logic.{_⊎_, inl, inr}
 use Prim.Native.Nat.{ℕ, zero, suc, _≤_, _<_}
@@ -8,13 +8,14 @@ use lib.ListN.{getD, List·getD-eq-default}
 use Rattle.records.specs.Sets.{has, one, union, meets, only, setOf, below, unionBelow}
 use Rattle.records.specs.Plan.{Plan, getFact}
 use Rattle.records.specs.Sound.{All}
-use Rattle.records.proofs.SetLaws.{Within, ext, has-union, has-none, in-union-l, in-union-r, thru, within-refl, lt-or-le, meeting}
+use Rattle.records.proofs.SetLaws.{Within, in-union-l, in-union-r, thru, within-refl, lt-or-le, meeting}
 use Rattle.records.proofs.Closing.{close-closed, close-within, in-one}
 use Rattle.records.proofs.Local.{Side, Weak, in-zero, single-side, side-of, closed-weak, all-below}
 use Rattle.records.proofs.Every.{all-parts}
 use Rattle.records.proofs.BelowLaws.{in-below, in-only}
 use Rattle.expressions.specs.Rules.{edgeCount, cutCount, attachmentCount, barCount, statusCount, factCount, edge, cut, attachment, bar, status, pair, span, ruleSets}
 use Rattle.expressions.specs.Influence.{Frame, edgeUses, cutUses, attachmentUses, barUses, statusUses, usersOf, constraintUses, boundFacts, touched, touch, touches, decisionCount, decisionTouch, decisionTouches, joins, circle, touchesCircle}
+use Rattle.expressions.proofs.UnionLaws.{none-union, union-self}
 
 -- ---- a circle that no rule crosses, of whatever persons
 
@@ -22,22 +23,12 @@ abbrev pub Uncrossed : (ℕ → Bool) → Plan → Type 0
 Uncrossed C P = All (Weak C) (ruleSets P)
 
 -- whom a rule past its count holds: the person 64 alone, or nobody
-twice : (s : ℕ) → union s s ≡ s
-twice s = ext (union s s) s (λ q. has-union s s q ∙ same (has s q))
-  where
-    same : (b : Bool) → (b || b) ≡ b
-    same true = refl
-    same false = refl
-
-beside-none : (s : ℕ) → union 0 s ≡ s
-beside-none s = ext (union 0 s) s (λ q. has-union 0 s q ∙ ap (λ (b : Bool). b || has s q) (has-none q))
-
 module _ (C : ℕ → Bool) (P : Plan) where
   pair-past : (i : ℕ) → edgeCount P ≤ i → Side C (pair P i)
   unfolding pair edge
   pair-past i l =
       subst (λ e. Side C (union (one (e .left)) (one (e .right)))) (sym (List·getD-eq-default (P .edges) _ l))
-      (subst (Side C) (sym (twice (one 64))) (single-side C 64))
+      (subst (Side C) (sym (union-self (one 64))) (single-side C 64))
 
   cut-past : (i : ℕ) → cutCount P ≤ i → Side C (cut P i .members)
   unfolding cut
@@ -47,7 +38,7 @@ module _ (C : ℕ → Bool) (P : Plan) where
   unfolding span attachment
   span-past i l =
       subst (λ a. Side C (union (a .members) (one (a .anchor)))) (sym (List·getD-eq-default (P .attachments) _ l))
-      (subst (Side C) (sym (beside-none (one 64))) (single-side C 64))
+      (subst (Side C) (sym (none-union (one 64))) (single-side C 64))
 
   bar-past : (i : ℕ) → barCount P ≤ i → Side C (bar P i .members)
   unfolding bar

@@ -1,11 +1,10 @@
 -- Laws of the unresolved decisions: searched by number, listed one by one, and how many there are. Assumes nothing.
 use Prim.Native.Nat.{ℕ, zero, suc, _+_, _<_}
 use mathlib.Core.Path.{_≡_, refl, sym, ap, ap₂, _∙_}
-use mathlib.Core.Bool.{Bool, true, false, _&&_, _||_}
+use mathlib.Core.Bool.{Bool, true, false, _&&_, _||_, or-true, and-false}
 use mathlib.Core.Logic.{_⊎_, ⊎-elim}
 use mathlib.Core.List.{List, [], _∷_, _++_}
 use native.Mathlib.Nat.{le-of-suc-le-suc, not-suc-le-zero, eq-or-lt-of-le}
-use native.Mathlib.Numerals.{add-one}
 use native.Mathlib.Omega.{arith}
 use lib.ListN.{length, set}
 use lib.Seq.{getD-set-same, getD-set-other}
@@ -14,32 +13,16 @@ use borrow.Author.Tests.{eq-eqb, ne-eqb}
 use Rattle.records.specs.Sets.{below, numbers, anyOf}
 use Rattle.expressions.specs.Influence.{Open}
 use Rattle.expressions.specs.Undecided.{pairOf, openAt}
-use Rattle.expressions.proofs.ListLaws.{below-last, below-same}
+use Rattle.records.proofs.Listing.{below-more, below-ext}
+use Rattle.expressions.proofs.ListLaws.{any-last, below-last}
 
 -- ---- any of f 0 … f (n − 1)
-
-or-true : (x : Bool) → (x || true) ≡ true
-or-true true = refl
-or-true false = refl
-
-any-append : {A : Type 0} (g : A → Bool) (xs : List A) (x : A) → anyOf g (xs ++ (x ∷ [])) ≡ (anyOf g xs || g x)
-unfolding anyOf
-any-append g [] x = pick (g x)
-  where
-    pick : (b : Bool) → (b || false) ≡ b
-    pick true = refl
-    pick false = refl
-any-append g (y ∷ xs) x = ap (λ (b : Bool). g y || b) (any-append g xs x) ∙ assoc (g y) (anyOf g xs) (g x)
-  where
-    assoc : (a b c : Bool) → (a || (b || c)) ≡ ((a || b) || c)
-    assoc true b c = refl
-    assoc false b c = refl
 
 module _ {A : Type 0} (g : A → Bool) (f : ℕ → A) where
   pub any-hit : (n i : ℕ) → i < n → g (f i) ≡ true → anyOf g (below n f) ≡ true
   any-hit zero i h e = absurd (not-suc-le-zero h)
   any-hit (suc n) i h e =
-      ap (anyOf g) (below-last n f) ∙ any-append g (below n f) (f n)
+      ap (anyOf g) (below-last n f) ∙ any-last g (below n f) (f n)
       ∙ ⊎-elim (λ k. ap (λ (b : Bool). anyOf g (below n f) || b) (ap (λ (j : ℕ). g (f j)) (sym k) ∙ e) ∙ or-true (anyOf g (below n f)))
       (λ k. ap (λ (b : Bool). b || g (f n)) (any-hit n i k e)) (eq-or-lt-of-le (le-of-suc-le-suc h))
 
@@ -47,16 +30,16 @@ module _ {A : Type 0} (g : A → Bool) (f : ℕ → A) where
   unfolding below numbers anyOf
   any-miss zero h = refl
   any-miss (suc n) h =
-      ap (anyOf g) (below-last n f) ∙ any-append g (below n f) (f n) ∙ ap₂ _||_ (any-miss n (λ i k. h i (omega arith))) (h n (omega arith))
+      ap (anyOf g) (below-last n f) ∙ any-last g (below n f) (f n) ∙ ap₂ _||_ (any-miss n (λ i k. h i (omega arith))) (h n (omega arith))
 
 -- ---- the list of open decisions, one more at the end
 
 pub open-next : (cuts edges : List ℕ) (i c e : ℕ) → i < length cuts → i < length edges →
     below (i + 1) (openAt (set cuts i c) (set edges i e)) ≡ below i (openAt cuts edges) ++ (pairOf c e ∷ [])
 open-next cuts edges i c e h k =
-    ap (λ (n : ℕ). below n (openAt (set cuts i c) (set edges i e))) (add-one i) ∙ below-last i (openAt (set cuts i c) (set edges i e))
+    below-more i (openAt (set cuts i c) (set edges i e))
     ∙ ap₂ (λ (l : List Open) (x : Open). l ++ (x ∷ []))
-    (below-same (pairOf 0 0) i (openAt (set cuts i c) (set edges i e)) (openAt cuts edges) (λ j l.
+    (below-ext i (openAt (set cuts i c) (set edges i e)) (openAt cuts edges) (λ j l.
     ap₂ pairOf (getD-set-other cuts i j c 0 (λ q. absurd (omega arith))) (getD-set-other edges i j e 0 (λ q. absurd (omega arith)))))
     (ap₂ pairOf (getD-set-same cuts i c 0 h) (getD-set-same edges i e 0 k))
 
@@ -66,11 +49,7 @@ pub other-edge : (a e b v : ℕ) → (a ≡ e → ⊥) → (eqb a e && eqb b v) 
 other-edge a e b v n = ap (λ (x : Bool). x && eqb b v) (ne-eqb a e n)
 
 pub other-verdict : (a e b v : ℕ) → (b ≡ v → ⊥) → (eqb a e && eqb b v) ≡ false
-other-verdict a e b v n = ap (λ (x : Bool). eqb a e && x) (ne-eqb b v n) ∙ pick (eqb a e)
-  where
-    pick : (x : Bool) → (x && false) ≡ false
-    pick true = refl
-    pick false = refl
+other-verdict a e b v n = ap (λ (x : Bool). eqb a e && x) (ne-eqb b v n) ∙ and-false (eqb a e)
 
 pub this-one : (a e b v : ℕ) → a ≡ e → b ≡ v → (eqb a e && eqb b v) ≡ true
 this-one a e b v p q = ap₂ _&&_ (eq-eqb a e p) (eq-eqb b v q)

@@ -1,10 +1,9 @@
 -- Laws of the elections on a fact: the first of them, record by record. Assumes nothing.
 use mathlib.Core.Path.{_≡_, refl, sym, ap, ap₂, _∙_}
 use mathlib.Core.Bool.{Bool, true, false, cond}
-use mathlib.Core.List.{List, [], _∷_, _++_, map, flatMap, append-assoc}
+use mathlib.Core.List.{List, [], _∷_, _++_, map, map-map, flatMap, cons≢nil}
 use Prim.Native.Nat.{ℕ, _+_, _≤_, _<_, min}
 use lib.ListN.{length, getD, take, drop}
-use native.Mathlib.Omega.{arith}
 use lib.Dec.{eqb}
 use borrow.Author.Tests.{eq-eqb, ne-eqb}
 use Rattle.records.specs.Plan as paper
@@ -12,6 +11,7 @@ use Rattle.records.specs.Decoded.{given, planOf, cutOf, attachmentOf, electionO
 use Rattle.records.specs.declared.plan.Election.{Election}
 use Rattle.records.specs.declared.plan.Plan.{Plan}
 use Rattle.expressions.specs.Bindings.{elections, electionsIn, defaultOf}
+use Rattle.expressions.proofs.ListLaws.{flat-append}
 use Rattle.expressions.proofs.Rests.{made-next, made-none}
 
 -- one record more: its election if it is on the fact
@@ -62,31 +62,23 @@ module _ {A : Type 0} (e : A → Election) (items : List A) (n f i : ℕ) where
 
 -- ---- cuts, then attachments
 
-map-map : {A B C : Type 0} (g : B → C) (f : A → B) (xs : List A) → map g (map f xs) ≡ map (λ x. g (f x)) xs
-map-map g f [] = refl
-map-map g f (x ∷ xs) = ap (λ ys. g (f x) ∷ ys) (map-map g f xs)
-
 elections-append : (xs ys : List (List paper.Election)) (f : ℕ) → electionsIn (xs ++ ys) f ≡ electionsIn xs f ++ electionsIn ys f
-unfolding electionsIn flatMap
-elections-append [] ys f = refl
-elections-append (x ∷ xs) ys f = ap (λ zs. flatMap (λ e. cond (eqb (e .fact) f) (e ∷ []) []) x ++ zs) (elections-append xs ys f) ∙ sym (append-assoc (flatMap (λ e. cond (eqb (e .fact) f) (e ∷ []) []) x) (electionsIn xs f) (electionsIn ys f))
+unfolding electionsIn
+elections-append xs ys f = flat-append (λ es. flatMap (λ e. cond (eqb (e .fact) f) (e ∷ []) []) es) xs ys
 
 abbrev plain : Election → paper.Election
 plain e = record { fact = e .fact; actor = e .actor; policy = e .policy; citation = e .citation }
 
-no-entry : {A : Type 0} {x : A} {xs : List A} → x ∷ xs ≡ [] → ⊥
-no-entry p = let z : _≡_ {A = ℕ} 0 1 = cc in omega arith
-
 -- where the cuts have none, the first of the attachments; else the first of the cuts
 pub first-of-cuts : (xs ys : List paper.Election) (r : Election) → r .given ≡ true → electionOf r ≡ take 1 xs → electionOf r ≡ take 1 (xs ++ ys)
 unfolding electionOf
-first-of-cuts [] ys r g e = absurd (no-entry (sym (ap (λ (b : Bool). cond b (plain r ∷ []) []) g) ∙ e))
+first-of-cuts [] ys r g e = absurd (cons≢nil (sym (ap (λ (b : Bool). cond b (plain r ∷ []) []) g) ∙ e))
 first-of-cuts (x ∷ xs) ys r g e = e
 
 pub first-of-attachments : (xs ys : List paper.Election) (r : Election) → r .given ≡ false → electionOf r ≡ take 1 xs → take 1 ys ≡ take 1 (xs ++ ys)
 unfolding electionOf
 first-of-attachments [] ys r g e = refl
-first-of-attachments (x ∷ xs) ys r g e = absurd (no-entry (sym e ∙ ap (λ (b : Bool). cond b (plain r ∷ []) []) g))
+first-of-attachments (x ∷ xs) ys r g e = absurd (cons≢nil (sym e ∙ ap (λ (b : Bool). cond b (plain r ∷ []) []) g))
 
 pub elections-of : (p : Plan) (f : ℕ)
     → elections (planOf p) f

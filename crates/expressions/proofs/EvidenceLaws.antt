@@ -1,66 +1,25 @@
 -- Laws of the marking of evidence: the union of what each record gives, record by record. Assumes nothing.
 use mathlib.Core.Path.{_≡_, refl, sym, ap, ap₂, _∙_, subst}
-use mathlib.Core.Bool.{Bool, true, false, _||_, cond, or-assoc, or-false}
-use mathlib.Core.List.{List, [], _∷_, _++_, flatMap}
+use mathlib.Core.Bool.{Bool, true, false, cond}
+use mathlib.Core.List.{List, [], _∷_}
 use Prim.Native.Nat.{ℕ, _+_, _≤_, _<_}
 use lib.ListN.{getD, drop}
 use lib.Dec.{eqb}
 use borrow.Author.Tests.{eq-eqb, ne-eqb}
-use Rattle.records.specs.Sets.{has, one, union, unionOf, setOf}
+use Rattle.records.specs.Sets.{one, union, unionOf, setOf}
 use Rattle.records.specs.Case as paper
 use Rattle.records.specs.Case.{Case, Observation}
-use Rattle.records.specs.Sound.{All}
+use Rattle.records.specs.Sound.{All, SoundObservation, SoundBoolean, SoundRelation}
 use Rattle.records.specs.Decoded.{observationsOf, booleanOf, relationOf}
 use Rattle.records.specs.declared.case.Observations.{Observations}
 use Rattle.records.specs.declared.case.Boolean.{Boolean}
 use Rattle.records.specs.declared.case.Relation.{Relation}
 use Rattle.records.proofs.LoopLaws.{all-at, getD-below, length-below}
-use Rattle.records.proofs.SetLaws.{ext, has-union, has-none}
+use Rattle.records.proofs.Every.{all-then}
 use Rattle.expressions.specs.Bindings.{observedInBooleans, observedInRelations, unknownIn, saidUnknown, evidenceOf}
 use Rattle.expressions.specs.Evident.{evidenceMark, Evident, EvidentBoolean, EvidentRelation, ReadCase}
 use Rattle.expressions.proofs.Rests.{below-next, below-none}
-
--- ---- union
-
-pub union-assoc : (a b c : ℕ) → union (union a b) c ≡ union a (union b c)
-union-assoc a b c =
-    ext _ _ (λ p.
-    has-union (union a b) c p ∙ ap (λ (x : Bool). x || has c p) (has-union a b p) ∙ or-assoc (has a p) (has b p) (has c p)
-    ∙ sym (has-union a (union b c) p ∙ ap (λ (x : Bool). has a p || x) (has-union b c p)))
-
-pub union-none : (a : ℕ) → union a 0 ≡ a
-union-none a = ext _ _ (λ p. has-union a 0 p ∙ ap (λ (x : Bool). has a p || x) (has-none p) ∙ or-false (has a p))
-
-pub none-union : (a : ℕ) → union 0 a ≡ a
-none-union a = ext _ _ (λ p. has-union 0 a p ∙ ap (λ (x : Bool). x || has a p) (has-none p))
-
--- ---- the union of what the entries of a list give, one entry more or none left
-
-module _ {A : Type 0} (v : A → ℕ) where
-  pub gather-append : (xs ys : List A) → unionOf v (xs ++ ys) ≡ union (unionOf v xs) (unionOf v ys)
-  unfolding unionOf
-  gather-append [] ys = sym (none-union (unionOf v ys))
-  gather-append (x ∷ xs) ys = ap (union (v x)) (gather-append xs ys) ∙ sym (union-assoc (v x) (unionOf v xs) (unionOf v ys))
-
-  pub gather-first : (m t x : ℕ) (xs ys : List A) (y : A) → xs ≡ y ∷ ys → t ≡ union m x → x ≡ v y → union t (unionOf v ys) ≡ union m (unionOf v xs)
-  unfolding unionOf
-  gather-first m t x xs ys y e k h =
-      ap (λ (z : ℕ). union z (unionOf v ys)) (k ∙ ap (union m) h) ∙ union-assoc m (v y) (unionOf v ys) ∙ ap (λ (zs : List A). union m (unionOf v zs)) (sym e)
-
-  pub gather-end : (m : ℕ) (xs : List A) → xs ≡ [] → union m (unionOf v xs) ≡ m
-  unfolding unionOf
-  gather-end m xs e = ap (λ (zs : List A). union m (unionOf v zs)) e ∙ union-none m
-
-  -- over lists that the entries of another list give
-  pub gather-flat : {B : Type 0} (h : B → List A) (bs : List B) → unionOf v (flatMap h bs) ≡ unionOf (λ b. unionOf v (h b)) bs
-  unfolding flatMap unionOf
-  gather-flat h [] = refl
-  gather-flat h (b ∷ bs) = gather-append (h b) (flatMap h bs) ∙ ap (union (unionOf v (h b))) (gather-flat h bs)
-
-pub set-gather : (ns : List ℕ) → setOf ns ≡ unionOf one ns
-unfolding setOf unionOf
-set-gather [] = refl
-set-gather (n ∷ ns) = ap (union (one n)) (set-gather ns)
+use Rattle.expressions.proofs.UnionLaws.{union-none, union-append, union-flat, set-union}
 
 -- ---- the observations of a record
 
@@ -86,15 +45,15 @@ relationMark f r = unionOf evidenceMark (cond (eqb (r .fact) f) (r .observation 
 
 pub boolean-marks : (f : ℕ) (bs : List paper.Boolean) → unionOf evidenceMark (observedInBooleans bs f) ≡ unionOf (booleanMark f) bs
 unfolding observedInBooleans
-boolean-marks f bs = gather-flat evidenceMark (λ b. cond (eqb (b .fact) f) (b .observations) []) bs
+boolean-marks f bs = union-flat evidenceMark (λ b. cond (eqb (b .fact) f) (b .observations) []) bs
 
 pub unknown-marks : (f : ℕ) (bs : List paper.Boolean) → setOf (unknownIn bs f) ≡ unionOf (unknownMark f) bs
 unfolding unknownIn
-unknown-marks f bs = set-gather _ ∙ gather-flat one (λ b. cond (eqb (b .fact) f) (b .unknown) []) bs
+unknown-marks f bs = set-union _ ∙ union-flat one (λ b. cond (eqb (b .fact) f) (b .unknown) []) bs
 
 pub relation-marks : (f : ℕ) (rs : List paper.Relation) → unionOf evidenceMark (observedInRelations rs f) ≡ unionOf (relationMark f) rs
 unfolding observedInRelations
-relation-marks f rs = gather-flat evidenceMark (λ r. cond (eqb (r .fact) f) (r .observation ∷ []) []) rs
+relation-marks f rs = union-flat evidenceMark (λ r. cond (eqb (r .fact) f) (r .observation ∷ []) []) rs
 
 pub boolean-mark-at : (f : ℕ) (b : Boolean) → b .fact ≡ f → unionOf evidenceMark (observationsOf (b .observations)) ≡ booleanMark f (booleanOf b)
 unfolding booleanOf
@@ -144,15 +103,13 @@ evident-at o i a h =
     none : Observation
     none = record { value = 0; evidence = 0 }
 
-all-map : {A : Type 0} {Q R : A → Type 0} → ((x : A) → Q x → R x) → (xs : List A) → All Q xs → All R xs
-all-map f [] a = tt
-all-map f (x ∷ xs) a = (f x (a .0), all-map f xs (a .1))
-
 pub evident-booleans : (C : Case) → ReadCase C → All EvidentBoolean (C .booleans)
-evident-booleans C r = all-map (λ b s. (s .unknown .1, all-map (λ o k. k .evidence) (b .observations) (s .observations))) (C .booleans) (r .sound .booleans)
+evident-booleans C r =
+    all-then (SoundBoolean (r .plan)) EvidentBoolean
+    (λ b s. (s .unknown .1, all-then SoundObservation Evident (λ o k. k .evidence) (b .observations) (s .observations))) (C .booleans) (r .sound .booleans)
 
 pub evident-relations : (C : Case) → ReadCase C → All EvidentRelation (C .relations)
-evident-relations C r = all-map (λ b s. s .observation .evidence) (C .relations) (r .sound .relations)
+evident-relations C r = all-then (SoundRelation (r .plan) C) EvidentRelation (λ b s. s .observation .evidence) (C .relations) (r .sound .relations)
 
 -- ---- all of it
 
@@ -160,7 +117,7 @@ pub evidence-parts : (C : Case) (f : ℕ)
     → union (union (unionOf evidenceMark (observedInBooleans (C .booleans) f)) (unionOf evidenceMark (observedInRelations (C .relations) f))) (setOf (saidUnknown C f)) ≡ evidenceOf C f
 unfolding evidenceOf
 evidence-parts C f =
-    ap (λ (x : ℕ). union x (setOf (saidUnknown C f))) (sym (gather-append evidenceMark (observedInBooleans (C .booleans) f) (observedInRelations (C .relations) f)))
+    ap (λ (x : ℕ). union x (setOf (saidUnknown C f))) (sym (union-append evidenceMark (observedInBooleans (C .booleans) f) (observedInRelations (C .relations) f)))
 
 -- of one record
 pub unknown-evident : (b : Boolean) → EvidentBoolean (booleanOf b) → b .unknown ≡ true → b .evidence < 64

@@ -1,16 +1,13 @@
 -- Laws of a fact's sort and family, and of the binding by them. Assumes nothing.
-use mathlib.Core.Path.{_≡_, refl, sym, ap, _∙_}
+use mathlib.Core.Path.{_≡_, refl, sym, ap, _∙_, subst}
 use mathlib.Core.Bool.{Bool, true, false, _&&_, not, cond}
-use mathlib.Core.List.{List, [], _∷_}
-use Prim.Native.Nat.{ℕ, zero, suc, _+_, _<_, zero-le}
-use native.Mathlib.Omega.{arith}
-use lib.ListN.{length, getD, set, replicate}
-use lib.Seq.{getD-set-same, getD-set-other}
-use lib.Dec.{eqb, ltb}
-use borrow.Author.Tests.{eqb-true, eqb-false, ltb-true, ltb-false, lt-ltb, le-ltb}
-use Rattle.records.specs.Sets.{has, below as numbered}
-use Rattle.records.proofs.LoopLaws.{getD-below, getD-past}
+use mathlib.Core.List.{List, [], _∷_, map}
+use Prim.Native.Nat.{ℕ, zero, suc, _+_, _<_}
+use lib.ListN.{length, getD, set, replicate, length-map, List·getD-map}
+use lib.Dec.{eqb}
+use Rattle.records.specs.Sets.{has, below, numbers}
 use Rattle.expressions.specs.Codes.{boundOf}
+use Rattle.expressions.specs.Coded.{Holds}
 use Rattle.records.specs.Plan as paper
 use Rattle.records.specs.Plan.{getFact, isBoolean}
 use Rattle.records.specs.Case.{Case, caseHeading}
@@ -18,14 +15,7 @@ use Rattle.records.specs.Decoded.{factOf}
 use Rattle.records.specs.declared.plan.Fact.{Fact}
 use Rattle.expressions.specs.Bindings.{Bound, unbound, bindingBy, boundBoolean, boundRelation, inScope, scoped, inFamily, observed, saidUnknown, defaultOf, elections, tookDefaultBy, tookDefault, bindings, bindingsBy, bindingOf, frameOf}
 use Rattle.expressions.specs.Influence.{boundFacts}
-
-pub boolean-fact : (f : Fact) → isBoolean (factOf f) ≡ f .boolean
-unfolding isBoolean factOf
-boolean-fact f = pick (f .boolean)
-  where
-    pick : (b : Bool) → eqb (length (cond (not b) (f .family ∷ []) [])) 0 ≡ b
-    pick true = refl
-    pick false = refl
+use Rattle.expressions.proofs.ListLaws.{filled-at, fill-next}
 
 pub family-fact : (f : Fact) → f .boolean ≡ false → factOf f .family ≡ f .family ∷ []
 unfolding factOf
@@ -47,41 +37,27 @@ module _ (P : paper.Plan) (C : Case) (set f : ℕ) where
 
 -- ---- the code's array of bindings: those of the facts below i, the rest unbound
 
+map-set : {A B : Type 0} (f : A → B) (xs : List A) (i : ℕ) (v : A) → map f (set xs i v) ≡ set (map f xs) i (f v)
+map-set f [] i v = refl
+map-set f (x ∷ xs) zero v = refl
+map-set f (x ∷ xs) (suc i) v = ap (λ (l : List _). f x ∷ l) (map-set f xs i v)
+
 module _ (g : ℕ → Bound) where
-  pub record Filled (out : List ℕ) (i : ℕ) : Type 0 where
-    pub at : (k : ℕ) → boundOf (getD out k 0) ≡ cond (ltb k i) (g k) unbound
+  abbrev pub Filled : List ℕ → ℕ → Type 0
+  Filled out i = Holds unbound (map boundOf out) (below i g)
 
   pub filled-none : (n : ℕ) → Filled (replicate n 0) 0
-  unfolding boundOf
-  filled-none n = record { at = λ k. ap boundOf (zeros n k) ∙ sym (ap (λ (b : Bool). cond b (g k) unbound) (le-ltb k 0 zero-le)) }
-    where
-      zeros : (n k : ℕ) → getD {A = ℕ} (replicate n 0) k 0 ≡ 0
-      zeros zero k = refl
-      zeros (suc n) zero = refl
-      zeros (suc n) (suc k) = zeros n k
+  unfolding boundOf below numbers
+  filled-none n = record { at = λ k. List·getD-map boundOf (replicate n 0) k 0 ∙ ap boundOf (filled-at n k 0) }
 
   pub filled-next : (out : List ℕ) (i v : ℕ) → i < length out → boundOf v ≡ g i → Filled out i → Filled (set out i v) (i + 1)
-  filled-next out i v h e f = record { at = λ k. pick k (eqb k i) refl }
-    where
-      below : (k : ℕ) (b : Bool) → ltb k i ≡ b → (k ≡ i → ⊥) → ltb k (i + 1) ≡ b
-      below k true e n = let l = ltb-true k i e in lt-ltb k (i + 1) (omega arith)
-      below k false e n = let l = ltb-false k i e in le-ltb k (i + 1) (omega arith)
+  filled-next out i v h e f =
+      subst (λ (l : List Bound). Holds unbound l (below (i + 1) g)) (sym (map-set boundOf out i v))
+      (fill-next unbound g (map boundOf out) i (boundOf v) (subst (λ (n : ℕ). i < n) (sym (length-map out boundOf)) h) f e)
 
-      pick : (k : ℕ) (t : Bool) → eqb k i ≡ t → boundOf (getD (set out i v) k 0) ≡ cond (ltb k (i + 1)) (g k) unbound
-      pick k true q =
-          let s = eqb-true k i q in
-          ap (λ (j : ℕ). boundOf (getD (set out i v) j 0)) s ∙ ap boundOf (getD-set-same out i v 0 h) ∙ e ∙ ap g (sym s)
-          ∙ sym (ap (λ (b : Bool). cond b (g k) unbound) (lt-ltb k (i + 1) (omega arith)))
-      pick k false q =
-          let d = eqb-false k i q in
-          ap boundOf (getD-set-other out i k v 0 d) ∙ f .at k ∙ sym (ap (λ (b : Bool). cond b (g k) unbound) (below k (ltb k i) refl d))
-
-  pub filled-end : (out : List ℕ) (n : ℕ) → Filled out n → (k : ℕ) → boundOf (getD out k 0) ≡ getD (numbered n g) k unbound
-  filled-end out n f k = f .at k ∙ pick (ltb k n) refl
-    where
-      pick : (b : Bool) → ltb k n ≡ b → cond (ltb k n) (g k) unbound ≡ getD (numbered n g) k unbound
-      pick true e = rw e (sym (getD-below n g unbound k (ltb-true k n e)))
-      pick false e = rw e (sym (getD-past n g unbound k (ltb-false k n e)))
+  pub filled-end : (out : List ℕ) (n : ℕ) → Filled out n → (k : ℕ) → boundOf (getD out k 0) ≡ getD (below n g) k unbound
+  unfolding boundOf
+  filled-end out n f k = sym (List·getD-map boundOf out k 0) ∙ f .at k
 
 -- ---- which facts took their default
 

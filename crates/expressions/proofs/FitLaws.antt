@@ -4,11 +4,8 @@ use mathlib.Core.List.{List, [], _∷_}
 use native.Mathlib.Omega.{arith}
 use Rattle.records.specs.Plan.{Plan, Node, literal, fact, conj, disj, neg}
 use Rattle.records.specs.Sound.{All, Sound, SoundFact, SoundNode, SoundNodes, SoundEdge, SoundAttachment, SoundStatus}
+use Rattle.records.proofs.Every.{all-then}
 use Rattle.expressions.specs.Coded.{TupleFits, FactFits, EndsFit, AnchorFits, PersonFits}
-
-all-map : {A : Type 0} (Q R : A → Type 0) → ((x : A) → Q x → R x) → (xs : List A) → All Q xs → All R xs
-all-map Q R f [] h = tt
-all-map Q R f (x ∷ xs) h = (f x (h .0), all-map Q R f xs (h .1))
 
 module _ (P : Plan) (sound : Sound P) where
   node-fits : (k : ℕ) (n : Node) → SoundNode P k n → FactFits n
@@ -26,13 +23,13 @@ module _ (P : Plan) (sound : Sound P) where
   nodes-fit = some-fit 0 (P .nodes) (sound .nodes)
 
   pub edges-fit : All EndsFit (P .edges)
-  edges-fit = all-map (SoundEdge P) EndsFit (λ e h. (h .left, h .right)) (P .edges) (sound .edges)
+  edges-fit = all-then (SoundEdge P) EndsFit (λ e h. (h .left, h .right)) (P .edges) (sound .edges)
 
   pub attachments-fit : All AnchorFits (P .attachments)
-  attachments-fit = all-map (SoundAttachment P) AnchorFits (λ a h. h .anchor) (P .attachments) (sound .attachments)
+  attachments-fit = all-then (SoundAttachment P) AnchorFits (λ a h. h .anchor) (P .attachments) (sound .attachments)
 
   pub statuses-fit : All PersonFits (P .statuses)
-  statuses-fit = all-map (SoundStatus P) PersonFits (λ t h. h .person) (P .statuses) (sound .statuses)
+  statuses-fit = all-then (SoundStatus P) PersonFits (λ t h. h .person) (P .statuses) (sound .statuses)
 
   pub facts-fit : All TupleFits (P .facts)
-  facts-fit = all-map SoundFact TupleFits (λ f h. h .1) (P .facts) (sound .facts)
+  facts-fit = all-then SoundFact TupleFits (λ f h. h .1) (P .facts) (sound .facts)

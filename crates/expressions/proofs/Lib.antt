@@ -12,7 +12,6 @@ pub mod TouchLaws
 pub mod DecisionLaws
 pub mod OpenLaws
 pub mod ReachLaws
-pub mod GroupLaws
 pub mod Rests
 pub mod SeenLaws
 pub mod EvidenceLaws

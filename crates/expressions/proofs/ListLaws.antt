@@ -1,19 +1,24 @@
 -- Laws of lists that a loop goes through: what is left from an index on, of the entries in use of an array. Assumes nothing.
 use Prim.Native.Nat.{ℕ, zero, suc, _+_, _≤_, _<_, min}
 use mathlib.Core.Path.{_≡_, refl, sym, ap, ap₂, _∙_, subst}
-use mathlib.Core.Bool.{Bool, true, false, _&&_, _||_}
-use mathlib.Core.Logic.{_⊎_, inl, inr}
-use mathlib.Core.List.{append-assoc, List, [], _∷_, _++_, map}
+use mathlib.Core.Bool.{Bool, true, false, _&&_, _||_, cond, or-assoc, or-false}
+use mathlib.Core.Logic.{⊎-elim}
+use mathlib.Core.List.{append-assoc, List, [], _∷_, _++_, map, map-append, map-map, flatMap}
 use native.Mathlib.Numerals.{add-one}
-use native.Mathlib.Nat.{add-zero, zero-add}
 use native.Mathlib.Omega.{arith}
-use lib.ListN.{length, getD, take, drop, set, replicate, length-take, length-map, drop-of-length-le}
+use lib.ListN.{length, getD, take, drop, set, replicate, length-take, drop-of-length-le}
 use lib.Seq.{ext-getD, take-suc-set, drop-cons, getD-take, take-suc, take-all, length-take-le}
 use Rattle.records.specs.Sets.{allOf, anyOf, numbers, below}
 use Rattle.records.specs.Sound.{All}
-use Rattle.records.proofs.LoopLaws.{getD-below, length-below, all-at, getD-made}
+use Rattle.records.proofs.LoopLaws.{getD-below, getD-past, length-below, all-at}
 use Rattle.records.proofs.SetLaws.{lt-or-le}
+use Rattle.records.proofs.ListLaws.{length-front, getD-front, take-min}
+use Rattle.records.proofs.Listing.{below-more}
 use Rattle.expressions.specs.Coded.{Holds}
+
+-- what is left of a list, in the code's i + 1
+pub rest-next : {A : Type 0} (xs : List A) (i : ℕ) (d : A) → i < length xs → drop i xs ≡ getD xs i d ∷ drop (i + 1) xs
+rest-next xs i d h = drop-cons xs i d h ∙ ap (λ (k : ℕ). getD xs i d ∷ drop k xs) (sym (add-one i))
 
 -- ---- the entries in use: n of them, as many as the count says and no more than there are
 
@@ -32,33 +37,26 @@ module _ {A : Type 0} (xs : List A) (count most n : ℕ) (long : length xs ≡ m
   pub used-next : (i : ℕ) (d k : A) → i < n → k ≡ getD xs i d → drop i (take count xs) ≡ k ∷ drop (i + 1) (take count xs)
   used-next i d k h e =
       let l = used-length in
-      drop-cons (take count xs) i d (omega arith) ∙ ap₂ _∷_ (used-at i d h ∙ sym e) (ap (λ (j : ℕ). drop j (take count xs)) (sym (add-one i)))
+      rest-next (take count xs) i d (omega arith) ∙ ap (λ (x : A). x ∷ drop (i + 1) (take count xs)) (used-at i d h ∙ sym e)
 
   pub used-end : (i : ℕ) → n ≤ i → drop i (take count xs) ≡ []
   used-end i h = let l = used-length in let k : length (take count xs) ≤ i = omega arith in drop-of-length-le (take count xs) k
 
   pub used-take : take n xs ≡ take count xs
-  used-take = pick (lt-or-le count most)
-    where
-      pick : (count < most) ⊎ (most ≤ count) → take n xs ≡ take count xs
-      pick (inl h) = let e : n ≡ count = omega arith in ap (λ (k : ℕ). take k xs) e
-      pick (inr h) = take-all n xs (omega arith) ∙ sym (take-all count xs (omega arith))
+  used-take = ap (λ (k : ℕ). take k xs) some ∙ take-min count most xs long
 
--- the front of one array copied to another
-pub copy-next : {A : Type 0} (xs ys : List A) (i : ℕ) (d : A) → i < length xs → i < length ys → take i xs ≡ take i ys
-    → take (i + 1) (set xs i (getD ys i d)) ≡ take (i + 1) ys
-copy-next xs ys i d h k e =
-    rw add-one (take-suc-set xs i (getD ys i d) h ∙ ap (λ (l : List _). l ++ (getD ys i d ∷ [])) e ∙ sym (take-suc ys i d k))
+-- ---- a list made from the entries of an array, one entry at a time
 
--- ---- a list made from the entries in use, one entry at a time
+pub front-more : {A B : Type 0} (f : A → B) (xs : List A) (i : ℕ) (d : A) → i < length xs → map f (take (i + 1) xs) ≡ map f (take i xs) ++ (f (getD xs i d) ∷ [])
+front-more f xs i d h = ap (map f) (ap (λ (k : ℕ). take k xs) (add-one i) ∙ take-suc xs i d h) ∙ map-append f (take i xs) (getD xs i d ∷ [])
 
+-- of those in use
 module _ {A B : Type 0} (f : A → B) (xs : List A) (count most n : ℕ) (long : length xs ≡ most) (some : n ≡ min count most) where
   pub made-length : length (map f (take count xs)) ≡ n
-  made-length = length-map (take count xs) f ∙ used-length xs count most n long some
+  made-length = length-front f xs count most long ∙ sym some
 
   pub made-at : (i : ℕ) (d : A) (e : B) → i < n → getD (map f (take count xs)) i e ≡ f (getD xs i d)
-  made-at i d e h =
-      ap (λ (l : List A). getD (map f l) i e) (sym (used-take xs count most n long some)) ∙ getD-made f xs n i d e h (omega arith)
+  made-at i d e h = let l = made-length in getD-front f xs count i d e (omega arith)
 
   pub made-next : (i : ℕ) (d : A) → i < n → take (i + 1) (map f (take count xs)) ≡ take i (map f (take count xs)) ++ (f (getD xs i d) ∷ [])
   made-next i d h =
@@ -95,6 +93,23 @@ module _ {A : Type 0} (f : A → Bool) (k : A) (rest : List A) where
   unfolding anyOf
   any-stop e = ap (λ (b : Bool). b || anyOf f rest) e
 
+-- ---- one entry more at the end, and a list behind another
+
+pub any-last : {A : Type 0} (f : A → Bool) (xs : List A) (x : A) → anyOf f (xs ++ (x ∷ [])) ≡ (anyOf f xs || f x)
+unfolding anyOf
+any-last f [] x = or-false (f x)
+any-last f (y ∷ xs) x = ap (λ (b : Bool). f y || b) (any-last f xs x) ∙ sym (or-assoc (f y) (anyOf f xs) (f x))
+
+pub flat-append : {A B : Type 0} (f : A → List B) (xs ys : List A) → flatMap f (xs ++ ys) ≡ flatMap f xs ++ flatMap f ys
+unfolding flatMap
+flat-append f [] ys = refl
+flat-append f (x ∷ xs) ys = ap (λ (l : List _). f x ++ l) (flat-append f xs ys) ∙ sym (append-assoc (f x) (flatMap f xs) (flatMap f ys))
+
+-- an entry where the test holds
+pub length-if : {A : Type 0} (b : Bool) (x : A) → length (cond b (x ∷ []) []) ≡ cond b 1 0
+length-if true x = refl
+length-if false x = refl
+
 -- ---- equal tests give equal answers
 
 module _ {A : Type 0} (f g : A → Bool) (same : (x : A) → f x ≡ g x) where
@@ -110,13 +125,14 @@ module _ {A : Type 0} (f g : A → Bool) (same : (x : A) → f x ≡ g x) where
 
 -- ---- an array that holds a list
 
+-- within the array and past it
+pub filled-at : {A : Type 0} (n i : ℕ) (d : A) → getD (replicate n d) i d ≡ d
+filled-at zero i d = refl
+filled-at (suc n) zero d = refl
+filled-at (suc n) (suc i) d = filled-at n i d
+
 pub holds-none : {A : Type 0} (n : ℕ) (d : A) → Holds d (replicate n d) []
-holds-none n d = record { at = λ i. at n i }
-  where
-    at : (n i : ℕ) → getD (replicate n d) i d ≡ d
-    at zero i = refl
-    at (suc n) zero = refl
-    at (suc n) (suc i) = at n i
+holds-none n d = record { at = λ i. filled-at n i d }
 
 -- an entry stored at the list's end
 stored : {A : Type 0} (d : A) (out done : List A) (v : A) → length done < length out → ((k : ℕ) → getD out k d ≡ getD done k d)
@@ -134,41 +150,23 @@ holds-next d out done i v e l h =
 
 -- ---- f 0 … f (n − 1), one more at the end
 
-pub numbers-last : (n k : ℕ) → numbers (suc n) k ≡ numbers n k ++ ((k + n) ∷ [])
-unfolding numbers
-numbers-last zero k = ap (λ (x : ℕ). x ∷ []) (sym (add-zero k))
-numbers-last (suc n) k =
-    let e : suc k + n ≡ k + suc n = omega arith in
-    ap (λ (l : List ℕ). k ∷ l) (numbers-last n (suc k) ∙ ap (λ (x : ℕ). numbers n (suc k) ++ (x ∷ [])) e)
-
-pub map-append : {A B : Type 0} (f : A → B) (xs ys : List A) → map f (xs ++ ys) ≡ map f xs ++ map f ys
-map-append f [] ys = refl
-map-append f (x ∷ xs) ys = ap (λ (l : List _). f x ∷ l) (map-append f xs ys)
-
 pub below-last : {A : Type 0} (n : ℕ) (f : ℕ → A) → below (suc n) f ≡ below n f ++ (f n ∷ [])
-unfolding below
-below-last n f = ap (map f) (numbers-last n 0) ∙ map-append f (numbers n 0) ((0 + n) ∷ []) ∙ ap (λ (x : ℕ). map f (numbers n 0) ++ (f x ∷ [])) (zero-add n)
+below-last n f = ap (λ (k : ℕ). below k f) (sym (add-one n)) ∙ below-more n f
 
 pub below-map : {A B : Type 0} (g : A → B) (n : ℕ) (f : ℕ → A) → map g (below n f) ≡ below n (λ i. g (f i))
 unfolding below
-below-map g n f = twice (numbers n 0)
-  where
-    twice : (ns : List ℕ) → map g (map f ns) ≡ map (λ i. g (f i)) ns
-    twice [] = refl
-    twice (i ∷ ns) = ap (λ (l : List _). g (f i) ∷ l) (twice ns)
+below-map g n f = map-map g f (numbers n 0)
 
--- equal entries make equal lists
-pub below-same : {A : Type 0} (d : A) (n : ℕ) (f g : ℕ → A) → ((i : ℕ) → i < n → f i ≡ g i) → below n f ≡ below n g
-below-same d n f g h =
-    ext-getD d (below n f) (below n g) (length-below n f ∙ sym (length-below n g)) (λ i l.
-    let k : i < n = subst (λ (m : ℕ). i < m) (length-below n f) l in
-    getD-below n f d i k ∙ h i k ∙ sym (getD-below n g d i k))
+-- an entry of two that are equal below n
+pub below-at : {A : Type 0} (n : ℕ) (f g : ℕ → A) (d : A) (i : ℕ) → (i < n → f i ≡ g i) → getD (below n f) i d ≡ getD (below n g) i d
+below-at n f g d i h =
+    ⊎-elim (λ l. getD-below n f d i l ∙ h l ∙ sym (getD-below n g d i l)) (λ l. getD-past n f d i l ∙ sym (getD-past n g d i l)) (lt-or-le i n)
 
 -- an array filled by number
 pub fill-next : {A : Type 0} (d : A) (f : ℕ → A) (out : List A) (i : ℕ) (v : A) → i < length out → Holds d out (below i f) → v ≡ f i
     → Holds d (set out i v) (below (i + 1) f)
 fill-next d f out i v l h e =
-    subst (Holds d (set out i v)) (ap (λ (x : _). below i f ++ (x ∷ [])) e ∙ sym (ap (λ (k : ℕ). below k f) (add-one i) ∙ below-last i f))
+    subst (Holds d (set out i v)) (ap (λ (x : _). below i f ++ (x ∷ [])) e ∙ sym (below-more i f))
     (holds-next d out (below i f) i v (length-below i f) l h)
 
 -- ---- a list put together behind another, by number
@@ -177,7 +175,7 @@ pub behind-next : {A : Type 0} (f : ℕ → A) (before : List A) (i : ℕ) {xs y
     → ys ≡ before ++ below (i + 1) f
 behind-next f before i {xs} {ys} {v} e k s =
     k ∙ ap₂ (λ (l : List _) (x : _). l ++ (x ∷ [])) e s ∙ append-assoc before (below i f) (f i ∷ [])
-    ∙ ap (λ (l : List _). before ++ l) (sym (ap (λ (n : ℕ). below n f) (add-one i) ∙ below-last i f))
+    ∙ ap (λ (l : List _). before ++ l) (sym (below-more i f))
 
 -- an entry of one list stored behind the front of another
 pub store-next : {A : Type 0} (d : A) (sets before ms : List A) (k i : ℕ) → k < length sets → i < length ms → take k sets ≡ before ++ take i ms

@@ -1,7 +1,7 @@
 -- A mask built by a test of each number. Assumes nothing.
 use Prim.Native.Nat.{ℕ, zero, suc, _+_, _≤_, _<_}
 use mathlib.Core.Path.{_≡_, refl, sym, ap, ap₂, _∙_}
-use mathlib.Core.Bool.{Bool, true, false, _||_}
+use mathlib.Core.Bool.{Bool, true, false, _||_, or-false}
 use mathlib.Core.Logic.{_⊎_, ⊎-elim}
 use native.Mathlib.Nat.{not-suc-le-zero, le-of-suc-le-suc, eq-or-lt-of-le}
 use native.Mathlib.Numerals.{add-one}
@@ -9,10 +9,6 @@ use native.Mathlib.Omega.{arith}
 use borrow.Author.Tests.{eq-eqb, ne-eqb}
 use Rattle.records.specs.Sets.{has, one, union, only, unionBelow}
 use Rattle.records.proofs.SetLaws.{has-union, has-none, has-one}
-
-or-none : (x : Bool) → (x || false) ≡ x
-or-none true = refl
-or-none false = refl
 
 module _ (b : ℕ → Bool) where
   abbrev pub built : ℕ → ℕ
@@ -49,5 +45,5 @@ module _ (b : ℕ → Bool) where
   has-built (suc n) p h =
       has-union (built n) (only (b n) (one n)) p
       ∙ ⊎-elim (λ e. ap (λ (q : ℕ). has (built n) q || has (only (b n) (one n)) q) e ∙ ap₂ _||_ (past n n (omega arith)) (itself n) ∙ ap b (sym e))
-      (λ l. ap₂ _||_ (has-built n p l) (other n p (λ e. absurd (omega arith))) ∙ or-none (b p))
+      (λ l. ap₂ _||_ (has-built n p l) (other n p (λ e. absurd (omega arith))) ∙ or-false (b p))
       (eq-or-lt-of-le (le-of-suc-le-suc h))

@@ -81,11 +81,7 @@ pub uses-next : (ns : List Node) (n : Node) (out : List ℕ) (i v : ℕ) → len
 unfolding usesFrom
 uses-next = table-next 0 uses usesFrom (λ done. refl) (λ n ns done. refl) uses-agree
 
--- the nodes of a plan's table are the plan's
-pub nodes-of : (plan : Plan) → nodesOf (plan .nodes) ≡ planOf plan .nodes
-unfolding nodesOf planOf
-nodes-of plan = refl
-
+-- over a plan's own nodes these are the definition's
 pub values-of : (plan : Plan) (facts : ℕ) → valuesFrom facts (nodesOf (plan .nodes)) [] ≡ values (planOf plan) facts
 unfolding nodesOf planOf values
 values-of plan facts = refl

@@ -1,7 +1,7 @@
 -- There are at most as many open decisions as unresolved entries in the plan's lists. Assumes nothing.
 use Prim.Native.Nat.{ℕ, zero, suc, _+_, _≤_, _<_, zero-le}
 use mathlib.Core.Path.{_≡_, refl, sym, ap, ap₂, _∙_, subst, fun-ext}
-use mathlib.Core.Bool.{Bool, true, false, _&&_, _||_, cond}
+use mathlib.Core.Bool.{Bool, true, false, _&&_, _||_, cond, and-true, and-false}
 use mathlib.Core.List.{List, [], _∷_, _++_, map, append-nil}
 use native.Mathlib.Nat.{le-refl}
 use native.Mathlib.Decide.{le-ind}
@@ -15,11 +15,13 @@ use Rattle.records.specs.Sets.{below, anyOf}
 use Rattle.records.specs.Plan.{Plan, Decision, Cut, unresolvedIn, unresolved}
 use Rattle.records.specs.Sound.{All, Sound}
 use Rattle.records.proofs.LoopLaws.{length-below, all-append}
+use Rattle.records.proofs.DecisionLaws.{unresolved-more}
 use Rattle.expressions.specs.Listed.{endsOf}
 use Rattle.expressions.specs.Rules.{pair, edge, cut, cutCount, edgeCount}
 use Rattle.expressions.specs.Influence.{Open, openIn, openBelow, openDecisions, openDecision, decisionTouch}
 use Rattle.expressions.specs.Undecided.{decides, pairOf, openAt, opensOf, openOf, openAll, Named, openTouch}
 use Rattle.expressions.specs.declared.decisions.Undecided.{Undecided}
+use Rattle.expressions.proofs.ListLaws.{length-if}
 use Rattle.expressions.proofs.RuleLaws.{below-list}
 
 -- ---- how many numbers below n pass a test
@@ -63,23 +65,11 @@ open-count : (ds : List Decision) (c n : ℕ) → length (openOf ds c n) ≡ cou
 unfolding openOf countBelow
 open-count ds c zero = refl
 open-count ds c (suc n) =
-    length-append (openOf ds c n) (cond (decides n 3 ds) (pairOf c n ∷ []) []) ∙ ap₂ _+_ (open-count ds c n) (pick (decides n 3 ds))
-  where
-    pick : (b : Bool) → length (cond {A = List Open} b (pairOf c n ∷ []) []) ≡ tally b
-    pick true = refl
-    pick false = refl
+    length-append (openOf ds c n) (cond (decides n 3 ds) (pairOf c n ∷ []) []) ∙ ap₂ _+_ (open-count ds c n) (length-if (decides n 3 ds) (pairOf c n))
 
 count-entry : (n : ℕ) (d : Decision) → countBelow n (λ e. eqb (d .edge) e && eqb (d .verdict) 3) ≤ tally (eqb (d .verdict) 3)
 count-entry n d = pick (eqb (d .verdict) 3)
   where
-    and-true : (x : Bool) → (x && true) ≡ x
-    and-true true = refl
-    and-true false = refl
-
-    and-false : (x : Bool) → (x && false) ≡ false
-    and-false true = refl
-    and-false false = refl
-
     pick : (b : Bool) → countBelow n (λ e. eqb (d .edge) e && b) ≤ tally b
     pick true = subst (λ (f : ℕ → Bool). countBelow n f ≤ 1) (fun-ext (λ e. sym (and-true (eqb (d .edge) e)))) (count-one n (d .edge))
     pick false = let z = count-none n (λ e. eqb (d .edge) e && false) (λ i l. and-false (eqb (d .edge) i)) in omega arith
@@ -97,11 +87,6 @@ unfolding openIn openOf
 open-is P c zero = refl
 open-is P c (suc n) = ap (λ (l : List Open). l ++ cond (decides n 3 (cut P c .decisions)) (pairOf c n ∷ []) []) (open-is P c n)
 
-unresolved-last : (cs : List Cut) (c : Cut) → unresolved (cs ++ (c ∷ [])) ≡ unresolved cs + unresolvedIn (c .decisions)
-unfolding unresolved
-unresolved-last [] c = omega arith
-unresolved-last (d ∷ cs) c = let h = unresolved-last cs c in omega arith
-
 below-few : (P : Plan) (k : ℕ) → k ≤ length (P .cuts) → length (openBelow P k) ≤ unresolved (take k (P .cuts))
 unfolding openBelow cut
 below-few P zero h = zero-le
@@ -110,7 +95,7 @@ below-few P (suc k) h =
     let a = ap length (open-is P k (edgeCount P)) in
     let b = open-count (cut P k .decisions) k (edgeCount P) in
     let c = count-entries (edgeCount P) (cut P k .decisions) in
-    let e = ap unresolved (take-suc (P .cuts) k _ h) ∙ unresolved-last (take k (P .cuts)) (cut P k) in
+    let e = ap unresolved (take-suc (P .cuts) k _ h) ∙ unresolved-more (take k (P .cuts)) (cut P k) in
     let r = below-few P k (omega arith) in
     omega arith
 

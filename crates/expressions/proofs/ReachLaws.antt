@@ -1,11 +1,13 @@
 -- What the code lists as influence is the influence that document 01 gives each variable, and what it joins is what makes a circle; the frame of a case. Assumes nothing.
-use Prim.Native.Nat.{ℕ, zero, suc, _<_}
-use mathlib.Core.Path.{_≡_, refl, sym, ap, ap₂, _∙_}
+use Prim.Native.Nat.{ℕ, _<_}
+use mathlib.Core.Path.{_≡_, sym, ap, ap₂, _∙_}
 use mathlib.Core.List.{List, [], _∷_, _++_}
 use native.Mathlib.Omega.{arith}
-use lib.ListN.{length, getD, take}
+use lib.ListN.{length, take, length-take}
+use lib.Seq.{getD-take}
 use Rattle.records.specs.Sets.{has, only, closeOf, below}
 use Rattle.records.proofs.LoopLaws.{getD-below}
+use Rattle.records.proofs.Listing.{below-ext}
 use Rattle.records.specs.Case.{CaseHeading, caseHeading}
 use Rattle.records.specs.Decoded.{planOf, caseOf, caseHeadingOf}
 use Rattle.records.specs.declared.plan.Plan.{Plan}
@@ -19,7 +21,6 @@ use Rattle.expressions.specs.Listed.{usedAt}
 use Rattle.expressions.specs.Reached.{Reached}
 use Rattle.expressions.specs.Influences.{closed, closedIf, influenceBy}
 use Rattle.expressions.specs.declared.reach.Reach.{Reach}
-use Rattle.expressions.proofs.ListLaws.{below-same}
 use Rattle.expressions.proofs.OpenLaws.{opens-number}
 
 module _ (F : Frame) (r : Reach) (reached : Reached F r) where
@@ -41,9 +42,9 @@ module _ (F : Frame) (r : Reach) (reached : Reached F r) where
   influence-list bs variables same =
       ap₂ _++_
       (ap (λ (n : ℕ). below n (closedIf groups variables (r .facts))) (reached .count)
-      ∙ below-same 0 (factCount (F .plan)) (closedIf groups variables (r .facts)) (factInfluence F bs) (λ f h. ap₂ only (same f h) (fact-closed f h)))
+      ∙ below-ext (factCount (F .plan)) (closedIf groups variables (r .facts)) (factInfluence F bs) (λ f h. ap₂ only (same f h) (fact-closed f h)))
       (ap (λ (n : ℕ). below n (closed groups (r .decisions))) (opens-number (r .undecided) (openDecisions (F .plan)) (reached .opens))
-      ∙ below-same 0 (decisionCount (F .plan)) (closed groups (r .decisions)) (decisionInfluence F) decision-closed)
+      ∙ below-ext (decisionCount (F .plan)) (closed groups (r .decisions)) (decisionInfluence F) decision-closed)
 
   -- "joined if one edge, cut, attachment with anchor, bar, or unresolved decision's cut and edge holds both, or one fact touches both"
   pub joins-list : groups ++ (below (r .count) (usedAt (r .facts)) ++ below (r .undecided .count) (usedAt (r .decisions))) ≡ joins F
@@ -52,18 +53,16 @@ module _ (F : Frame) (r : Reach) (reached : Reached F r) where
       ap₂ _++_ (reached .groups)
       (ap₂ _++_
       (ap (λ (n : ℕ). below n (usedAt (r .facts))) (reached .count)
-      ∙ below-same 0 (factCount (F .plan)) (usedAt (r .facts)) (touch F) (λ f h. reached .facts .at f ∙ getD-below (factCount (F .plan)) (touch F) 0 f h))
+      ∙ below-ext (factCount (F .plan)) (usedAt (r .facts)) (touch F) (λ f h. reached .facts .at f ∙ getD-below (factCount (F .plan)) (touch F) 0 f h))
       (ap (λ (n : ℕ). below n (usedAt (r .decisions))) (opens-number (r .undecided) (openDecisions (F .plan)) (reached .opens))
-      ∙ below-same 0 (decisionCount (F .plan)) (usedAt (r .decisions)) (decisionTouch (F .plan)) (λ d h.
+      ∙ below-ext (decisionCount (F .plan)) (usedAt (r .decisions)) (decisionTouch (F .plan)) (λ d h.
       reached .decisions .at d ∙ getD-below (decisionCount (F .plan)) (decisionTouch (F .plan)) 0 d h)))
 
 -- the frame of a case that has its heading
-heading-first : (n : ℕ) (h : CaseHeading) → length (take n (h ∷ [])) ≡ 1 → (d : CaseHeading) → getD (take n (h ∷ [])) 0 d ≡ h
-heading-first zero h e d = absurd (omega arith)
-heading-first (suc n) h e d = refl
-
 pub frame-of : (plan : Plan) (case : Case) → length (caseOf case .headings) ≡ 1
     → frameBy plan (case .heading .roster) (case .constraints) ≡ frameOf (planOf plan) (caseOf case)
 unfolding frameBy caseOf caseHeading caseHeadingOf
 frame-of plan case e =
-    ap (λ (h : CaseHeading). record { plan = planOf plan; roster = h .roster; constraints = caseOf case .constraints }) (sym (heading-first (case .headings) (caseHeadingOf (case .heading)) e _))
+    let h = caseHeadingOf (case .heading) in
+    let l = length-take (case .headings) (h ∷ []) in
+    ap (λ (h : CaseHeading). record { plan = planOf plan; roster = h .roster; constraints = caseOf case .constraints }) (sym (getD-take (case .headings) (h ∷ []) 0 _ (omega (arith, l, e))))

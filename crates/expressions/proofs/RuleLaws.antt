@@ -1,16 +1,17 @@
 -- Laws of the list of a plan's rules, as it is put together. Assumes nothing.
-use Prim.Native.Nat.{ℕ, zero, suc, _+_}
-use mathlib.Core.Path.{_≡_, refl, sym, ap, ap₂, _∙_, subst₂}
-use mathlib.Core.List.{List, [], _∷_, _++_, map, append-assoc, append-nil}
-use native.Mathlib.Nat.{add-zero}
+use Prim.Native.Nat.{ℕ, _+_}
+use mathlib.Core.Path.{_≡_, sym, ap, ap₂, _∙_, subst₂}
+use mathlib.Core.List.{List, [], _∷_, _++_, map, map-append, append-assoc, append-nil}
+use native.Mathlib.Nat.{add-zero, le-refl}
 use native.Mathlib.Omega.{arith}
 use lib.ListN.{length, getD, length-append}
-use Rattle.records.specs.Sets.{below, numbers}
+use lib.Seq.{take-length}
+use Rattle.records.specs.Sets.{below}
 use Rattle.records.specs.Plan.{Plan}
 use Rattle.expressions.specs.Rules.{ruleSets, pair, span, edge, cut, attachment, bar}
 use Rattle.expressions.specs.declared.rules.Rules.{Rules}
 use Rattle.expressions.specs.Listed.{Added, usesOf, personsOf, endsOf, spanOf, cutHolds, barHolds}
-use Rattle.expressions.proofs.ListLaws.{map-append}
+use Rattle.expressions.proofs.ListLaws.{below-map, front-below}
 
 pub added-none : (r : Rules) → Added r r [] []
 added-none r = record { count = sym (add-zero (r .count)); uses = sym (append-nil (usesOf r)); persons = sym (append-nil (personsOf r)) }
@@ -37,15 +38,9 @@ added-next g h {a} {b} {c} xs ys x {u} {p} before one e k s =
 
 -- ---- rules by number, as a list of them
 
-shift : {A : Type 0} (f : ℕ → A) (n k : ℕ) → map f (numbers n (suc k)) ≡ map (λ (i : ℕ). f (suc i)) (numbers n k)
-unfolding numbers
-shift f zero k = refl
-shift f (suc n) k = ap (λ (l : List _). f (suc k) ∷ l) (shift f n (suc k))
-
 pub below-list : {A B : Type 0} (g : A → B) (d : A) (xs : List A) → below (length xs) (λ i. g (getD xs i d)) ≡ map g xs
-unfolding below numbers
-below-list g d [] = refl
-below-list g d (x ∷ xs) = ap (λ (l : List _). g x ∷ l) (shift (λ i. g (getD (x ∷ xs) i d)) (length xs) 0 ∙ below-list g d xs)
+below-list g d xs =
+    sym (below-map g (length xs) (λ i. getD xs i d)) ∙ ap (map g) (sym (front-below d xs (length xs) (le-refl (length xs))) ∙ take-length xs)
 
 -- "edges, cuts, attachments with anchor, and bars"
 pub rule-sets : (P : Plan) → ruleSets P ≡ map endsOf (P .edges) ++ (map cutHolds (P .cuts) ++ (map spanOf (P .attachments) ++ map barHolds (P .bars)))

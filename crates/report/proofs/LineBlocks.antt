@@ -4,9 +4,10 @@ use mathlib.Core.Bool.{Bool, true, false, _&&_, not, cond}
 use mathlib.Core.List.{List, [], _∷_, map}
 use mathlib.Core.Logic.{_⊎_, inl, inr}
 use Prim.Native.Nat.{ℕ, _*_, _≤_, _<_, _^_}
-use native.Mathlib.Nat.{zero-lt-suc, lt-of-le-of-lt}
+use native.Mathlib.Nat.{lt-of-le-of-lt}
 use lib.ListN.{length, getD, replicate}
 use lib.Bits.{and-le-r}
+use lib.Pow.{pow-pos}
 use lib.Dec.{eqb, ltb}
 use borrow.Author.Tests.{eqb-true, eqb-false}
 use Rattle.records.specs.Sets.{has, meet, disjoint, members, allOf, unionOf}
@@ -36,9 +37,6 @@ pub record OneFamily (s : List ℕ) : Type 0 where
   pub self : (p : ℕ) → (block p ≡ 0) ⊎ (has (block p) p ≡ true)
   pub apart : (p q : ℕ) → (block p ≡ block q) ⊎ (disjoint (block p) (block q) ≡ true)
   pub read : (k : ℕ) → (blockAt s k ≡ 0) ⊎ (blockAt s k ≡ block (personAt s k))
-
-zero-fits : 0 < 2 ^ 64
-zero-fits = zero-lt-suc 18446744073709551615
 
 within-le : (a b : ℕ) → Within a b → a ≤ b
 unfolding meet
@@ -91,7 +89,7 @@ filled-family : (room : ℕ) (ls : List Line) (B : ℕ → ℕ) → ((p : ℕ) �
 filled-family room ls B self apart fits h = record { block = B; self = self; apart = apart; read = λ k. read k (all-getD (OfPerson B) ls none h (inl refl) k) }
   where
     read : (k : ℕ) → OfPerson B (getD ls k none) → (blockAt (filled room (map lineBytes ls)) k ≡ 0) ⊎ (blockAt (filled room (map lineBytes ls)) k ≡ B (personAt (filled room (map lineBytes ls)) k))
-    read k (inl z) = inl (block-read room ls k (subst (λ (b : ℕ). b < 2 ^ 64) (sym z) zero-fits) ∙ z)
+    read k (inl z) = inl (block-read room ls k (subst (λ (b : ℕ). b < 2 ^ 64) (sym z) (pow-pos 64)) ∙ z)
     read k (inr e) = inr (block-read room ls k (subst (λ (b : ℕ). b < 2 ^ 64) (sym e) (fits (getD ls k none .person))) ∙ e ∙ ap B (sym (person-read room ls k)))
 
 pub zeros-family : (s : List ℕ) → Zeros s → OneFamily s
@@ -99,7 +97,7 @@ zeros-family s z = record { block = λ p. 0; self = λ p. inl refl; apart = λ p
 
 -- lines without a block
 pub bare-family : (room : ℕ) (ls : List Line) → All (OfPerson (λ p. 0)) ls → OneFamily (filled room (map lineBytes ls))
-bare-family room ls h = filled-family room ls (λ p. 0) (λ p. inl refl) (λ p q. inl refl) (λ p. zero-fits) h
+bare-family room ls h = filled-family room ls (λ p. 0) (λ p. inl refl) (λ p q. inl refl) (λ p. pow-pos 64) h
 
 -- lines of a world whose blocks are a partition
 pub world-family : (room : ℕ) (ls : List Line) (roster live : ℕ) (s : State) → roster < 2 ^ 64 → Within live roster → Blocks live s → All (OfPerson (blockOf s)) ls

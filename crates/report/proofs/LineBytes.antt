@@ -5,11 +5,12 @@ use mathlib.Core.Logic.{_⊎_, inl, inr, ⊎-elim}
 use Prim.Native.Nat.{ℕ, zero, suc, _*_, _-_, _/_, _^_, _≤_, _<_}
 use native.Mathlib.Nat.{pow-suc}
 use native.Mathlib.Omega.{arith}
-use lib.ListN.{length, getD, take, drop, replicate, List·getD-eq-default}
+use lib.ListN.{length, getD, take, drop, replicate, take-append-drop, List·getD-eq-default}
 use lib.Seq.{take-at}
 use Rattle.records.specs.Fields.{little}
 use Rattle.records.specs.Sound.{All}
 use Rattle.records.proofs.SetLaws.{lt-or-le}
+use Rattle.records.proofs.Every.{all-parts, all-getD}
 use Rattle.worlds.specs.Events.{littleBytes}
 use Rattle.report.specs.Line.{Line, lineBytes, lineLength, bareLine}
 use Rattle.report.specs.LineAt.{lineAt, personAt, blockAt}
@@ -40,15 +41,8 @@ pub zeros : (n : ℕ) → Zeros (replicate n 0)
 zeros zero = tt
 zeros (suc n) = (refl, zeros n)
 
-zeros-drop : (n : ℕ) (s : List ℕ) → Zeros s → Zeros (drop n s)
-zeros-drop zero s h = h
-zeros-drop (suc n) [] h = tt
-zeros-drop (suc n) (b ∷ bs) h = zeros-drop n bs (h .1)
-
-zeros-take : (n : ℕ) (s : List ℕ) → Zeros s → Zeros (take n s)
-zeros-take zero s h = tt
-zeros-take (suc n) [] h = tt
-zeros-take (suc n) (b ∷ bs) h = (h .0, zeros-take n bs (h .1))
+zeros-parts : (n : ℕ) (s : List ℕ) → Zeros s → Zeros (take n s) × Zeros (drop n s)
+zeros-parts n s h = all-parts (λ b. b ≡ 0) (take n s) (drop n s) (subst Zeros (sym (take-append-drop n s)) h)
 
 zeros-little : (s : List ℕ) → Zeros s → little s ≡ 0
 unfolding little
@@ -65,15 +59,11 @@ none = bareLine 0 0
 
 -- bytes of a line of which nothing is written
 blank : (s : List ℕ) → Zeros s → (getD s 0 0 ≡ 0) × (little (take 8 (drop 3 s)) ≡ 0)
-blank s z = (head s z, zeros-little (take 8 (drop 3 s)) (zeros-take 8 (drop 3 s) (zeros-drop 3 s z)))
-  where
-    head : (s : List ℕ) → Zeros s → getD s 0 0 ≡ 0
-    head [] h = refl
-    head (b ∷ bs) h = h .0
+blank s z = (all-getD (λ b. b ≡ 0) s 0 z refl 0, zeros-little (take 8 (drop 3 s)) (zeros-parts 8 (drop 3 s) (zeros-parts 3 s z .1) .0))
 
 pub zeros-block : (s : List ℕ) (k : ℕ) → Zeros s → blockAt s k ≡ 0
 unfolding blockAt lineAt
-zeros-block s k z = blank (take lineLength (drop (lineLength * k) s)) (zeros-take lineLength (drop (lineLength * k) s) (zeros-drop (lineLength * k) s z)) .1
+zeros-block s k z = blank (take lineLength (drop (lineLength * k) s)) (zeros-parts lineLength (drop (lineLength * k) s) (zeros-parts (lineLength * k) s z .1) .0) .1
 
 module _ (room : ℕ) (ls : List Line) (k : ℕ) where
   abbrev s : List ℕ
@@ -93,7 +83,7 @@ module _ (room : ℕ) (ls : List Line) (k : ℕ) where
       past : length ls ≤ k → Zeros (take lineLength (drop (lineLength * k) s))
       past h =
           let r = past-lines ls (replicate left 0) k h in
-          zeros-take lineLength (drop (lineLength * k) s) (subst Zeros (sym (r .1)) (zeros-drop (r .0) (replicate left 0) (zeros left)))
+          zeros-parts lineLength (drop (lineLength * k) s) (subst Zeros (sym (r .1)) (zeros-parts (r .0) (replicate left 0) (zeros left) .1)) .0
 
   pub person-read : personAt (filled room (map lineBytes ls)) k ≡ getD ls k none .person
   unfolding personAt lineBytes

@@ -3,9 +3,9 @@ use mathlib.Core.Path.{_≡_, refl, sym, subst}
 use mathlib.Core.Bool.{Bool, true, false, _||_, not, cond, true≢false}
 use mathlib.Core.List.{List, []}
 use Prim.Native.Nat.{ℕ, zero, suc, _*_, _<_, _^_, zero-le}
-use native.Mathlib.Nat.{zero-lt-suc}
 use native.Mathlib.Omega.{arith}
 use lib.ListN.{length}
+use lib.Pow.{pow-pos}
 use lib.Dec.{eqb, ltb}
 use Rattle.records.specs.Sets.{subset, size}
 use Rattle.records.specs.Fields.{Verdict, fine, refused}
@@ -90,4 +90,4 @@ on-roster P h room e =
 -- a roster fits a mask
 pub roster-fits : (P : Plan) (C : Case) → SoundCase P C → caseHeading C .roster < 2 ^ 64
 unfolding caseHeading
-roster-fits P C S = all-getD SoundHeading (C .headings) _ (S .headings) (record { roster = zero-lt-suc 18446744073709551615; mostWorlds = zero-le }) 0 .roster
+roster-fits P C S = all-getD SoundHeading (C .headings) _ (S .headings) (record { roster = pow-pos 64; mostWorlds = zero-le }) 0 .roster

@@ -3,20 +3,18 @@
 use mathlib.Core.Path.{_≡_, refl, sym, ap, ap₂, _∙_, subst}
 use mathlib.Core.Bool.{Bool, true, cond}
 use mathlib.Core.List.{List, [], map}
-use mathlib.Core.Logic.{_⊎_, inl, inr}
-use Prim.Native.Nat.{ℕ, _<_, _≤_}
+use Prim.Native.Nat.{ℕ, _<_}
 use lib.ListN.{length, getD, length-map, List·getD-map}
 use lib.Dec.{eqb}
 use Rattle.records.specs.Sets.{has, size, members}
 use Rattle.records.specs.Fields.{fine}
 use Rattle.records.specs.Plan.{Plan, checkedPlan}
 use Rattle.records.specs.Case.{Case, CaseHeading, readCase, caseHeading}
-use Rattle.records.proofs.SetLaws.{lt-or-le}
-use Rattle.records.proofs.LoopLaws.{getD-below, getD-past}
 use Rattle.records.proofs.MemberLaws.{members-length, member-at}
 use Rattle.expressions.specs.Rules.{factCount}
 use Rattle.expressions.specs.Influence.{Frame, touchesCircle}
 use Rattle.expressions.specs.Bindings.{unbound, bindingOf, bindings, frameOf}
+use Rattle.expressions.proofs.ListLaws.{below-at}
 use Rattle.expressions.proofs.Similar.{BoundAlike}
 use Rattle.report.specs.Line.{Line, lineBytes, bareLine}
 use Rattle.report.specs.LineAt.{lineAt}
@@ -32,13 +30,8 @@ use Rattle.report.proofs.Private.{SameLines, Private}
 bindings-alike : (P : Plan) (C₁ C₂ : Case) (F : Frame) (p : ℕ) → F .plan ≡ P
     → ((f : ℕ) → f < factCount P → touchesCircle F f p ≡ true → bindingOf P C₁ f ≡ bindingOf P C₂ f) → BoundAlike F p (bindings P C₁) (bindings P C₂)
 unfolding bindings
-bindings-alike P C₁ C₂ F p same h f t = go (lt-or-le f (factCount P))
-  where
-    go : (f < factCount P) ⊎ (factCount P ≤ f) → getD (bindings P C₁) f unbound ≡ getD (bindings P C₂) f unbound
-    go (inl l) =
-        getD-below (factCount P) (bindingOf P C₁) unbound f l ∙ h f l (t (subst (λ (Q : Plan). f < factCount Q) (sym same) l))
-        ∙ sym (getD-below (factCount P) (bindingOf P C₂) unbound f l)
-    go (inr l) = getD-past (factCount P) (bindingOf P C₁) unbound f l ∙ sym (getD-past (factCount P) (bindingOf P C₂) unbound f l)
+bindings-alike P C₁ C₂ F p same h f t =
+    below-at (factCount P) (bindingOf P C₁) (bindingOf P C₂) unbound f (λ l. h f l (t (subst (λ (Q : Plan). f < factCount Q) (sym same) l)))
 
 same-heading : (C₁ C₂ : Case) → C₁ .headings ≡ C₂ .headings → caseHeading C₁ ≡ caseHeading C₂
 unfolding caseHeading

@@ -2,18 +2,17 @@
 use mathlib.Core.Path.{_≡_, sym, ap, ap₂, _∙_}
 use mathlib.Core.Bool.{Bool, true, false, _&&_, _||_, not, Bool·beq, and-false}
 use mathlib.Core.List.{List}
-use mathlib.Core.Logic.{_⊎_, inl, inr}
-use Prim.Native.Nat.{ℕ, _<_, _≤_}
+use Prim.Native.Nat.{ℕ, _<_}
 use lib.Dec.{eqb}
 use Rattle.records.specs.Sets.{has, one, meets, below, anyBelow, anyOf, unionOf}
 use Rattle.records.specs.Plan.{Plan}
-use Rattle.records.proofs.SetLaws.{Within, lt-or-le}
-use Rattle.records.proofs.LoopLaws.{getD-below, getD-past}
+use Rattle.records.proofs.SetLaws.{Within}
 use Rattle.records.proofs.Local.{Inside, Side, inside, outside, Flag, ins, meets-out, any-same, any-none}
 use Rattle.expressions.specs.Rules.{edgeCount, cutCount, attachmentCount, barCount, statusCount, edge, cut, attachment, bar, status, pair, span}
 use Rattle.expressions.specs.Nodes.{on, values}
 use Rattle.expressions.specs.Influence.{Frame, touch, usesAt, edgeUses, cutUses, attachmentUses, barUses, statusUses, says, decisionCount, openDecision}
 use Rattle.expressions.specs.Variables.{Values}
+use Rattle.expressions.proofs.ListLaws.{below-at}
 use Rattle.expressions.proofs.Follow.{On, on-left, on-right, any-follows, node-follows}
 use Rattle.expressions.proofs.Circles.{Uncrossed, edge-side, cut-side, touch-edge, touch-cut, touch-attachment, touch-bar, touch-status}
 use Rattle.expressions.proofs.Similar.{Similar}
@@ -32,11 +31,7 @@ pub record Same (C : ℕ → Bool) (P : Plan) (a b : Active) : Type 0 where
 -- answers for each rule of a kind
 pub flags-below : (C : ℕ → Bool) (persons : ℕ → ℕ) (n : ℕ) (f g : ℕ → Bool)
     → ((i q : ℕ) → i < n → has (persons i) q ≡ true → C q ≡ true → f i ≡ g i) → Flag C persons (on (below n f)) (on (below n g))
-flags-below C persons n f g h i q x y = go (lt-or-le i n)
-  where
-    go : (i < n) ⊎ (n ≤ i) → on (below n f) i ≡ on (below n g) i
-    go (inl l) = getD-below n f false i l ∙ h i q l x y ∙ sym (getD-below n g false i l)
-    go (inr l) = getD-past n f false i l ∙ sym (getD-past n g false i l)
+flags-below C persons n f g h i q x y = below-at n f g false i (λ l. h i q l x y)
 
 -- ---- step 1: rules of persons of the circle use facts that touch it
 

@@ -1,12 +1,12 @@
 use Rattle.expressions.proofs.FaultLaws.{booleansChecked, bindable-first, bindable-rest}
-use Rattle.expressions.proofs.Rests.{made-length}
+use Rattle.records.proofs.ListLaws.{length-front}
 use Rattle.records.proofs.CheckLaws.{refused-stands, accepted-passes}
 use Rattle.records.specs.Decoded.{caseOf, familyOf}
-use Rattle.records.specs.Case.{familiesAt, booleansAt}
+use Rattle.records.specs.Case.{familiesAt}
 use lib.ListN.{length, length-map, length-take}
 use native.Mathlib.Omega.{arith}
-use mathlib.Core.Path.{_≡_, refl, sym, ap, ap₂, _∙_}
-use Prim.Native.Nat.{ℕ, _+_}
+use mathlib.Core.Path.{_≡_, sym, ap₂, _∙_}
+use Prim.Native.Nat.{_+_}
 use borrow.Author.Needs.{needs}
 use Rattle.expressions.proofs.bindable.bindable.Statement.{statement}
 use Rattle.expressions.proofs.bindable.bindable.Tie as tie
@@ -67,7 +67,7 @@ returns-2 c =
     let fs = s .args .case .families in
     let e : u .upto .result ≡ familiesAt C = u .upto .ensures .0 ∙ sym (length-take (s .args .case .headings) _) in
     let n : length (fs .items) ≡ 16 = simp length-map at (s .good .0 .1 .1 .1 .1 .0 .1 .1 .1 .0 .1 .0 .1) in
-    let m = made-length familyOf (fs .items) (fs .count) in
+    let m = length-front familyOf (fs .items) (fs .count) 16 n in
     let k : v .upto2 .result ≡ length (C .families) = omega (arith, v .upto2 .ensures .0) in
     bindable-rest C (u .upto .result + v .upto2 .result) (c .boolean-faults .result) (ap₂ _+_ e k) (c .boolean-faults .ensures)
     ∙ accepted-passes (r .result) (booleansChecked C) (t .enum-told .given .1) ∙ bindable-first C (u .upto .result) (r .result) e (r .ensures)

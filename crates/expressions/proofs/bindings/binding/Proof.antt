@@ -1,9 +1,9 @@
 -- `expressions::bindings::binding` meets its contract. Assumes nothing.
-use mathlib.Core.Bool.{Bool}
 use mathlib.Core.Path.{sym, ap, _∙_}
 use borrow.Author.Tests.{not-true, not-false}
 use borrow.Author.Needs.{needs}
-use Rattle.expressions.proofs.FactLaws.{boolean-fact, family-fact, binding-none, binding-boolean, binding-relation}
+use Rattle.records.proofs.NamingLaws.{boolean-of}
+use Rattle.expressions.proofs.FactLaws.{family-fact, binding-none, binding-boolean, binding-relation}
 use Rattle.expressions.specs.Codes.{boundOf}
 use Rattle.records.specs.Decoded.{planOf, caseOf}
 use Rattle.records.specs.Plan.{Fact, getFact, isBoolean}
@@ -36,7 +36,7 @@ returns-2 c =
     let a = k .before .before .args in
     c .bound-boolean .ensures
     ∙ binding-boolean (planOf (a .plan)) (caseOf (a .case)) (a .set) (a .fact) (sym (k .before .contains .ensures) ∙ not-false (k .before .contains .result) (k .if1 .left))
-    (ap isBoolean (sym (f .ensures)) ∙ boolean-fact (f .result) ∙ c .before .if2 .taken)
+    (ap isBoolean (sym (f .ensures)) ∙ boolean-of (f .result) ∙ c .before .if2 .taken)
 
 returns-3 : tie.Need-returns-3
 unfolding getFact planOf
@@ -46,7 +46,7 @@ returns-3 c =
     let a = k .before .before .args in
     c .bound-relation .ensures
     ∙ binding-relation (planOf (a .plan)) (caseOf (a .case)) (a .set) (a .fact) (f .result .family) (sym (k .before .contains .ensures) ∙ not-false (k .before .contains .result) (k .if1 .left))
-    (ap isBoolean (sym (f .ensures)) ∙ boolean-fact (f .result) ∙ c .before .if2 .left)
+    (ap isBoolean (sym (f .ensures)) ∙ boolean-of (f .result) ∙ c .before .if2 .left)
     (ap (λ (x : Fact). x .family) (sym (f .ensures)) ∙ family-fact (f .result) (c .before .if2 .left))
 
 pub binding-spec : {M : Type 1} → statement M

@@ -1,10 +1,10 @@
 -- `expressions::bindings::bindings` meets its contract: the facts below i have their binding, the rest none. Assumes nothing.
 use Prim.Native.Nat.{_≤_, _-_}
-use mathlib.Core.Path.{_≡_, refl, ap, subst}
+use mathlib.Core.Path.{_≡_, refl, subst}
 use native.Mathlib.Omega.{arith}
 use lib.ListN.{length, length-map, length-set, set}
 use borrow.Author.Needs.{needs}
-use Rattle.expressions.proofs.Rests.{made-length}
+use Rattle.records.proofs.ListLaws.{length-front}
 use Rattle.expressions.proofs.FactLaws.{Filled, filled-none, filled-next, filled-end}
 use Rattle.expressions.specs.Bindings.{bindingBy, bindingsBy}
 use Rattle.records.specs.Decoded.{planOf, caseOf, factOf}
@@ -54,7 +54,7 @@ returns c =
     let a = s .args in
     let g = bindingBy (planOf (a .plan)) (caseOf (a .case)) (a .set) in
     let k : length (a .plan .facts .items) ≡ 64 = simp length-map at (s .good .0 .1 .1 .1 .1 .1 .1 .0 .1 .1 .1 .0 .1 .0 .1) in
-    let m = made-length factOf (a .plan .facts .items) (a .plan .facts .count) in
+    let m = length-front factOf (a .plan .facts .items) (a .plan .facts .count) 64 k in
     filled-end g (l .loop .out) _ (subst (Filled g (l .loop .out)) (omega arith) (l .loop .inv .2))
 
 pub bindings-spec : {M : Type 1} → statement M

@@ -1,9 +1,10 @@
 -- `expressions::bindings::fact_at` meets its contract. Assumes nothing.
-use mathlib.Core.Path.{_≡_, sym, ap}
+use mathlib.Core.Path.{_≡_, refl, sym}
 use native.Mathlib.Omega.{arith}
 use lib.ListN.{length, length-map}
 use borrow.Author.Needs.{needs}
-use Rattle.expressions.proofs.Rests.{made-at, made-past}
+use Rattle.expressions.proofs.ListLaws.{made-at}
+use Rattle.expressions.proofs.Rests.{made-past}
 use Rattle.records.specs.Decoded.{factOf}
 use Rattle.expressions.proofs.bindings.fact_at.Statement.{statement}
 use Rattle.expressions.proofs.bindings.fact_at.Tie as tie
@@ -24,7 +25,7 @@ returns : tie.Need-returns
 returns c =
     let s = c .before .before .before .before in
     let l : length (s .args .t1 .items) ≡ 64 = simp length-map at (s .good .0 .1 .1 .1 .0 .1 .0 .1) in
-    rw (c .before .before .before .wide .ensures .0) (sym (made-at factOf (s .args .t1 .items) (s .args .t1 .count) (s .args .fact) _ _ (omega arith)))
+    rw (c .before .before .before .wide .ensures .0) (sym (made-at factOf (s .args .t1 .items) (s .args .t1 .count) 64 _ l refl (s .args .fact) _ _ (omega arith)))
 
 returns-2 : tie.Need-returns-2
 unfolding factOf

@@ -7,7 +7,8 @@ use lib.Dec.{eqb}
 use borrow.Author.Tests.{not-true, not-false}
 use borrow.Author.Needs.{needs}
 use Rattle.expressions.proofs.ElectionLaws.{default-first}
-use Rattle.expressions.proofs.FactLaws.{boolean-fact, default-unbound, default-relation, default-told, default-taken}
+use Rattle.records.proofs.NamingLaws.{boolean-of}
+use Rattle.expressions.proofs.FactLaws.{default-unbound, default-relation, default-told, default-taken}
 use Rattle.expressions.specs.Bindings.{defaultOf, elections}
 use Rattle.records.specs.Decoded.{planOf, caseOf}
 use Rattle.records.specs.Plan.{Election, getFact, isBoolean}
@@ -32,7 +33,7 @@ returns-2 c =
     let k = c .before .before .before .before in
     let a = k .before .before .args in
     default-relation (planOf (a .plan)) (caseOf (a .case)) (a .set) (a .fact) (sym (k .before .contains .ensures) ∙ not-false (k .before .contains .result) (k .if1 .left))
-    (ap isBoolean (sym (f .ensures)) ∙ boolean-fact (f .result) ∙ not-true (f .result .boolean) (c .if2 .taken))
+    (ap isBoolean (sym (f .ensures)) ∙ boolean-of (f .result) ∙ not-true (f .result .boolean) (c .if2 .taken))
 
 is-silent-requires : tie.Need-is-silent-requires
 is-silent-requires c κs = search needs
@@ -45,7 +46,7 @@ returns-3 c =
     let k = t .before .before .before .before in
     let a = k .before .before .args in
     default-told (planOf (a .plan)) (caseOf (a .case)) (a .set) (a .fact) (sym (k .before .contains .ensures) ∙ not-false (k .before .contains .result) (k .if1 .left))
-    (ap isBoolean (sym (f .ensures)) ∙ boolean-fact (f .result) ∙ not-false (f .result .boolean) (t .if2 .left))
+    (ap isBoolean (sym (f .ensures)) ∙ boolean-of (f .result) ∙ not-false (f .result .boolean) (t .if2 .left))
     (sym (c .before .is-silent .ensures) ∙ not-true (c .before .is-silent .result) (c .if3 .taken))
 
 election-on-requires : tie.Need-election-on-requires
@@ -66,7 +67,7 @@ returns-4 c =
     ∙ ap (λ (es : List Election). not (eqb (length (defaultOf es)) 0)) (c .before .election-on .ensures)
     ∙ ap (λ bs. not (eqb (length bs) 0)) (default-first (elections (planOf (a .plan)) (a .fact)))
     ∙ default-taken (planOf (a .plan)) (caseOf (a .case)) (a .set) (a .fact) (sym (k .before .contains .ensures) ∙ not-false (k .before .contains .result) (k .if1 .left))
-    (ap isBoolean (sym (f .ensures)) ∙ boolean-fact (f .result) ∙ not-false (f .result .boolean) (t .if2 .left))
+    (ap isBoolean (sym (f .ensures)) ∙ boolean-of (f .result) ∙ not-false (f .result .boolean) (t .if2 .left))
     (sym (u .is-silent .ensures) ∙ not-false (u .is-silent .result) (c .before .before .if3 .left))
 
 pub took-default-spec : {M : Type 1} → statement M

@@ -1,7 +1,8 @@
 -- `expressions::evidence::evidence_of` meets its contract: booleans, relations, then explicit unknown. Assumes nothing.
 use Prim.Native.Nat.{ℕ}
 use mathlib.Core.Path.{ap, _∙_}
-use Rattle.expressions.proofs.EvidenceLaws.{none-union, evidence-parts, evident-booleans, evident-relations}
+use Rattle.expressions.proofs.UnionLaws.{none-union}
+use Rattle.expressions.proofs.EvidenceLaws.{evidence-parts, evident-booleans, evident-relations}
 use Rattle.expressions.specs.Evident.{evidenceMark}
 use Rattle.expressions.specs.Bindings.{observedInRelations, saidUnknown}
 use Rattle.records.specs.Decoded.{caseOf}

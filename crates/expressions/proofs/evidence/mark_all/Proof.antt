@@ -3,7 +3,8 @@ use Prim.Native.Nat.{_≤_, _-_}
 use mathlib.Core.Path.{_≡_, refl, sym, ap, _∙_}
 use lib.ListN.{drop}
 use borrow.Author.Needs.{needs}
-use Rattle.expressions.proofs.EvidenceLaws.{gather-first, gather-end, evident-at, observations-next, observations-none}
+use Rattle.expressions.proofs.UnionLaws.{union-first, union-end}
+use Rattle.expressions.proofs.EvidenceLaws.{evident-at, observations-next, observations-none}
 use Rattle.expressions.specs.Evident.{evidenceMark}
 use Rattle.records.specs.Decoded.{observationsOf}
 use Rattle.records.specs.Sets.{one, union, unionOf}
@@ -37,12 +38,12 @@ loop-again : tie.Need-loop-again Inv-loop μ-loop
 loop-again c =
     let l = c .before .before .before .before in
     let next = observations-next (l .before .args .o) (l .loop .i) (search needs) in
-    (search needs, gather-first evidenceMark (l .loop .all) (c .mark .result) (one (c .before .entry .result)) _ _ _ next (c .mark .ensures) (ap one (c .before .entry .ensures)) ∙ l .loop .inv .1)
+    (search needs, union-first evidenceMark (l .loop .all) (c .mark .result) (one (c .before .entry .result)) _ _ _ next (c .mark .ensures) (ap one (c .before .entry .ensures)) ∙ l .loop .inv .1)
 
 returns : tie.Need-returns Inv-loop μ-loop
 returns c =
     let l = c .before in
-    sym (gather-end evidenceMark (l .loop .all) _ (observations-none (l .before .args .o) (l .loop .i) (search needs))) ∙ l .loop .inv .1
+    sym (union-end evidenceMark (l .loop .all) _ (observations-none (l .before .args .o) (l .loop .i) (search needs))) ∙ l .loop .inv .1
 
 pub mark-all-spec : {M : Type 1} → statement M
 mark-all-spec =

@@ -5,11 +5,13 @@ use mathlib.Core.List.{map}
 use mathlib.Core.Path.{_≡_, refl, sym, ap, _∙_}
 use lib.ListN.{length, drop, take, length-map}
 use borrow.Author.Needs.{needs}
-use Rattle.expressions.proofs.EvidenceLaws.{gather-first, gather-end, union-none, booleanMark, boolean-marks, boolean-mark-at, boolean-mark-off, observations-evident}
-use Rattle.expressions.proofs.Rests.{made-next, made-none, all-made}
+use Rattle.expressions.proofs.UnionLaws.{union-first, union-end, union-none}
+use Rattle.expressions.proofs.EvidenceLaws.{booleanMark, boolean-marks, boolean-mark-at, boolean-mark-off, observations-evident}
+use Rattle.expressions.proofs.ListLaws.{made-each}
+use Rattle.expressions.proofs.Rests.{made-next, made-none}
 use Rattle.expressions.specs.Evident.{EvidentBoolean}
 use Rattle.records.specs.Decoded.{booleanOf}
-use Rattle.records.specs.Sets.{one, union, unionOf}
+use Rattle.records.specs.Sets.{union, unionOf}
 use Rattle.expressions.proofs.evidence.mark_booleans.Statement.{statement}
 use Rattle.expressions.proofs.evidence.mark_booleans.Tie as tie
 
@@ -39,7 +41,7 @@ mark-all-requires : tie.Need-mark-all-requires Inv-loop μ-loop
 mark-all-requires c κs =
     let l = c .before .before .before .before .before in
     let s = l .before .before in
-    observations-evident _ (all-made EvidentBoolean booleanOf (s .args .t2 .items) (s .args .t2 .count) (l .loop .i) _ (s .pre) (search needs))
+    observations-evident _ (made-each booleanOf (s .args .t2 .items) (s .args .t2 .count) (length (s .args .t2 .items)) _ refl refl EvidentBoolean (l .loop .i) _ (search needs) (s .pre))
 
 add-i : tie.Need-add-i Inv-loop μ-loop
 add-i c = search needs
@@ -55,8 +57,8 @@ loop-again c =
       l .loop .inv .0,
       search needs,
       ⊎-elim
-          (λ w. gather-first (booleanMark (a .fact)) (l .loop .all) (c .if1 .all) _ _ _ _ next (w .3 ∙ w .2 .ensures) (boolean-mark-at (a .fact) _ (w .0 .taken)))
-          (λ w. gather-first (booleanMark (a .fact)) (l .loop .all) (c .if1 .all) _ _ _ _ next (w .1 ∙ sym (union-none _)) (boolean-mark-off (a .fact) _ (w .0 .left)))
+          (λ w. union-first (booleanMark (a .fact)) (l .loop .all) (c .if1 .all) _ _ _ _ next (w .3 ∙ w .2 .ensures) (boolean-mark-at (a .fact) _ (w .0 .taken)))
+          (λ w. union-first (booleanMark (a .fact)) (l .loop .all) (c .if1 .all) _ _ _ _ next (w .1 ∙ sym (union-none _)) (boolean-mark-off (a .fact) _ (w .0 .left)))
           (c .if1 .came) ∙ l .loop .inv .2,
     )
 
@@ -64,7 +66,7 @@ returns : tie.Need-returns Inv-loop μ-loop
 returns c =
     let l = c .before in
     let a = l .before .before .args in
-    sym (gather-end (booleanMark (a .fact)) (l .loop .all) _ (made-none booleanOf (a .t2 .items) (a .t2 .count) (l .loop .i) (search needs))) ∙ l .loop .inv .2
+    sym (union-end (booleanMark (a .fact)) (l .loop .all) _ (made-none booleanOf (a .t2 .items) (a .t2 .count) (l .loop .i) (search needs))) ∙ l .loop .inv .2
     ∙ ap (union (a .m)) (sym (boolean-marks (a .fact) _))
 
 pub mark-booleans-spec : {M : Type 1} → statement M

@@ -5,11 +5,13 @@ use mathlib.Core.List.{map}
 use mathlib.Core.Path.{_≡_, refl, sym, ap, _∙_}
 use lib.ListN.{length, drop, take, length-map}
 use borrow.Author.Needs.{needs}
-use Rattle.expressions.proofs.EvidenceLaws.{gather-first, gather-end, union-none, relationMark, relation-marks, relation-mark-at, relation-mark-off}
-use Rattle.expressions.proofs.Rests.{made-next, made-none, all-made}
+use Rattle.expressions.proofs.UnionLaws.{union-first, union-end, union-none}
+use Rattle.expressions.proofs.EvidenceLaws.{relationMark, relation-marks, relation-mark-at, relation-mark-off}
+use Rattle.expressions.proofs.ListLaws.{made-each}
+use Rattle.expressions.proofs.Rests.{made-next, made-none}
 use Rattle.expressions.specs.Evident.{EvidentRelation}
 use Rattle.records.specs.Decoded.{relationOf}
-use Rattle.records.specs.Sets.{one, union, unionOf}
+use Rattle.records.specs.Sets.{union, unionOf}
 use Rattle.expressions.proofs.evidence.mark_relations.Statement.{statement}
 use Rattle.expressions.proofs.evidence.mark_relations.Tie as tie
 
@@ -39,7 +41,7 @@ mark-requires : tie.Need-mark-requires Inv-loop μ-loop
 mark-requires c κs =
     let l = c .before .before .before .before in
     let s = l .before .before in
-    unfold relationOf in all-made EvidentRelation relationOf (s .args .t2 .items) (s .args .t2 .count) (l .loop .i) _ (s .pre) (search needs)
+    unfold relationOf in made-each relationOf (s .args .t2 .items) (s .args .t2 .count) (length (s .args .t2 .items)) _ refl refl EvidentRelation (l .loop .i) _ (search needs) (s .pre)
 
 add-i : tie.Need-add-i Inv-loop μ-loop
 add-i c = search needs
@@ -55,8 +57,8 @@ loop-again c =
       l .loop .inv .0,
       search needs,
       ⊎-elim
-          (λ w. gather-first (relationMark (a .fact)) (l .loop .all) (c .if1 .all) _ _ _ _ next (w .2 ∙ w .1 .ensures) (relation-mark-at (a .fact) _ (w .0 .taken)))
-          (λ w. gather-first (relationMark (a .fact)) (l .loop .all) (c .if1 .all) _ _ _ _ next (w .1 ∙ sym (union-none _)) (relation-mark-off (a .fact) _ (w .0 .left)))
+          (λ w. union-first (relationMark (a .fact)) (l .loop .all) (c .if1 .all) _ _ _ _ next (w .2 ∙ w .1 .ensures) (relation-mark-at (a .fact) _ (w .0 .taken)))
+          (λ w. union-first (relationMark (a .fact)) (l .loop .all) (c .if1 .all) _ _ _ _ next (w .1 ∙ sym (union-none _)) (relation-mark-off (a .fact) _ (w .0 .left)))
           (c .if1 .came) ∙ l .loop .inv .2,
     )
 
@@ -64,7 +66,7 @@ returns : tie.Need-returns Inv-loop μ-loop
 returns c =
     let l = c .before in
     let a = l .before .before .args in
-    sym (gather-end (relationMark (a .fact)) (l .loop .all) _ (made-none relationOf (a .t2 .items) (a .t2 .count) (l .loop .i) (search needs))) ∙ l .loop .inv .2
+    sym (union-end (relationMark (a .fact)) (l .loop .all) _ (made-none relationOf (a .t2 .items) (a .t2 .count) (l .loop .i) (search needs))) ∙ l .loop .inv .2
     ∙ ap (union (a .m)) (sym (relation-marks (a .fact) _))
 
 pub mark-relations-spec : {M : Type 1} → statement M

@@ -5,11 +5,13 @@ use mathlib.Core.List.{map}
 use mathlib.Core.Path.{_≡_, refl, sym, ap, _∙_}
 use lib.ListN.{length, drop, take, length-map}
 use borrow.Author.Needs.{needs}
-use Rattle.expressions.proofs.EvidenceLaws.{gather-first, gather-end, union-none, unknownMark, unknown-marks, unknown-mark-at, unknown-mark-off, unknown-mark-not, unknown-evident}
-use Rattle.expressions.proofs.Rests.{made-next, made-none, all-made}
+use Rattle.expressions.proofs.UnionLaws.{union-first, union-end, union-none}
+use Rattle.expressions.proofs.EvidenceLaws.{unknownMark, unknown-marks, unknown-mark-at, unknown-mark-off, unknown-mark-not, unknown-evident}
+use Rattle.expressions.proofs.ListLaws.{made-each}
+use Rattle.expressions.proofs.Rests.{made-next, made-none}
 use Rattle.expressions.specs.Evident.{EvidentBoolean}
 use Rattle.records.specs.Decoded.{booleanOf}
-use Rattle.records.specs.Sets.{one, union, unionOf}
+use Rattle.records.specs.Sets.{union, unionOf}
 use Rattle.expressions.proofs.evidence.mark_unknown.Statement.{statement}
 use Rattle.expressions.proofs.evidence.mark_unknown.Tie as tie
 
@@ -39,7 +41,7 @@ mark-requires : tie.Need-mark-requires Inv-loop μ-loop
 mark-requires c κs =
     let l = c .before .before .before .before .before in
     let s = l .before .before in
-    unknown-evident _ (all-made EvidentBoolean booleanOf (s .args .t2 .items) (s .args .t2 .count) (l .loop .i) _ (s .pre) (search needs)) (c .if2 .taken)
+    unknown-evident _ (made-each booleanOf (s .args .t2 .items) (s .args .t2 .count) (length (s .args .t2 .items)) _ refl refl EvidentBoolean (l .loop .i) _ (search needs) (s .pre)) (c .if2 .taken)
 
 add-i : tie.Need-add-i Inv-loop μ-loop
 add-i c = search needs
@@ -55,9 +57,9 @@ loop-again c =
       l .loop .inv .0,
       search needs,
       ⊎-elim
-          (λ w. gather-first (unknownMark (a .fact)) (l .loop .all) (c .if1 .all) _ _ _ _ next (w .3 ∙ w .2 .ensures) (unknown-mark-at (a .fact) _ (w .0 .taken) (w .1 .taken)))
+          (λ w. union-first (unknownMark (a .fact)) (l .loop .all) (c .if1 .all) _ _ _ _ next (w .3 ∙ w .2 .ensures) (unknown-mark-at (a .fact) _ (w .0 .taken) (w .1 .taken)))
           (λ w.
-          gather-first (unknownMark (a .fact)) (l .loop .all) (c .if1 .all) _ _ _ _ next (w .1 ∙ sym (union-none _))
+          union-first (unknownMark (a .fact)) (l .loop .all) (c .if1 .all) _ _ _ _ next (w .1 ∙ sym (union-none _))
           (⊎-elim (λ v. unknown-mark-not (a .fact) _ (v .1 .left)) (λ v. unknown-mark-off (a .fact) _ (v .left)) (w .0 .came)))
           (c .if1 .came) ∙ l .loop .inv .2,
     )
@@ -66,7 +68,7 @@ returns : tie.Need-returns Inv-loop μ-loop
 returns c =
     let l = c .before in
     let a = l .before .before .args in
-    sym (gather-end (unknownMark (a .fact)) (l .loop .all) _ (made-none booleanOf (a .t2 .items) (a .t2 .count) (l .loop .i) (search needs))) ∙ l .loop .inv .2
+    sym (union-end (unknownMark (a .fact)) (l .loop .all) _ (made-none booleanOf (a .t2 .items) (a .t2 .count) (l .loop .i) (search needs))) ∙ l .loop .inv .2
     ∙ ap (union (a .m)) (sym (unknown-marks (a .fact) _))
 
 pub mark-unknown-spec : {M : Type 1} → statement M

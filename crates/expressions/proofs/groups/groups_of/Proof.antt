@@ -1,10 +1,11 @@
 -- `groups::groups_of`: the front of one array, copied. Assumes nothing.
 use Prim.Native.Nat.{ℕ, _≤_, _<_, _-_}
 use mathlib.Core.Path.{_≡_, refl, sym, ap, _∙_}
+use mathlib.Core.List.{[]}
 use native.Mathlib.Omega.{arith}
 use lib.ListN.{length, take, length-map, length-set}
 use borrow.Author.Needs.{needs}
-use Rattle.expressions.proofs.ListLaws.{copy-next}
+use Rattle.expressions.proofs.ListLaws.{store-next}
 use Rattle.expressions.proofs.groups.groups_of.Statement.{statement}
 use Rattle.expressions.proofs.groups.groups_of.Tie as tie
 
@@ -42,7 +43,7 @@ loop-again c =
     let long : length ys ≡ 176 = sym (length-map ys (λ v. v)) ∙ l .before .good .0 .1 .1 .1 .1 .0 .1 .0 .1 in
     let h : l .loop .i < length (l .loop .sets) = omega (arith, l .before .pre, l .loop .inv .0) in
     let k : l .loop .i < length ys = omega (arith, l .before .pre, long) in
-    (simp length-set (l .loop .inv .0), search needs, copy-next (l .loop .sets) ys (l .loop .i) 0 h k (l .loop .inv .2))
+    (simp length-set (l .loop .inv .0), search needs, store-next 0 (l .loop .sets) [] ys (l .loop .i) (l .loop .i) h k (l .loop .inv .2))
 
 returns : tie.Need-returns Inv-loop μ-loop
 returns c =
