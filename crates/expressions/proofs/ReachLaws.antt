@@ -62,8 +62,12 @@ heading-first : (n : ℕ) (h : CaseHeading) → length (take n (h ∷ [])) ≡ 1
 heading-first zero h e d = absurd (omega arith)
 heading-first (suc n) h e d = refl
 
+pub heading-of : (case : Case) → length (caseOf case .headings) ≡ 1 → caseHeading (caseOf case) ≡ caseHeadingOf (case .heading)
+unfolding caseOf caseHeading
+heading-of case e = heading-first (case .headings) (caseHeadingOf (case .heading)) e _
+
 pub frame-of : (plan : Plan) (case : Case) → length (caseOf case .headings) ≡ 1
     → frameBy plan (case .heading .roster) (case .constraints) ≡ frameOf (planOf plan) (caseOf case)
-unfolding frameBy caseOf caseHeading caseHeadingOf
+unfolding frameBy caseOf caseHeadingOf
 frame-of plan case e =
-    ap (λ (h : CaseHeading). record { plan = planOf plan; roster = h .roster; constraints = caseOf case .constraints }) (sym (heading-first (case .headings) (caseHeadingOf (case .heading)) e _))
+    ap (λ (h : CaseHeading). record { plan = planOf plan; roster = h .roster; constraints = caseOf case .constraints }) (sym (heading-of case e))
