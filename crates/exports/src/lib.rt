@@ -1,16 +1,20 @@
 // What a host links: the operations under C names.
 mod bind;
+mod refusal;
+mod variables;
 
 use bind::bind;
 use bind::set_at;
 use records::check::check;
 use records::checked::Checked;
 use records::naming::entry;
+use variables::list_variables;
+use variables::variable_at;
 ghost use mathlib.Core.Path.{_≡_};
-ghost use lib.ListN.{getD};
+ghost use lib.ListN.{length, getD};
 ghost use Rattle.records.specs.Plan.{checkedPlan};
 ghost use Rattle.expressions.specs.Codes.{boundOf};
-ghost use Rattle.exports.specs.Entries.{numberOf, recordOf, bound, influences};
+ghost use Rattle.exports.specs.Entries.{numberOf, recordOf, bound, influences, variables, counted, refusal};
 
 // Check a plan: the refusal's number, 0 for none. The record goes behind the reference.
 #[no_mangle]
@@ -48,4 +52,47 @@ pub extern "C" fn lukhveri_influence(plan: &[u8], case: &[u8], number: usize) ->
     let found = bind(plan, case);
     let influence = found.influence;
     set_at(influence, number)
+}
+
+// How many variables there are: none where plan or case is refused.
+#[no_mangle]
+pub extern "C" fn lukhveri_variables(plan: &[u8], case: &[u8]) -> usize
+    ensures { λ r. ⌜ r ≡ length (variables (now (plan .entry)) (now (case .entry))) ⌝ }
+{
+    let listed = list_variables(plan, case);
+    listed.count
+}
+
+// The variable of that place in document 01's order: in the low byte a fact's number or a decision's number and 64, in the next its
+// candidates, 1 false, 2 true, 3 both; 0 past the last.
+#[no_mangle]
+pub extern "C" fn lukhveri_variable(plan: &[u8], case: &[u8], place: usize) -> u16
+    ensures { λ r. ⌜ r ≡ getD (variables (now (plan .entry)) (now (case .entry))) place 0 ⌝ }
+{
+    let listed = list_variables(plan, case);
+    variable_at(listed, place)
+}
+
+// The count of worlds before constraints; behind the reference the heading's maximum; both 2^64 − 1 from 2^64 worlds on, and 0 where plan or case is refused.
+#[no_mangle]
+pub extern "C" fn lukhveri_worlds(plan: &[u8], case: &[u8], maximum: &mut u64) -> u64
+    ensures { λ r.
+        ⌜ (r ≡ counted (now (plan .entry)) (now (case .entry)) .count) × (now (maximum .exit) ≡ counted (now (plan .entry)) (now (case .entry)) .maximum) ⌝ }
+{
+    let found = bind(plan, case);
+    let count = found.count;
+    *maximum = count.maximum;
+    count.count
+}
+
+// The first refusal of plan and case up to 5, 10 and 11, but for 8, 9 and 12: its number, 0 for none. The record goes behind the reference.
+#[no_mangle]
+pub extern "C" fn lukhveri_bindable(plan: &[u8], case: &[u8], place: &mut u64) -> u8
+    ensures { λ r.
+        ⌜ (r ≡ numberOf (refusal (now (plan .entry)) (now (case .entry)))) × (now (place .exit) ≡ recordOf (refusal (now (plan .entry)) (now (case .entry)))) ⌝ }
+{
+    let found = bind(plan, case);
+    let refusal = found.refusal;
+    *place = refusal.place as u64;
+    refusal.number
 }

@@ -59,10 +59,15 @@ module _ (F : Frame) (r : Reach) (reached : Reached F r) where
       reached .decisions .at d ∙ getD-below (decisionCount (F .plan)) (decisionTouch (F .plan)) 0 d h)))
 
 -- the frame of a case that has its heading
-pub frame-of : (plan : Plan) (case : Case) → length (caseOf case .headings) ≡ 1
-    → frameBy plan (case .heading .roster) (case .constraints) ≡ frameOf (planOf plan) (caseOf case)
-unfolding frameBy caseOf caseHeading caseHeadingOf
-frame-of plan case e =
+pub heading-of : (case : Case) → length (caseOf case .headings) ≡ 1 → caseHeading (caseOf case) ≡ caseHeadingOf (case .heading)
+unfolding caseOf caseHeading
+heading-of case e =
     let h = caseHeadingOf (case .heading) in
     let l = length-take (case .headings) (h ∷ []) in
-    ap (λ (h : CaseHeading). record { plan = planOf plan; roster = h .roster; constraints = caseOf case .constraints }) (sym (getD-take (case .headings) (h ∷ []) 0 _ (omega (arith, l, e))))
+    getD-take (case .headings) (h ∷ []) 0 _ (omega (arith, l, e))
+
+pub frame-of : (plan : Plan) (case : Case) → length (caseOf case .headings) ≡ 1
+    → frameBy plan (case .heading .roster) (case .constraints) ≡ frameOf (planOf plan) (caseOf case)
+unfolding frameBy caseOf caseHeadingOf
+frame-of plan case e =
+    ap (λ (h : CaseHeading). record { plan = planOf plan; roster = h .roster; constraints = caseOf case .constraints }) (sym (heading-of case e))

@@ -1,5 +1,5 @@
 -- `lukhveri_check`: number and record of the answer, by its two cases. Assumes nothing.
-use mathlib.Core.Path.{_≡_, sym, _∙_}
+use mathlib.Core.Path.{sym, _∙_}
 use borrow.Author.Needs.{needs}
 use Rattle.records.specs.Plan.{checkedPlan}
 use Rattle.exports.proofs.Entering.{told-accepted, told-refused}

@@ -1,10 +1,102 @@
-//! bound N SEED: bindings and influence of N random cases, by the proved code and by the model, which must agree.
+//! bound N SEED: bindings, influence, variables, counts of worlds and refusals of N random inputs and of all ladders, by the proved code and
+//! by the model, which must agree.
 
-use inputs::generate;
 use inputs::random::Random;
+use inputs::shrink::shrink;
 use inputs::vectors::to_hex;
 use model::expressions::{Binding, Bound, Slot};
-use model::records::{Case, Plan};
+use model::records::{Case, Plan, Refusal};
+use port::cases::{self, Sample};
+
+/// What the model says of a plan and a case.
+enum Expected {
+    Unread(Refusal),
+    /// Refusals 5 and 10: document 01 leaves free what such a case binds.
+    Unbound(Refusal),
+    Bound(Bound, u64),
+}
+
+impl Expected {
+    fn of(plan: &[u8], case: &[u8]) -> Expected {
+        let plan = match Plan::read(plan) {
+            Ok(plan) => plan,
+            Err(refusal) => return Expected::Unread(refusal),
+        };
+        let case = match Case::read(case, &plan) {
+            Ok(case) => case,
+            Err(refusal) => return Expected::Unread(refusal),
+        };
+        match case.check_repeats() {
+            Ok(()) => {
+                let most = u64::from(case.heading.most_worlds);
+                Expected::Bound(Bound::of(&plan, &case), most)
+            }
+            Err(refusal) => Expected::Unbound(refusal),
+        }
+    }
+
+    /// Number, record, count and maximum, as an answer has them.
+    fn refusal(&self) -> (u8, u64, u64, u64) {
+        match self {
+            Expected::Unread(refusal) | Expected::Unbound(refusal) => {
+                (refusal.number, refusal.record as u64, 0, 0)
+            }
+            Expected::Bound(bound, most) => match worlds(bound, *most) {
+                (count, maximum) if count > *most => (11, 0, count, maximum),
+                _ => (0, 0, 0, 0),
+            },
+        }
+    }
+}
+
+/// The count of worlds and the maximum, both at the ceiling from 2^64 on.
+fn worlds(bound: &Bound, most: u64) -> (u64, u64) {
+    match bound.world_count() {
+        Some(count) => (count, most),
+        None => (u64::MAX, u64::MAX),
+    }
+}
+
+/// What the entries answer of a case; nothing of one that is not read.
+#[derive(Default)]
+struct Answers {
+    codes: Vec<u8>,
+    /// Of each fact, then of each decision; nobody for what is no variable.
+    influence: Vec<u64>,
+    variables: Vec<u16>,
+    worlds: (u64, u64),
+}
+
+impl Answers {
+    fn of(bound: &Bound, most: u64) -> Answers {
+        let facts = bound.bindings.len();
+        let mut influence = vec![0; facts + bound.decisions.len()];
+        let mut variables = Vec::new();
+        for variable in &bound.variables {
+            let (at, number) = match variable.slot {
+                Slot::Fact(fact) => (fact, fact),
+                Slot::Decision(decision) => (facts + decision, 64 + decision),
+            };
+            influence[at] = variable.influence;
+            variables.push(number as u16 | u16::from(variable.choices) << 8);
+        }
+        Answers {
+            codes: bound.bindings.iter().copied().map(code).collect(),
+            influence,
+            variables,
+            worlds: worlds(bound, most),
+        }
+    }
+
+    fn compare(&self, plan: &[u8], case: &[u8]) -> Result<(), &'static str> {
+        same(&self.codes, |at| port::binding(plan, case, at)).or(Err("a binding"))?;
+        same(&self.influence, |at| port::influence(plan, case, at)).or(Err("an influence"))?;
+        same(&self.variables, |at| port::variable(plan, case, at)).or(Err("a variable"))?;
+        let count = port::variables(plan, case);
+        agree(count == self.variables.len()).or(Err("the number of variables"))?;
+        agree(port::worlds(plan, case) == self.worlds).or(Err("the count of worlds"))
+    }
+}
 
 fn code(binding: Option<Binding>) -> u8 {
     match binding {
@@ -15,35 +107,134 @@ fn code(binding: Option<Binding>) -> u8 {
     }
 }
 
-/// The influence of each fact, then of each decision; nobody for what is no variable.
-fn influences(bound: &Bound) -> Vec<u64> {
-    let facts = bound.bindings.len();
-    let mut all = vec![0; facts + bound.decisions.len()];
-    for variable in &bound.variables {
-        match variable.slot {
-            Slot::Fact(fact) => all[fact] = variable.influence,
-            Slot::Decision(number) => all[facts + number] = variable.influence,
-        }
-    }
-    all
+fn agree(same: bool) -> Result<(), ()> {
+    if same { Ok(()) } else { Err(()) }
 }
 
-/// Whether both sides bind alike; None where a family or a boolean record stands twice, which is refused before binding.
-fn agree(plan: &[u8], case: &[u8]) -> Option<bool> {
-    let refusal = model::answer(plan, case, &mut [0; 64 * 29], &mut []).refusal;
-    if refusal == 5 || refusal == 10 {
-        return None;
+/// Whether a list is answered entry by entry, and with zeros past its end.
+fn same<T: Copy + Default + PartialEq>(
+    expected: &[T],
+    answer: impl Fn(usize) -> T,
+) -> Result<(), ()> {
+    let past = [expected.len(), expected.len() + 1, 80, usize::MAX];
+    let ends = past.into_iter().all(|at| answer(at) == T::default());
+    let mut entries = expected.iter().enumerate();
+    agree(ends && entries.all(|(at, &entry)| answer(at) == entry))
+}
+
+/// What was compared.
+#[derive(Default)]
+struct Tally {
+    inputs: u64,
+    bound: u64,
+    /// By candidates: false, true, both.
+    conflicts: [u64; 3],
+    unknowns: u64,
+    decisions: u64,
+    relations: u64,
+    /// Inputs with 2^64 worlds and more.
+    beyond: u64,
+    refusals: [u64; 15],
+}
+
+impl Tally {
+    fn add(&mut self, plan: &[u8], bound: &Bound) {
+        self.bound += 1;
+        self.beyond += u64::from(bound.world_count().is_none());
+        let facts = Plan::read(plan).map_or(Vec::new(), |plan| plan.facts);
+        for variable in &bound.variables {
+            let Slot::Fact(fact) = variable.slot else {
+                self.decisions += 1;
+                continue;
+            };
+            self.relations += u64::from(facts[fact].relation.is_some());
+            match bound.bindings[fact] {
+                Some(Binding::Conflict(seen)) => self.conflicts[seen as usize - 1] += 1,
+                _ => self.unknowns += 1,
+            }
+        }
     }
-    let read = Plan::read(plan).ok()?;
-    let bound = Bound::of(&read, &Case::read(case, &read).ok()?);
-    let codes = bound.bindings.iter().enumerate();
-    let bindings = codes
-        .into_iter()
-        .all(|(fact, &found)| port::binding(plan, case, fact) == code(found));
-    let sets = influences(&bound);
-    let influence =
-        (0..80).all(|at| port::influence(plan, case, at) == sets.get(at).copied().unwrap_or(0));
-    Some(bindings && influence)
+
+    fn print(&self) {
+        let conflicts: u64 = self.conflicts.iter().sum();
+        let variables = self.unknowns + conflicts + self.decisions;
+        let refusals: Vec<String> = (1..15)
+            .filter(|&number| self.refusals[number] > 0)
+            .map(|number| format!("{number}: {}", self.refusals[number]))
+            .collect();
+        println!(
+            "{} inputs alike, {} of them bound, with {variables} variables ({} Unknown facts, Conflicts of false, true, both {:?}, \
+             {} decisions; {} relations), {} with 2^64 worlds and more; refused by number {}",
+            self.inputs,
+            self.bound,
+            self.unknowns,
+            self.conflicts,
+            self.decisions,
+            self.relations,
+            self.beyond,
+            refusals.join(", ")
+        );
+    }
+}
+
+/// Compares all entries on one input; says what differs.
+fn compare(plan: &[u8], case: &[u8], tally: &mut Tally) -> Result<(), &'static str> {
+    let expected = Expected::of(plan, case);
+    let (number, record, count, maximum) = expected.refusal();
+    tally.inputs += 1;
+    tally.refusals[number as usize] += 1;
+    agree(port::bindable(plan, case) == (number, record)).or(Err("the refusal"))?;
+    if number != 0 {
+        let whole = model::answer(plan, case, &mut [0; 64 * 29], &mut []);
+        let said = (whole.refusal, whole.record, whole.count, whole.maximum);
+        let later = [0, 8, 9].contains(&whole.refusal);
+        agree(later || said == (number, record, count, maximum)).or(Err("the model's refusal"))?;
+    }
+    match expected {
+        Expected::Unread(_) => Answers::default().compare(plan, case),
+        Expected::Unbound(_) => Ok(()),
+        Expected::Bound(bound, most) => {
+            tally.add(plan, &bound);
+            Answers::of(&bound, most).compare(plan, case)
+        }
+    }
+}
+
+fn differ(plan: &[u8], case: &[u8]) -> bool {
+    compare(plan, case, &mut Tally::default()).is_err()
+}
+
+/// The smallest input found that still differs: record by record, or byte by byte where the bytes were damaged. So many tries and no more:
+/// an input at a limit has very many neighbours.
+fn smallest(sample: Sample) -> (Vec<u8>, Vec<u8>) {
+    let mut left = 5_000;
+    let mut shows = |plan: &[u8], case: &[u8]| {
+        left -= 1;
+        left > 0 && differ(plan, case)
+    };
+    if let Some(input) = sample.source {
+        let least = shrink(input, |next| {
+            shows(&next.plan.encode(), &next.case.encode())
+        });
+        return (least.plan.encode(), least.case.encode());
+    }
+    let (mut plan, mut case) = (sample.plan, sample.case);
+    while let Some(next) = without(&plan, |next| shows(next, &case)) {
+        plan = next;
+    }
+    while let Some(next) = without(&case, |next| shows(&plan, next)) {
+        case = next;
+    }
+    (plan, case)
+}
+
+/// The bytes without some of them, up to eight in a row, where that still shows it.
+fn without(bytes: &[u8], mut shows: impl FnMut(&[u8]) -> bool) -> Option<Vec<u8>> {
+    let cuts = (1..=8)
+        .rev()
+        .flat_map(|run| (run..=bytes.len()).map(move |end| (end - run, end)));
+    cuts.map(|(start, end)| [&bytes[..start], &bytes[end..]].concat())
+        .find(|next| shows(next))
 }
 
 fn main() {
@@ -53,19 +244,19 @@ fn main() {
     let (Some(count), Some(seed)) = (arguments.next(), arguments.next()) else {
         panic!("bound N SEED");
     };
-    let mut compared = 0;
-    for number in 0..count {
-        let input = generate::mixed(&mut Random::stream(seed, number));
-        let (plan, case) = (input.plan.encode(), input.case.encode());
-        if let Some(same) = agree(&plan, &case) {
-            assert!(
-                same,
-                "they differ: plan {} case {}",
+    let mut tally = Tally::default();
+    let ladders = cases::ladders().into_iter().map(Sample::of);
+    let randoms = (0..count).map(|number| cases::random(&mut Random::stream(seed, number)));
+    for sample in ladders.chain(randoms) {
+        if let Err(what) = compare(&sample.plan, &sample.case, &mut tally) {
+            let (plan, case) = smallest(sample);
+            println!(
+                "{what} differs: plan {} case {}",
                 to_hex(&plan),
                 to_hex(&case)
             );
-            compared += 1;
+            std::process::exit(1);
         }
     }
-    println!("{compared} cases bound alike, of {count}");
+    tally.print();
 }

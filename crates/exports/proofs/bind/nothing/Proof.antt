@@ -1,11 +1,15 @@
--- `bind::nothing`: zeros at every fact, and no sets. Assumes nothing.
-use mathlib.Core.Path.{refl}
-use Rattle.expressions.proofs.ListLaws.{filled-at}
+-- `bind::nothing`: zeros at every fact, no sets, no order, and the refusal. Assumes nothing.
+use mathlib.Core.Path.{refl, ap}
+use Rattle.expressions.specs.Codes.{boundOf}
+use Rattle.expressions.specs.Influences.{setsOf}
+use Rattle.expressions.specs.Slots.{slotsOf}
+use Rattle.exports.proofs.Entering.{zeros}
 use Rattle.exports.proofs.bind.nothing.Statement.{statement}
 use Rattle.exports.proofs.bind.nothing.Tie as tie
 
 returns : tie.Need-returns
-returns c = (λ f. filled-at 64 f 0, refl)
+unfolding boundOf setsOf slotsOf
+returns c = record { codes = λ f. ap boundOf (zeros 64 f); influence = refl; order = refl; count = refl; refusal = (refl, refl) }
 
 pub nothing-spec : {M : Type 1} → statement M
 nothing-spec = tie.close (tie.spec returns)

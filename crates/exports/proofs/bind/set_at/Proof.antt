@@ -3,9 +3,8 @@ use mathlib.Core.Path.{_≡_, sym, _∙_}
 use native.Mathlib.Omega.{arith}
 use borrow.Author.Needs.{needs}
 use lib.ListN.{length, length-map}
-use lib.Seq.{getD-take}
 use Rattle.expressions.specs.Influences.{setsOf}
-use Rattle.exports.proofs.Entering.{taken-past}
+use Rattle.exports.proofs.Entering.{taken-at, taken-past, taken-long}
 use Rattle.exports.proofs.bind.set_at.Statement.{statement}
 use Rattle.exports.proofs.bind.set_at.Tie as tie
 
@@ -19,14 +18,14 @@ returns : tie.Need-returns
 unfolding setsOf
 returns c =
     let s = c .before .before .before in
-    sym (getD-take (s .args .t1 .count) (s .args .t1 .sets) (s .args .number) 0 (omega arith))
+    taken-at (s .args .t1 .sets) (s .args .t1 .count) (s .args .number) (omega arith)
 
 returns-2 : tie.Need-returns-2
 unfolding setsOf
 returns-2 c =
     let s = c .before .before in
     let long : length (s .args .t1 .sets) ≡ 80 = sym (length-map (s .args .t1 .sets) (λ v. v)) ∙ s .good .0 .1 .1 .1 .0 .1 .0 .1 in
-    taken-past (s .args .t1 .sets) (s .args .t1 .count) (s .args .number) (omega arith)
+    taken-long (s .args .t1 .sets) (s .args .t1 .count) (s .args .number) (omega arith)
 
 returns-3 : tie.Need-returns-3
 unfolding setsOf
