@@ -1,6 +1,7 @@
 //! Safe wrappers of the functions that crates/exports gives to C, and inputs for comparing them.
 
 pub mod cases;
+pub mod expected;
 
 use model::Outcome;
 
