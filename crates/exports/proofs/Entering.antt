@@ -16,8 +16,6 @@ use Rattle.records.specs.Decoded.{planOf, caseOf, caseHeadingOf}
 use Rattle.records.specs.PlanRead.{planReadOf}
 use Rattle.records.specs.CaseRead.{caseReadOf}
 use Rattle.records.specs.Sound.{Sound, SoundCase}
-use Rattle.records.specs.declared.plan.Plan.{Plan as Coded}
-use Rattle.records.specs.declared.case.Case.{Case as CodedCase}
 use Rattle.records.specs.declared.read_plan.PlanRead.{PlanRead}
 use Rattle.records.specs.declared.read_case.CaseRead.{CaseRead}
 use Rattle.records.proofs.Accepted.{accepted}
@@ -44,6 +42,8 @@ use Rattle.records.specs.Check.{checkedOf}
 use Rattle.records.proofs.CheckLaws.{refused-is}
 use Rattle.records.specs.declared.checked.Checked.the-variants.{Accepted, Refused}
 use Rattle.exports.specs.Entries.{numberOf, recordOf, givenOver, given, influencesIn, refusalBy}
+use Rattle.records.specs.declared.plan.Plan.{Plan as Coded}
+use Rattle.records.specs.declared.case.Case.{Case as CodedCase}
 
 -- ---- the plan
 
@@ -174,10 +174,6 @@ pub zeros : (n f : ℕ) → _≡_ {A = ℕ} (getD (replicate n 0) f 0) 0
 zeros zero f = refl
 zeros (suc n) zero = refl
 zeros (suc n) (suc f) = zeros n f
-
-pub none-listed : (i : Influence) → i .count ≡ 0 → setsOf i ≡ []
-unfolding setsOf
-none-listed i e = ap (λ (n : ℕ). take n (i .sets)) e
 
 pub taken-at : (xs : List ℕ) (count n : ℕ) → n < count → getD xs n 0 ≡ getD (take count xs) n 0
 taken-at xs count n h = sym (getD-take count xs n 0 h)

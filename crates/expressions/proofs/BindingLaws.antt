@@ -1,14 +1,13 @@
 -- What the intake desk relies on: an open answer stays open, whatever else is known of the fact. Assumes nothing.
-use mathlib.Core.Path.{_≡_, refl, ap, _∙_}
-use mathlib.Core.Bool.{Bool, true, false, cond}
-use mathlib.Core.List.{List, [], _∷_}
+use mathlib.Core.Path.{_≡_, ap}
+use mathlib.Core.Bool.{Bool, cond}
+use mathlib.Core.List.{[]}
 use Prim.Native.Nat.{ℕ}
 use lib.ListN.{length}
-use lib.Dec.{eqb}
 use borrow.Author.Tests.{ne-eqb}
 use Rattle.records.specs.Plan.{Plan}
-use Rattle.records.specs.Case.{Case, Observation}
-use Rattle.expressions.specs.Bindings.{Bound, unknown, known, weighed, boundBoolean, boundRelation, inScope, observed, saidUnknown, byDefault, defaultOf, elections, inFamily}
+use Rattle.records.specs.Case.{Case}
+use Rattle.expressions.specs.Bindings.{unknown, weighed, boundBoolean, boundRelation, inScope, observed, saidUnknown, byDefault, defaultOf, elections, inFamily}
 
 -- explicit unknown is Unknown: no observation and no default overrides it
 pub explicit-unknown : (P : Plan) (C : Case) (f : ℕ) → (length (saidUnknown C f) ≡ 0 → ⊥) → boundBoolean P C f ≡ unknown

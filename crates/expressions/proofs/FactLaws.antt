@@ -1,6 +1,6 @@
 -- Laws of a fact's sort and family, and of the binding by them. Assumes nothing.
 use mathlib.Core.Path.{_≡_, refl, sym, ap, _∙_, subst}
-use mathlib.Core.Bool.{Bool, true, false, _&&_, not, cond}
+use mathlib.Core.Bool.{Bool, true, false, _&&_, not}
 use mathlib.Core.List.{List, [], _∷_, map}
 use Prim.Native.Nat.{ℕ, zero, suc, _+_, _<_}
 use lib.ListN.{length, getD, set, replicate, length-map, List·getD-map}
@@ -11,15 +11,9 @@ use Rattle.expressions.specs.Coded.{Holds}
 use Rattle.records.specs.Plan as paper
 use Rattle.records.specs.Plan.{getFact, isBoolean}
 use Rattle.records.specs.Case.{Case, caseHeading}
-use Rattle.records.specs.Decoded.{factOf}
-use Rattle.records.specs.declared.plan.Fact.{Fact}
 use Rattle.expressions.specs.Bindings.{Bound, unbound, bindingBy, boundBoolean, boundRelation, inScope, scoped, inFamily, observed, saidUnknown, defaultOf, elections, tookDefaultBy, tookDefault, bindings, bindingsBy, bindingOf, frameOf}
 use Rattle.expressions.specs.Influence.{boundFacts}
 use Rattle.expressions.proofs.ListLaws.{filled-at, fill-next}
-
-pub family-fact : (f : Fact) → f .boolean ≡ false → factOf f .family ≡ f .family ∷ []
-unfolding factOf
-family-fact f e = ap (λ (b : Bool). cond (not b) (f .family ∷ []) []) e
 
 module _ (P : paper.Plan) (C : Case) (set f : ℕ) where
   pub binding-none : has set f ≡ false → unbound ≡ bindingBy P C set f

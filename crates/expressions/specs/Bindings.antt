@@ -1,13 +1,13 @@
 -- Bound facts and the refusals that come with them. Document 01, "Bound facts".
 use mathlib.Core.Bool.{Bool, true, false, _&&_, _||_, not, cond}
-use mathlib.Core.List.{List, [], _∷_, _++_, map, flatMap}
-use Prim.Native.Nat.{ℕ, zero, suc, _+_}
+use mathlib.Core.List.{List, [], _∷_, _++_, flatMap}
+use Prim.Native.Nat.{ℕ, _+_}
 use lib.ListN.{length, getD}
-use lib.Dec.{eqb, ltb}
+use lib.Dec.{eqb}
 use Rattle.records.specs.Sets.{has, one, union, below, allOf, anyOf, unionOf, setOf}
 use Rattle.records.specs.Fields.{Verdict, fine, firstFault, fault}
-use Rattle.records.specs.Plan.{Plan, Fact, Election, getFact, isBoolean, electionRecords}
-use Rattle.records.specs.Case.{Case, CaseHeading, Family, Boolean, Relation, Observation, caseHeading, familiesAt, booleansAt}
+use Rattle.records.specs.Plan.{Plan, Election, getFact, isBoolean, electionRecords}
+use Rattle.records.specs.Case.{Case, Family, Boolean, Relation, Observation, caseHeading, familiesAt, booleansAt}
 use Rattle.expressions.specs.Influence.{Frame, boundFacts}
 use Rattle.expressions.specs.Rules.{factCount}
 

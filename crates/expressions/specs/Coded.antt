@@ -1,6 +1,6 @@
 -- What the code's arrays stand for: lists of values, and the records of a kind.
 use mathlib.Core.Path.{_≡_}
-use mathlib.Core.List.{List, [], _∷_, map}
+use mathlib.Core.List.{List, map}
 use Prim.Native.Nat.{ℕ, _<_}
 use lib.ListN.{getD, take}
 use Rattle.records.specs.Sound.{All}
@@ -8,7 +8,6 @@ use Rattle.records.specs.Plan.{Fact, Node, literal, fact, conj, disj, neg, Edge
 use Rattle.records.specs.Decoded.{factOf, nodeOf, edgeOf, cutOf, attachmentOf, barOf, statusOf, planOf}
 use Rattle.expressions.specs.Influence.{Frame}
 use Rattle.records.specs.declared.case.Constraints.{Constraints}
-use Rattle.records.specs.declared.plan.Plan.{Plan as Coded}
 use Rattle.records.specs.declared.plan.Facts.{Facts}
 use Rattle.records.specs.declared.plan.Nodes.{Nodes}
 use Rattle.records.specs.declared.plan.Edges.{Edges}
@@ -16,6 +15,7 @@ use Rattle.records.specs.declared.plan.Cuts.{Cuts}
 use Rattle.records.specs.declared.plan.Attachments.{Attachments}
 use Rattle.records.specs.declared.plan.Bars.{Bars}
 use Rattle.records.specs.declared.plan.Statuses.{Statuses}
+use Rattle.records.specs.declared.plan.Plan.{Plan as Coded}
 
 -- an array holds the list's entries, and d past them
 pub record Holds {A : Type 0} (d : A) (array list : List A) : Type 0 where

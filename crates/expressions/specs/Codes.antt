@@ -1,11 +1,11 @@
 -- The code's numbers for bindings, and what stands where nothing was observed.
-use mathlib.Core.Bool.{Bool, true, false, cond}
+use mathlib.Core.Bool.{true, false, cond}
 use mathlib.Core.List.{List, [], _∷_}
 use Prim.Native.Nat.{ℕ, zero, suc}
 use lib.Dec.{eqb}
 use lib.ListN.{length}
 use Rattle.records.specs.Case.{Family}
-use Rattle.expressions.specs.Bindings.{Choice, just, both, Bound, unbound, known, unknown, conflict}
+use Rattle.expressions.specs.Bindings.{just, both, Bound, unbound, known, unknown, conflict}
 
 -- 0 unbound, 1 known false, 2 known true, 3 unknown, 4 conflict of false, 5 conflict of true, 6 conflict of both
 unfoldable pub boundOf : ℕ → Bound

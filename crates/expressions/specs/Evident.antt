@@ -1,6 +1,5 @@
 -- Evidence as the code may mark it: each number has a place in a mask.
 use Prim.Native.Nat.{ℕ, _<_}
-use mathlib.Core.List.{List}
 use Rattle.records.specs.Sets.{one}
 use Rattle.records.specs.Plan.{Plan}
 use Rattle.records.specs.Case.{Case, Boolean, Relation, Observation}

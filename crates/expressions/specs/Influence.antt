@@ -1,11 +1,11 @@
 -- Whom a fact or a decision touches, influence, and the circle. Document 01, "Bound facts" and "Circle".
-use mathlib.Core.Bool.{Bool, true, false, _&&_, _||_, not, cond}
+use mathlib.Core.Bool.{Bool, _&&_, cond}
 use mathlib.Core.List.{List, [], _∷_, _++_}
 use Prim.Native.Nat.{ℕ, zero, suc}
 use lib.ListN.{length, getD}
 use lib.Dec.{eqb}
 use Rattle.records.specs.Sets.{has, one, union, setOf, only, closeOf, below, unionBelow, anyOf, unionOf, meets}
-use Rattle.records.specs.Plan.{Plan, Decision, getFact}
+use Rattle.records.specs.Plan.{Plan, getFact}
 use Rattle.expressions.specs.Rules.{edgeCount, cutCount, attachmentCount, barCount, statusCount, factCount, edge, cut, attachment, bar, status, pair, span, ruleSets}
 use Rattle.expressions.specs.Nodes.{nodeUses}
 

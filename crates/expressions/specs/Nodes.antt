@@ -1,10 +1,10 @@
 -- Conditions. Document 01: "nodes in a table, each valued once"; "use is textual, short cuts ignored".
-use mathlib.Core.Bool.{Bool, true, false, not}
+use mathlib.Core.Bool.{Bool, false, not}
 use mathlib.Core.List.{List, [], _∷_, _++_}
 use Prim.Native.Nat.{ℕ}
 use lib.ListN.{getD}
 use lib.Dec.{eqb}
-use Rattle.records.specs.Sets.{has, one, union, allOf, anyOf, unionOf}
+use Rattle.records.specs.Sets.{has, one, allOf, anyOf, unionOf}
 use Rattle.records.specs.Plan.{Plan, Node, literal, fact, conj, disj, neg}
 
 -- the answer at a number of a list of answers; no for a number past it

@@ -1,11 +1,11 @@
 -- The plan's rules by number: whom each holds. Past its count a kind has rules that hold nobody (person 64 stands for nobody).
-use mathlib.Core.Bool.{Bool, true, false, not}
-use mathlib.Core.List.{List, [], _∷_, _++_}
+use mathlib.Core.Bool.{Bool, false, not}
+use mathlib.Core.List.{List, [], _++_}
 use Prim.Native.Nat.{ℕ}
 use lib.ListN.{length, getD}
 use lib.Dec.{eqb}
 use Rattle.records.specs.Sets.{one, union, below, unionBelow}
-use Rattle.records.specs.Plan.{Plan, Heading, Edge, Cut, Attachment, Bar, Status, Node, conj}
+use Rattle.records.specs.Plan.{Plan, Edge, Cut, Attachment, Bar, Status}
 
 module _ (P : Plan) where
   abbrev pub edgeCount : ℕ

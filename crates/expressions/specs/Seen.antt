@@ -1,11 +1,10 @@
 -- What the code keeps of a fact's observations as it passes over them, and the binding that follows.
-use mathlib.Core.Bool.{Bool, true, false, _&&_, _||_, not, cond}
+use mathlib.Core.Bool.{true, false, not, cond}
 use mathlib.Core.List.{List, [], _∷_}
-use Prim.Native.Nat.{ℕ}
 use lib.Dec.{eqb}
 use Rattle.records.specs.Case.{Observation}
 use Rattle.expressions.specs.declared.observations.Seen.{Seen}
-use Rattle.expressions.specs.Bindings.{Choice, just, both, Bound, known, conflict}
+use Rattle.expressions.specs.Bindings.{just, both, Bound, known, conflict}
 
 abbrev pub nothing : Seen
 nothing = record { any = false; value = 0; evidence = 0; differs = false; both = false }

@@ -1,33 +1,29 @@
 -- Refusal 4 of a case: a search for a family, a relation, and the answer after all records. Assumes nothing.
 use mathlib.Core.Path.{_≡_, refl, sym, ap, ap₂, _∙_}
-use mathlib.Core.Bool.{Bool, true, false, _&&_, _||_, not}
-use mathlib.Core.List.{List, [], _∷_, _++_, map}
+use mathlib.Core.Bool.{Bool, true, false, _||_}
+use mathlib.Core.List.{List, [], _∷_}
 use Prim.Native.Nat.{ℕ, zero, suc, _+_, _-_, _≤_, _<_}
 use native.Mathlib.Numerals.{add-one}
 use native.Mathlib.Omega.{arith}
-use lib.ListN.{length, getD, take, drop, length-map, length-append, drop-of-length-le, List·getD-eq-default}
-use lib.Seq.{drop-cons, getD-take}
-use lib.Dec.{eqb, ltb}
+use lib.ListN.{length, getD, drop, drop-of-length-le}
+use lib.Seq.{drop-cons}
 use borrow.Author.Tests.{eq-eqb, ne-eqb, lt-ltb, le-ltb}
 use Rattle.records.specs.Sets.{allOf, anyOf}
-use Rattle.records.specs.Fields.{fault, Verdict, fine, refused, onFine, firstFault}
+use Rattle.records.specs.Fields.{Verdict, fine, refused, onFine, firstFault}
 use Rattle.records.specs.Plan as paper
 use Rattle.records.specs.Case as case
-use Rattle.records.specs.Decoded.{given, factOf, familyOf, booleanOf, relationOf, caseOf}
+use Rattle.records.specs.Decoded.{factOf, familyOf, relationOf, caseOf}
 use Rattle.records.specs.Check.{checkedOf}
 use Rattle.records.specs.CaseRead.{caseReadOf}
-use Rattle.records.specs.CaseNamed.{CaseCountsOf, sameFamily}
+use Rattle.records.specs.CaseNamed.{sameFamily}
 use Rattle.records.specs.declared.plan.Fact.{Fact}
 use Rattle.records.specs.declared.case.Family.{Family}
-use Rattle.records.specs.declared.case.Boolean.{Boolean}
 use Rattle.records.specs.declared.case.Relation.{Relation}
 use Rattle.records.specs.declared.case.Case.{Case}
-use Rattle.records.specs.declared.case_naming.CaseCounts.{CaseCounts}
 use Rattle.records.specs.declared.checked.Checked.{Checked}
 use Rattle.records.specs.declared.checked.Checked.the-variants.{Accepted, Refused}
 use Rattle.records.specs.declared.read_case.CaseRead.{CaseRead}
-use Rattle.records.proofs.ListLaws.{getD-mapped, getD-front, getD-stay, getD-past}
-use Rattle.records.proofs.NamingLaws.{boolean-of}
+use Rattle.records.proofs.NamingLaws.{boolean-of, family-of}
 
 -- ---- the three turns of a loop that looks for an entry: it is not at i, it is at i, no place is left
 
@@ -52,10 +48,6 @@ same-family x n e = rw (eq-eqb (x .number) n e)
 pub other-family : (x : Family) (n : ℕ) → (x .number ≡ n → ⊥) → sameFamily n (familyOf x) ≡ false
 unfolding familyOf allOf
 other-family x n e = rw (ne-eqb (x .number) n e)
-
-family-of : (y : Fact) → y .boolean ≡ false → factOf y .family ≡ y .family ∷ []
-unfolding factOf
-family-of y b = rw b
 
 -- ---- a relation: its fact is none, is boolean, or has a family
 

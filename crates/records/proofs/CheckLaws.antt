@@ -3,7 +3,7 @@ use mathlib.Core.Path.{_≡_, refl, sym, ap, _∙_}
 use mathlib.Core.List.{List, [], _∷_}
 use Prim.Native.Nat.{ℕ, zero, suc, _+_}
 use native.Mathlib.Omega.{arith}
-use Rattle.records.specs.Fields.{Verdict, fine, refused, onFine, firstFault}
+use Rattle.records.specs.Fields.{Verdict, fine, refused, firstFault}
 use Rattle.records.specs.Plan.{Plan, planFaults, namingFaults, nodesAt, cutsAt}
 use Rattle.records.specs.Check.{checkedOf}
 use Rattle.records.specs.Crossings.{crossingFaults}

@@ -1,7 +1,7 @@
 -- Laws of the closing of a set under a list of sets: it is the least closed set that holds what it is made of. Assumes nothing.
 use mathlib.Core.Path.{_≡_, refl, sym, ap, _∙_, subst}
-use mathlib.Core.Bool.{Bool, true, false, cond, not, true≢false, false≢true}
-use mathlib.Core.Logic.{_⊎_, inl, inr, ⊎-elim}
+use mathlib.Core.Bool.{Bool, true, false, cond, true≢false}
+use mathlib.Core.Logic.{_⊎_, ⊎-elim}
 use mathlib.Core.List.{List, [], _∷_, map}
 use Prim.Native.Nat.{ℕ, zero, suc, _+_, _≤_, _<_, zero-le}
 use native.Mathlib.Nat.{le-refl}
@@ -13,7 +13,7 @@ use native.Mathlib.Numerals.{add-one}
 use lib.Dec.{eqb}
 use borrow.Author.Tests.{eqb-true, eqb-false, eq-eqb, ne-eqb}
 use Rattle.records.specs.Sets.{has, union, meet, minus, disjoint, subset, one, absorb, pass, passes, closeOf}
-use Rattle.records.proofs.SetLaws.{Within, has-one, antisym, within-refl, along, thru, in-union-l, in-union-r, of-union, in-meet, of-meet, in-minus, of-minus, disjoint-true, disjoint-false, meeting, subset-true, subset-false, within-subset}
+use Rattle.records.proofs.SetLaws.{Within, has-one, antisym, within-refl, along, thru, in-union-l, in-union-r, of-union, in-meet, of-meet, in-minus, of-minus, disjoint-false, meeting, subset-true, subset-false, within-subset}
 
 -- ---- what it means: m is closed where each group that meets m lies in m
 

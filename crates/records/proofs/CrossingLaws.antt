@@ -1,14 +1,14 @@
 -- Laws of refusal 6: the first undecided crossing, step by step, and that it is the first fault. Assumes nothing.
-use mathlib.Core.Path.{_≡_, refl, sym, ap, _∙_}
+use mathlib.Core.Path.{_≡_, refl, ap, _∙_}
 use mathlib.Core.Bool.{Bool, true, false, _&&_, _||_, not, cond}
-use mathlib.Core.List.{List, [], _∷_, _++_, map}
-use Prim.Native.Nat.{ℕ, zero, suc, _+_, _-_, _≤_, _<_}
+use mathlib.Core.List.{List, [], _∷_}
+use Prim.Native.Nat.{ℕ, _+_, _-_, _≤_, _<_}
 use native.Mathlib.Numerals.{add-one}
 use native.Mathlib.Omega.{arith}
 use lib.ListN.{length, getD, drop, drop-of-length-le}
 use lib.Seq.{drop-cons}
 use Rattle.records.specs.Sets.{allOf}
-use Rattle.records.specs.Fields.{fault, fine, firstFault, Verdict}
+use Rattle.records.specs.Fields.{fault, fine, firstFault}
 use Rattle.records.specs.Plan as paper
 use Rattle.records.specs.Check.{checkedOf}
 use Rattle.records.specs.Crossings.{isOpen, edgesFrom, cutsFrom, firstCrossing, crossingFaults}

@@ -1,6 +1,6 @@
 -- Laws of what holds of each entry of a list. Assumes nothing.
-use mathlib.Core.Path.{_≡_, refl}
-use mathlib.Core.Bool.{Bool, true, false, _&&_, false≢true}
+use mathlib.Core.Path.{_≡_}
+use mathlib.Core.Bool.{Bool, true}
 use mathlib.Core.List.{List, [], _∷_, _++_, map}
 use Prim.Native.Nat.{ℕ, zero, suc, _≤_, _<_}
 use native.Mathlib.Omega.{arith}
@@ -9,6 +9,7 @@ use lib.Dec.{ltb}
 use borrow.Author.Tests.{ltb-true}
 use Rattle.records.specs.Sets.{allOf}
 use Rattle.records.specs.Sound.{All, Numbers}
+use Rattle.records.proofs.SetLaws.{and-parts}
 
 -- of which nothing is asked
 pub all-any : {A : Type 0} (xs : List A) → All (λ x. Unit {0}) xs
@@ -45,16 +46,12 @@ all-getD Q [] d h k i = k
 all-getD Q (x ∷ xs) d h k zero = h .0
 all-getD Q (x ∷ xs) d h k (suc i) = all-getD Q xs d (h .1) k i
 
-pub both : (a b : Bool) → (a && b) ≡ true → (a ≡ true) × (b ≡ true)
-both true b e = (refl, e)
-both false b e = absurd (false≢true e)
-
 -- a test that holds of all
 pub all-tested : {A : Type 0} (f : A → Bool) (xs : List A) → allOf f xs ≡ true → All (λ x. f x ≡ true) xs
 unfolding allOf
 all-tested f [] e = tt
 all-tested f (x ∷ xs) e =
-    let t = both (f x) (allOf f xs) e in
+    let t = and-parts (f x) (allOf f xs) e in
     (t .0, all-tested f xs (t .1))
 
 -- numbers that a test lets through

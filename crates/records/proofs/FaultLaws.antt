@@ -5,7 +5,7 @@ use mathlib.Core.List.{List, [], _∷_, _++_, map}
 use Prim.Native.Nat.{ℕ, zero, suc, _+_, _≤_, _<_}
 use native.Mathlib.Omega.{arith}
 use lib.ListN.{length, getD, take, drop, length-map}
-use Rattle.records.specs.Fields.{fault, Verdict, fine, refused, firstFault}
+use Rattle.records.specs.Fields.{fault, Verdict, fine, firstFault}
 use Rattle.records.specs.Plan as paper
 use Rattle.records.specs.Decoded.{nodeOf}
 use Rattle.records.specs.Check.{checkedOf}

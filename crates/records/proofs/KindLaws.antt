@@ -3,7 +3,7 @@ use mathlib.Core.Path.{_≡_, refl, sym, ap, ap₂, _∙_}
 use mathlib.Core.Bool.{Bool, true, false, _&&_, _||_, not, cond}
 use mathlib.Core.List.{List, [], _∷_, _++_, map}
 use Prim.Native.Nat.{ℕ, zero, suc, _+_, _-_, _/_, _%_, _^_, _≤_, _<_}
-use native.Mathlib.Nat.{mod-lt, zero-lt-suc, not-suc-le-zero, le-of-suc-le-suc}
+use native.Mathlib.Nat.{mod-lt, zero-lt-suc}
 use native.Mathlib.Numerals.{add-one}
 use native.Mathlib.Omega.{arith}
 use lib.ListN.{length, set, take}
@@ -319,10 +319,6 @@ module _ (limit n : ℕ) (over fits sound : Bool) (e : judgement n limit over fi
 
   pub is-sound : sound ≡ true
   is-sound = fine-parts .2
-
-pub and-left : (x y : Bool) → (x && y) ≡ true → x ≡ true
-and-left true y e = refl
-and-left false y e = absurd (mathlib.Core.Bool.false≢true e)
 
 -- a boolean fact has no tuple
 pub no-tuple : (b k : ℕ) → factBits b ≡ true → not (eqb (b % 2) 1) ≡ true → (eqb (b / 2 % 2) 1 ≡ false → k ≡ 0) → k ≡ 0

@@ -1,16 +1,12 @@
 -- Laws of the loops below a number, and of lists that are made from others. Assumes nothing.
-use mathlib.Core.Path.{_≡_, refl, sym, ap, ap₂, _∙_, subst}
-use mathlib.Core.Bool.{Bool, true, false, _&&_, _||_, cond}
+use mathlib.Core.Path.{_≡_, refl, sym, ap, _∙_, subst}
 use mathlib.Core.List.{List, [], _∷_, _++_, map}
-use mathlib.Core.Logic.{_⊎_, inl, inr}
-use Prim.Native.Nat.{ℕ, zero, suc, _+_, _≤_, _<_, suc-le-suc}
-use native.Mathlib.Nat.{le-of-suc-le-suc, not-suc-le-zero, add-suc}
+use Prim.Native.Nat.{ℕ, zero, suc, _+_, _≤_, _<_}
+use native.Mathlib.Nat.{le-of-suc-le-suc, not-suc-le-zero}
 use native.Mathlib.Omega.{arith}
-use lib.ListN.{length, getD, take, length-map, length-take, List·getD-eq-default}
-use lib.Seq.{getD-take}
-use Rattle.records.specs.Sets.{has, numbers, below, anyBelow, unionBelow, union}
+use lib.ListN.{length, getD, take, length-map, List·getD-eq-default}
+use Rattle.records.specs.Sets.{numbers, below}
 use Rattle.records.specs.Sound.{All}
-use Rattle.records.proofs.SetLaws.{has-union, has-none}
 
 -- ---- f 0 … f (n − 1)
 

@@ -1,6 +1,6 @@
 -- The list of a set's persons: how long it is, and that it holds just them. Assumes nothing.
 use mathlib.Core.Path.{_≡_, refl, sym, ap, ap₂, _∙_, subst}
-use mathlib.Core.Bool.{Bool, true, false, _&&_, true≢false, false≢true}
+use mathlib.Core.Bool.{Bool, true, _&&_, true≢false}
 use mathlib.Core.List.{List, [], _∷_}
 use Prim.Native.Nat.{ℕ, zero, suc, _+_, _/_, _%_, _<_}
 use native.Mathlib.Omega.{arith}
@@ -8,7 +8,7 @@ use native.Mathlib.Nat.{not-suc-le-zero, le-of-suc-le-suc, mod-lt, zero-lt-suc}
 use lib.ListN.{length, getD}
 use lib.Count.{onesIn}
 use Rattle.records.specs.Sets.{odd, has, size, when, members, membersFrom, allOf}
-use Rattle.records.proofs.SetLaws.{has-zero, has-suc}
+use Rattle.records.proofs.SetLaws.{has-zero, has-suc, and-parts}
 
 -- a test of the persons of a set
 from-same : (k p m : ℕ) (f g : ℕ → Bool) → ((j : ℕ) → has m j ≡ true → f (p + j) ≡ g (p + j)) → allOf f (membersFrom k p m) ≡ allOf g (membersFrom k p m)
@@ -39,16 +39,8 @@ all-true (x ∷ xs) = all-true xs
 all-entry : (f : ℕ → Bool) (xs : List ℕ) (d i : ℕ) → allOf f xs ≡ true → i < length xs → f (getD xs i d) ≡ true
 unfolding allOf
 all-entry f [] d i h l = absurd (not-suc-le-zero l)
-all-entry f (x ∷ xs) d zero h l = first (f x) (allOf f xs) h
-  where
-    first : (a b : Bool) → (a && b) ≡ true → a ≡ true
-    first true b e = refl
-    first false b e = e
-all-entry f (x ∷ xs) d (suc i) h l = all-entry f xs d i (second (f x) (allOf f xs) h) (le-of-suc-le-suc l)
-  where
-    second : (a b : Bool) → (a && b) ≡ true → b ≡ true
-    second true b e = e
-    second false b e = absurd (true≢false (sym e))
+all-entry f (x ∷ xs) d zero h l = and-parts (f x) (allOf f xs) h .0
+all-entry f (x ∷ xs) d (suc i) h l = all-entry f xs d i (and-parts (f x) (allOf f xs) h .1) (le-of-suc-le-suc l)
 
 -- each of the list is of the set
 pub member-at : (m d i : ℕ) → i < length (members m) → has m (getD (members m) i d) ≡ true
@@ -98,18 +90,10 @@ member-place m p d l h =
 
 -- ---- what holds of each person of the list holds of each member
 
-and-left : (x y : Bool) → (x && y) ≡ true → x ≡ true
-and-left true y e = refl
-and-left false y e = absurd (false≢true e)
-
-and-right : (x y : Bool) → (x && y) ≡ true → y ≡ true
-and-right true y e = e
-and-right false y e = absurd (false≢true e)
-
 later : (f : ℕ → Bool) (d p : ℕ) (r : List ℕ) → allOf f (when d p r) ≡ true → allOf f r ≡ true
 unfolding allOf
 later f zero p r e = e
-later f (suc d) p r e = and-right (f p) (allOf f r) e
+later f (suc d) p r e = and-parts (f p) (allOf f r) e .1
 
 all-from : (f : ℕ → Bool) (k p m q : ℕ) → allOf f (membersFrom k p m) ≡ true → q < k → has m q ≡ true → f (p + q) ≡ true
 unfolding membersFrom allOf
@@ -118,7 +102,7 @@ all-from f (suc k) p m zero e l h = pick (m % 2) refl e
   where
     pick : (d : ℕ) → m % 2 ≡ d → allOf f (when d p (membersFrom k (suc p) (m / 2))) ≡ true → f (p + 0) ≡ true
     pick zero z t = absurd (true≢false (sym h ∙ has-zero m ∙ ap odd z))
-    pick (suc d) z t = ap f (omega arith) ∙ and-left (f p) (allOf f (membersFrom k (suc p) (m / 2))) t
+    pick (suc d) z t = ap f (omega arith) ∙ and-parts (f p) (allOf f (membersFrom k (suc p) (m / 2))) t .0
 all-from f (suc k) p m (suc q) e l h =
     ap f (omega arith)
     ∙ all-from f k (suc p) (m / 2) q (later f (m % 2) p (membersFrom k (suc p) (m / 2)) e) (le-of-suc-le-suc l) (sym (has-suc m q) ∙ h)

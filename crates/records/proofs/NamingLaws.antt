@@ -1,28 +1,19 @@
 -- Laws of the tests of refusal 4, each of one record. Assumes nothing.
-use mathlib.Core.Path.{_≡_, refl, sym, ap, _∙_, subst}
+use mathlib.Core.Path.{_≡_, refl, sym, ap, _∙_}
 use mathlib.Core.Bool.{Bool, true, false, _&&_, not, cond}
-use mathlib.Core.List.{List, [], _∷_, _++_, map}
-use Prim.Native.Nat.{ℕ, zero, suc, _+_, _-_, _≤_, _<_, min}
+use mathlib.Core.List.{List, [], _∷_}
+use Prim.Native.Nat.{ℕ, zero, suc, _+_, _-_, _≤_, _<_}
 use native.Mathlib.Nat.{le-of-suc-le-suc, not-suc-le-zero}
 use native.Mathlib.Omega.{arith}
 use lib.Dec.{eqb, ltb}
-use lib.ListN.{length, getD, take, drop, length-map, length-append, List·getD-eq-default}
+use lib.ListN.{length, getD}
 use Rattle.records.specs.Sets.{allOf, below, numbers}
 use Rattle.records.specs.Plan as paper
-use Rattle.records.specs.Fields.{fault}
-use Rattle.records.specs.Decoded.{given, nodeBy, factOf, nodeOf, edgeOf, electionOf, decisionsOf, cutOf, attachmentOf, barOf, statusOf, planOf}
-use Rattle.records.specs.Named.{allUnder, CountsOf}
-use Rattle.records.specs.declared.counts.Counts.{Counts}
-use Rattle.records.specs.declared.plan.Node.{Node}
-use Rattle.records.specs.declared.plan.Edge.{Edge}
-use Rattle.records.specs.declared.plan.Cut.{Cut}
-use Rattle.records.specs.declared.plan.Attachment.{Attachment}
-use Rattle.records.specs.declared.plan.Bar.{Bar}
-use Rattle.records.specs.declared.plan.Status.{Status}
+use Rattle.records.specs.Decoded.{given, nodeBy, factOf, decisionsOf}
+use Rattle.records.specs.Named.{allUnder}
 use Rattle.records.specs.declared.plan.Plan.{Plan}
-use Rattle.records.proofs.ListLaws.{all-mapped, getD-mapped, getD-front, getD-stay, getD-past}
+use Rattle.records.proofs.ListLaws.{all-mapped}
 use Rattle.records.specs.declared.plan.Fact.{Fact}
-use Rattle.records.specs.declared.plan.Election.{Election}
 use Rattle.records.specs.declared.plan.Decisions.{Decisions}
 
 pub neg-sound : (P : paper.Plan) (k s n : ℕ) (is : List ℕ) → 4 ≤ s → ltb n k ≡ paper.nodeSound P k (nodeBy s n is)
@@ -48,6 +39,10 @@ boolean-of x = go (x .boolean)
     go : (b : Bool) → eqb (length (given (not b) (x .family))) 0 ≡ b
     go true = refl
     go false = refl
+
+pub family-of : (y : Fact) → y .boolean ≡ false → factOf y .family ≡ y .family ∷ []
+unfolding factOf
+family-of y b = rw b
 
 -- of an election that may be there
 pub all-given : {A : Type 0} (f : A → Bool) (b : Bool) (x : A) → allOf f (given b x) ≡ cond b (f x) true

@@ -11,7 +11,8 @@ use Rattle.records.specs.Sets.{has, allOf}
 use Rattle.records.specs.Fields.{Raw, field, num, wide, number, citation, person, actor, upTo, bytes, list, fault}
 use Rattle.records.specs.Plan.{Plan, Fact, Node, literal, fact, conj, disj, neg, Decision, Bar, Status, planFormats, nodeOf, electionOf, decisionsOf, edgeOf, cutOf, attachmentOf, decidedOnce, eachFrom, booleanFact, nodeSound, edgeSound, electionSound, cutSound, attachmentSound, nodeNumber}
 use Rattle.records.specs.Sound.{All, SoundNode, SoundNodes, SoundElection, SoundEdge, SoundDecision, SoundCut, SoundAttachment, SoundBar, SoundStatus, SoundFact}
-use Rattle.records.proofs.Every.{all-both, all-tested, both, named}
+use Rattle.records.proofs.Every.{all-both, all-tested, named}
+use Rattle.records.proofs.SetLaws.{and-parts}
 use Rattle.records.proofs.FieldLaws.{Held, held, byte-top, list-numbers, mask-below, pairs, list-pairs}
 use Rattle.records.proofs.ReadLaws.{not-faulty, OfKind, Made}
 
@@ -77,7 +78,7 @@ module _ (P : Plan) where
   }
     where
       t : (nodeNumber P (num r 2) ≡ true) × (allOf (nodeNumber P) (field r 4) ≡ true)
-      t = both (nodeNumber P (num r 2)) (allOf (nodeNumber P) (field r 4)) e
+      t = and-parts (nodeNumber P (num r 2)) (allOf (nodeNumber P) (field r 4)) e
 
   -- an election as it stands in a cut or in an attachment
   elections-sound : (v : List ℕ) → Held (bytes (number ∷ actor ∷ upTo 2 ∷ citation ∷ [])) v → electionSound P (electionOf v) ≡ true → All (SoundElection P) (electionOf v)
@@ -85,7 +86,7 @@ module _ (P : Plan) where
   elections-sound [] h e = tt
   elections-sound (f ∷ bs) h e =
       let top = byte-top (number ∷ actor ∷ upTo 2 ∷ citation ∷ []) (f ∷ bs) h in
-      (record { fact = both (booleanFact P f) true e .0; actor = suc-le-suc (top 1); policy = suc-le-suc (top 2); citation = suc-le-suc (top 3) }, tt)
+      (record { fact = and-parts (booleanFact P f) true e .0; actor = suc-le-suc (top 1); policy = suc-le-suc (top 2); citation = suc-le-suc (top 3) }, tt)
 
   decisions-sound : (ds : List Decision) → All (λ d. d .verdict < 4) ds → allOf (λ d. ltb (d .edge) (length (P .edges))) ds ≡ true → All (SoundDecision P) ds
   decisions-sound ds h e =
@@ -114,9 +115,9 @@ module _ (P : Plan) where
 
       t : (nodeNumber P (num r 1) ≡ true) × (electionSound P (electionOf (field r 3)) ≡ true) × (edges ≡ true) × (cuts ≡ true)
       t =
-          let x = both (nodeNumber P (num r 1)) (electionSound P (electionOf (field r 3)) && (edges && cuts)) (e .0) in
-          let y = both (electionSound P (electionOf (field r 3))) (edges && cuts) (x .1) in
-          let z = both edges cuts (y .1) in
+          let x = and-parts (nodeNumber P (num r 1)) (electionSound P (electionOf (field r 3)) && (edges && cuts)) (e .0) in
+          let y = and-parts (electionSound P (electionOf (field r 3))) (edges && cuts) (x .1) in
+          let z = and-parts edges cuts (y .1) in
           (x .0, y .0, z .0, z .1)
 
       d : (length (decisionsOf (field r 4)) ≤ 64) × All (λ (x : Decision). x .verdict < 4) (decisionsOf (field r 4))
@@ -125,7 +126,7 @@ module _ (P : Plan) where
   pub attachment-sound : (r : Raw) → OfKind planFormats 6 attachmentOf r → attachmentSound P (attachmentOf r) ≡ true → SoundAttachment P (attachmentOf r)
   unfolding attachmentSound planFormats
   attachment-sound r h e =
-      let t = both (nodeNumber P (num r 2)) (electionSound P (electionOf (field r 5))) e in
+      let t = and-parts (nodeNumber P (num r 2)) (electionSound P (electionOf (field r 5))) e in
       record {
         members = mask-below (field r 0) (held planFormats 6 r h 0);
         anchor = suc-le-suc (byte-top (person ∷ []) (field r 1) (held planFormats 6 r h 1) 0);

@@ -1,10 +1,10 @@
 -- The order of sets as rising lists, by their digits. Assumes nothing.
-use mathlib.Core.Path.{_≡_, refl, sym, ap, ap₂, _∙_, subst}
-use mathlib.Core.Bool.{Bool, true, false, not, cond, true≢false, false≢true}
-use mathlib.Core.Logic.{_⊎_, inl, inr, ⊎-elim}
+use mathlib.Core.Path.{_≡_, refl, sym, ap, ap₂, _∙_}
+use mathlib.Core.Bool.{Bool, true, false, not, cond, true≢false}
+use mathlib.Core.Logic.{_⊎_, inl, inr}
 use mathlib.Core.List.{List, [], _∷_}
-use Prim.Native.Nat.{ℕ, zero, suc, _+_, _*_, _/_, _%_, _^_, _≤_, _<_}
-use native.Mathlib.Nat.{le-refl, le-of-lt, not-suc-le-zero, le-of-suc-le-suc, mod-lt, zero-lt-suc, div-one, lt-irrefl}
+use Prim.Native.Nat.{ℕ, zero, suc, _/_, _%_, _^_, _≤_, _<_}
+use native.Mathlib.Nat.{le-refl, le-of-lt, not-suc-le-zero, le-of-suc-le-suc, mod-lt, zero-lt-suc, div-one}
 use native.Mathlib.Numerals.{one-add}
 use native.Mathlib.Omega.{arith}
 use lib.Dec.{eqb, ltb}
@@ -15,7 +15,7 @@ use lib.Count.{trailingZeros, under}
 use borrow.Author.Tests.{eqb-true, eqb-false, eq-eqb, ne-eqb, lt-ltb, le-ltb}
 use lib.Bits.{xor-self}
 use Rattle.records.specs.Sets.{has, odd, when, membersFrom, members, lexLess, risingLess}
-use Rattle.records.proofs.SetLaws.{has-zero, has-suc, has-none, has-xor, differs, ext}
+use Rattle.records.proofs.SetLaws.{has-zero, has-suc, has-none, has-xor, differs, ext, differ-lt}
 
 -- ---- by the digits
 
@@ -101,13 +101,6 @@ xor-half a b h = ap (λ (x : ℕ). x / 2) (xor-step a b) ∙ digits-div (bitXor 
 
 xor-low : (a b : ℕ) → differ (a % 2) (b % 2) < 2 → bitXor a b % 2 ≡ differ (a % 2) (b % 2)
 xor-low a b h = ap (λ (x : ℕ). x % 2) (xor-step a b) ∙ digits-mod (bitXor (a / 2) (b / 2)) h
-
-differ-lt : (x y : ℕ) → x < 2 → y < 2 → differ x y < 2
-differ-lt zero y hx hy = hy
-differ-lt (suc x) zero hx hy = hx
-differ-lt (suc zero) (suc zero) hx hy = zero-lt-suc 1
-differ-lt (suc zero) (suc (suc y)) hx hy = absurd (not-suc-le-zero (le-of-suc-le-suc (le-of-suc-le-suc hy)))
-differ-lt (suc (suc x)) (suc y) hx hy = absurd (not-suc-le-zero (le-of-suc-le-suc (le-of-suc-le-suc hx)))
 
 ris-code : (k a b : ℕ) → a < 2 ^ k → b < 2 ^ k → (a ≡ b → ⊥) → risN k a b ≡ codeAt a b (trailingZeros k (bitXor a b))
 unfolding risN trailingZeros step

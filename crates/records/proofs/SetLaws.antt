@@ -3,16 +3,16 @@ use mathlib.Core.Path.{_≡_, refl, sym, ap, ap₂, _∙_, subst}
 use mathlib.Core.Bool.{Bool, true, false, not, _&&_, _||_, true≢false, false≢true}
 use mathlib.Core.Logic.{_⊎_, inl, inr, ⊎-elim}
 use Prim.Native.Nat.{ℕ, zero, suc, _+_, _-_, _*_, _/_, _%_, _^_, _≤_, _<_, min, max}
-use native.Mathlib.Nat.{mod-lt, zero-lt-suc, zero-min, min-zero, suc-min-suc, zero-max, max-zero, suc-max-suc, not-suc-le-zero, zero-div, zero-mod, pow-suc, mul-div-cancel, mul-mod-left, le-of-suc-le-suc, suc-inj}
-use native.Mathlib.Numerals.{one-add, add-one}
+use native.Mathlib.Nat.{mod-lt, zero-lt-suc, zero-min, min-zero, suc-min-suc, zero-max, max-zero, suc-max-suc, not-suc-le-zero, zero-div, pow-suc, mul-div-cancel, mul-mod-left, le-of-suc-le-suc}
+use native.Mathlib.Numerals.{one-add}
 use native.Mathlib.Omega.{arith}
-use lib.Dec.{eqb, ltb, leb, eqb·zero-suc, eqb·suc-zero, eqb·suc-suc}
+use lib.Dec.{eqb, eqb·zero-suc, eqb·suc-zero, eqb·suc-suc}
 use borrow.Author.Tests.{eqb-true, eqb-false, eq-eqb, ne-eqb}
 use lib.Arith.{digits-mod, bin-ind}
 use lib.Pow.{shr-shr}
 use lib.Bits.{bitAnd, bitOr, bitXor, differ, and-step, or-step, xor-step, and-shr, or-shr, xor-shr, and-lt, or-lt, xor-lt}
 use lib.Count.{onesIn, ones, ones-step, trailingZeros, under}
-use Rattle.records.specs.Sets.{odd, has, one, union, meet, minus, disjoint, meets, subset, size, lowest}
+use Rattle.records.specs.Sets.{odd, has, one, union, meet, minus, disjoint, subset, size}
 
 -- ---- a digit as a test, and membership
 
@@ -86,7 +86,7 @@ odd-differ (suc zero) (suc zero) hx hy = refl
 odd-differ (suc zero) (suc (suc y)) hx hy = absurd (not-suc-le-zero (le-of-suc-le-suc (le-of-suc-le-suc hy)))
 odd-differ (suc (suc x)) (suc y) hx hy = absurd (not-suc-le-zero (le-of-suc-le-suc (le-of-suc-le-suc hx)))
 
-differ-lt : (x y : ℕ) → x < 2 → y < 2 → differ x y < 2
+pub differ-lt : (x y : ℕ) → x < 2 → y < 2 → differ x y < 2
 differ-lt zero y hx hy = hy
 differ-lt (suc x) zero hx hy = hx
 differ-lt (suc zero) (suc zero) hx hy = zero-lt-suc 1
@@ -192,7 +192,7 @@ antisym a b f g = ext a b (λ p. pick p (has a p) (has b p) refl refl)
 
 -- ---- tests
 
-and-parts : (x y : Bool) → (x && y) ≡ true → (x ≡ true) × (y ≡ true)
+pub and-parts : (x y : Bool) → (x && y) ≡ true → (x ≡ true) × (y ≡ true)
 and-parts true y e = (refl, e)
 and-parts false y e = absurd (false≢true e)
 

@@ -1,12 +1,12 @@
 -- The case: its records and its refusals 1 to 4. Document 01, "Case record" and "Answer a case".
-use mathlib.Core.Bool.{Bool, true, false, _&&_, _||_, not, cond}
-use mathlib.Core.List.{List, [], _∷_, _++_, map}
-use Prim.Native.Nat.{ℕ, zero, suc, _+_, _-_}
+use mathlib.Core.Bool.{Bool, false, _&&_, not, cond}
+use mathlib.Core.List.{List, [], _∷_, _++_}
+use Prim.Native.Nat.{ℕ, _+_, _-_}
 use lib.ListN.{length, getD}
-use lib.Dec.{eqb, ltb, leb}
+use lib.Dec.{eqb, ltb}
 use Rattle.records.specs.Sets.{has, allOf, anyOf}
-use Rattle.records.specs.Fields.{upTo, evidence, number, Shape, bytes, list, most, Format, needs, Raw, field, num, wide, formatOf, Verdict, fine, refused, onFine, readFrom, firstFault, fault}
-use Rattle.records.specs.Plan.{Plan, Fact, getFact, isBoolean, booleanFact, joined, faults}
+use Rattle.records.specs.Fields.{upTo, evidence, number, Shape, bytes, list, most, Format, needs, Raw, field, num, wide, formatOf, Verdict, fine, onFine, readFrom, firstFault}
+use Rattle.records.specs.Plan.{Plan, getFact, isBoolean, booleanFact, joined, faults}
 
 pub record CaseHeading : Type 0 where
   pub relation : ℕ

@@ -6,7 +6,7 @@ use mathlib.Core.List.{List, [], _∷_, map}
 use Prim.Native.Nat.{ℕ, _≤_}
 use lib.Dec.{eqb, ltb}
 use lib.ListN.{length, take}
-use Rattle.records.specs.Sets.{allOf, anyOf}
+use Rattle.records.specs.Sets.{allOf}
 use Rattle.records.specs.Plan as paper
 use Rattle.records.specs.Case as case
 use Rattle.records.specs.Decoded.{familyOf, booleanOf, relationOf}

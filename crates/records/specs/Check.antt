@@ -1,5 +1,4 @@
 -- The answers of the checks: which number and record each stands for.
-use Prim.Native.Nat.{ℕ}
 use Rattle.records.specs.Fields.{Verdict, fine, refused}
 use Rattle.records.specs.declared.checked.Checked.{Checked}
 use Rattle.records.specs.declared.checked.Checked.the-variants.{Accepted, Refused}

@@ -1,7 +1,7 @@
 -- The first undecided crossing. Document 01: "6 a cut and a Combination edge crossing without a decision, where the check stops at the first
 -- such cut, then edge".
 use mathlib.Core.Path.{_≡_}
-use mathlib.Core.Bool.{Bool, true, false, _&&_, not, cond}
+use mathlib.Core.Bool.{Bool, _&&_, not, cond}
 use mathlib.Core.List.{List, [], _∷_}
 use Prim.Native.Nat.{ℕ, _+_}
 use lib.Dec.{eqb}

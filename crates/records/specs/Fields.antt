@@ -1,7 +1,7 @@
 -- Records and their fields, by places in the bytes. Document 01, "Plan record": "A record is a kind byte, a bit map byte (bit 0 lowest),
 -- then only the fields whose bit stands, in bit order. Integers are little-endian; a field is one byte unless said. A list is a count byte
 -- and its entries."
-use mathlib.Core.Bool.{Bool, true, false, _&&_, not, cond}
+use mathlib.Core.Bool.{Bool, true, false, _&&_, cond}
 use mathlib.Core.List.{List, [], _∷_, _++_}
 use Prim.Native.Nat.{ℕ, zero, suc, _+_, _*_, _/_, _%_, _-_}
 use lib.ListN.{length, getD}

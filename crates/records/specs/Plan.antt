@@ -1,11 +1,11 @@
 -- The plan: its records and its check. Document 01, "Plan record" and "Check a plan".
-use mathlib.Core.Bool.{Bool, true, false, _&&_, _||_, not, cond, Bool·beq}
+use mathlib.Core.Bool.{Bool, true, _&&_, _||_, not, cond, Bool·beq}
 use mathlib.Core.List.{List, [], _∷_, _++_, map}
-use Prim.Native.Nat.{ℕ, zero, suc, _+_, _-_, _*_}
+use Prim.Native.Nat.{ℕ, _+_, _-_}
 use lib.ListN.{length, getD}
-use lib.Dec.{eqb, ltb, leb}
+use lib.Dec.{eqb, ltb}
 use Rattle.records.specs.Sets.{has, lexLess, allOf, anyOf}
-use Rattle.records.specs.Fields.{Range, upTo, person, citation, number, actor, Shape, bytes, list, Format, needs, single, Raw, field, num, wide, formatOf, Verdict, fine, refused, onFine, readFrom, firstFault, fault}
+use Rattle.records.specs.Fields.{upTo, person, citation, number, actor, Shape, bytes, list, Format, needs, single, Raw, field, num, wide, formatOf, Verdict, fine, onFine, readFrom, firstFault, fault}
 
 -- ---- what a plan holds
 

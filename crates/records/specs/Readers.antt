@@ -3,9 +3,9 @@ use mathlib.Core.Bool.{Bool, true, false, cond}
 use mathlib.Core.List.{List, [], _∷_}
 use Prim.Native.Nat.{ℕ, zero, suc, _+_, _*_, _≤_}
 use lib.ListN.{length, getD}
-use Rattle.records.specs.Fields.{Range, upTo, number, actor, citation, Shape, bytes, list, most, Read, got, bad, fieldAt}
+use Rattle.records.specs.Fields.{upTo, number, actor, citation, Shape, bytes, Read, got, bad, fieldAt}
 use Rattle.records.specs.Plan as paper
-use Rattle.records.specs.Decoded.{given, electionOf}
+use Rattle.records.specs.Decoded.{electionOf}
 use Rattle.records.specs.declared.fields.Field.{Field}
 use Rattle.records.specs.declared.fields.Field.the-variants as field
 use Rattle.records.specs.declared.fields.Wide.{Wide}

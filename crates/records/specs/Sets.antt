@@ -1,7 +1,7 @@
 -- Sets of persons. Document 01, "Plan record": "A mask is 8 bytes, bit p for person p (0–63)". A set is the mask itself, a number.
 use mathlib.Core.Bool.{Bool, true, false, _&&_, _||_, not, cond}
 use mathlib.Core.List.{List, [], _∷_, map}
-use Prim.Native.Nat.{ℕ, zero, suc, _+_, _*_, _/_, _%_, _^_}
+use Prim.Native.Nat.{ℕ, zero, suc, _/_, _%_, _^_}
 use lib.Bits.{bitAnd, bitOr, bitXor}
 use lib.Count.{onesIn, trailingZeros}
 use lib.Dec.{eqb, ltb}

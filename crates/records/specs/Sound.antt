@@ -3,10 +3,10 @@
 use mathlib.Core.Path.{_≡_}
 use mathlib.Core.Bool.{true}
 use mathlib.Core.List.{List, [], _∷_}
-use Prim.Native.Nat.{ℕ, suc, _+_, _^_, _≤_, _<_}
+use Prim.Native.Nat.{ℕ, suc, _^_, _≤_, _<_}
 use lib.ListN.{length}
 use Rattle.records.specs.Plan.{Plan, Fact, Node, literal, fact, conj, disj, neg, Edge, Election, Decision, Cut, Attachment, Bar, Status, factsRise, decidedOnce, unresolved, booleanFact}
-use Rattle.records.specs.Case.{Case, CaseHeading, Family, Boolean, Relation, Observation, relationSound}
+use Rattle.records.specs.Case.{Case, CaseHeading, Boolean, Relation, Observation, relationSound}
 
 -- of each entry of a list
 abbrev pub All : {A : Type 0} → (A → Type 0) → List A → Type 0

@@ -19,7 +19,7 @@ use Rattle.worlds.specs.View.{roleOf, edgeCitations, leads, cutCitations, attac
 use Rattle.worlds.specs.Events.{littleBytes, event, listed, frozenEvents, appliedEvents, blockedEvents, leastOfMerged, overlapEvents, attachmentEvents, barEvents, statusEvents, discretionEvents, eventsOf}
 use Rattle.report.specs.Line.{lineBytes, firstKind, holding, lineOver, lineIn}
 use Rattle.report.specs.EventList.{insert, rising, defaultEvents}
-use Rattle.report.specs.Operations.{Outcome, Told, told, check, mismatched, headingFault, tooMany, counted, bound, opened, written, influences, allWorlds, linesOver, eventsOver, linesOf, answerReady, answer, showFrom, show}
+use Rattle.report.specs.Operations.{told, check, mismatched, headingFault, tooMany, counted, bound, opened, written, influences, allWorlds, linesOver, eventsOver, linesOf, answerReady, answer, showFrom, show}
 
 -- ---- records as bytes
 

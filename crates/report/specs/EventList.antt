@@ -1,9 +1,7 @@
 -- The events of all worlds. Document 01: "events of all admissible worlds rise in byte order, no repeats".
-use mathlib.Core.Bool.{Bool, true, false, _&&_, not, cond}
-use mathlib.Core.List.{List, [], _∷_, _++_, flatMap}
+use mathlib.Core.Bool.{Bool, true, false, cond}
+use mathlib.Core.List.{List, [], _∷_}
 use Prim.Native.Nat.{ℕ}
-use lib.ListN.{getD}
-use lib.Dec.{eqb}
 use Rattle.records.specs.Sets.{lexLess}
 use Rattle.records.specs.Plan.{Plan, Election}
 use Rattle.records.specs.Case.{Case}

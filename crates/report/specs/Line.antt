@@ -1,10 +1,10 @@
 -- The line of a person over all worlds. Document 01, "Line and event".
-use mathlib.Core.Bool.{Bool, true, false, _&&_, _||_, not, cond}
-use mathlib.Core.List.{List, [], _∷_, _++_, map}
-use Prim.Native.Nat.{ℕ, zero, suc}
+use mathlib.Core.Bool.{Bool, true, false, _&&_, not, cond}
+use mathlib.Core.List.{List, [], _∷_, _++_}
+use Prim.Native.Nat.{ℕ}
 use lib.ListN.{length, getD}
 use lib.Dec.{eqb}
-use Rattle.records.specs.Sets.{has, one, only, union, unionBelow, unionOf, allOf}
+use Rattle.records.specs.Sets.{has, one, only, unionBelow, unionOf, allOf}
 use Rattle.expressions.specs.Variables.{Influence}
 use Rattle.worlds.specs.Events.{littleBytes}
 use Rattle.worlds.specs.View.{View}

@@ -1,19 +1,19 @@
 -- Check a plan, answer a case, show a world. Document 01, "Refused, by operation": result, refusal and every byte of both lent buffers.
-use mathlib.Core.Bool.{Bool, true, false, _&&_, _||_, not, cond}
+use mathlib.Core.Bool.{Bool, _||_, not, cond}
 use mathlib.Core.List.{List, [], _∷_, _++_, map, flatMap}
 use Prim.Native.Nat.{ℕ, zero, suc, _+_, _*_, _-_, _^_}
 use lib.ListN.{length, getD, replicate, drop}
-use lib.Dec.{eqb, ltb, leb}
+use lib.Dec.{eqb, ltb}
 use Rattle.records.specs.Sets.{subset, size, members}
 use Rattle.records.specs.Fields.{Verdict, fine, refused}
-use Rattle.records.specs.Plan.{Plan, Heading, checkedPlan}
+use Rattle.records.specs.Plan.{Plan, checkedPlan}
 use Rattle.records.specs.Case.{Case, CaseHeading, readCase, caseHeading}
 use Rattle.expressions.specs.Rules.{rulePersons}
 use Rattle.expressions.specs.Bindings.{Bound, bindings, bindable, frameOf}
-use Rattle.expressions.specs.Variables.{Values, Influence, worldCount, worlds, influence}
+use Rattle.expressions.specs.Variables.{Influence, worldCount, worlds, influence}
 use Rattle.worlds.specs.Active.{active}
 use Rattle.worlds.specs.World.{World, worldOf}
-use Rattle.worlds.specs.View.{View, view}
+use Rattle.worlds.specs.View.{view}
 use Rattle.worlds.specs.Events.{eventsOf}
 use Rattle.report.specs.Line.{Line, lineBytes, lineLength, bareLine, lineOver, lineIn}
 use Rattle.report.specs.EventList.{eventLength, rising, defaultEvents}

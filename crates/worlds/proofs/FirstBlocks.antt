@@ -7,11 +7,10 @@ use lib.ListN.{getD}
 use borrow.Author.Tests.{eqb-true, not-true, not-false}
 use Rattle.records.specs.Sets.{has, one, minus, only, meets, subset, closeOf, below, anyBelow}
 use Rattle.records.specs.Plan.{Plan}
-use Rattle.records.proofs.SetLaws.{Within, has-none, has-minus, has-high, antisym, thru, in-minus, of-minus, empty, subset-true, meeting}
+use Rattle.records.proofs.SetLaws.{Within, has-none, has-minus, has-high, antisym, thru, in-minus, of-minus, empty, subset-true, meeting, and-parts}
 use Rattle.records.proofs.Closing.{Closed, close-closed, close-within, close-least, close-sym, in-one, one-within}
 use Rattle.records.proofs.LoopLaws.{getD-below}
 use Rattle.records.proofs.BelowLaws.{any-false, union-find, in-below, of-only, in-only, flag-set, getD-below-all, closed-below}
-use Rattle.records.proofs.Every.{both}
 use Rattle.expressions.specs.Rules.{edgeCount, cutCount, cut, pair}
 use Rattle.expressions.specs.Nodes.{on}
 use Rattle.worlds.specs.Active.{Active}
@@ -37,8 +36,8 @@ module _ (P : Plan) (a : Active) (kept : List Bool) where
   unfolding appliedCuts overlappingCuts
   applied-parts c e =
       let f = flag-set (cutCount P) (λ c. standing kept (overlappingCuts P kept) c && not (blockedCut P a kept c)) c e in
-      let s = both (standing kept (overlappingCuts P kept) c) (not (blockedCut P a kept c)) (f .1) in
-      let k = both (on kept c) (not (on (overlappingCuts P kept) c)) (s .0) in
+      let s = and-parts (standing kept (overlappingCuts P kept) c) (not (blockedCut P a kept c)) (f .1) in
+      let k = and-parts (on kept c) (not (on (overlappingCuts P kept) c)) (s .0) in
       (f .0, k .0, sym (getD-below (cutCount P) (overlappingCut P kept) false c (f .0)) ∙ not-true (on (overlappingCuts P kept) c) (k .1))
 
   cuts-same : (c d q : ℕ) → on applied c ≡ true → on applied d ≡ true → has (cut P c .members) q ≡ true → has (cut P d .members) q ≡ true
@@ -75,7 +74,7 @@ module _ (P : Plan) (a : Active) (kept : List Bool) where
           let r = union-find (cutCount P) part q e in
           let d = r .0 in
           let t = of-only (on applied d && has (cut P d .members) p) (cut P d .members) q (r .2) in
-          let w = both (on applied d) (has (cut P d .members) p) (t .0) in
+          let w = and-parts (on applied d) (has (cut P d .members) p) (t .0) in
           ap (λ (m : ℕ). has m q) (cuts-same c d p x (w .0) h (w .1)) ∙ t .1
 
   of-cuts : (p : ℕ) → has (cutMembers P applied) p ≡ true → (c : ℕ) × (on applied c ≡ true) × (has (cut P c .members) p ≡ true)
@@ -134,7 +133,7 @@ module _ (P : Plan) (roster marks : ℕ) (a : Active) (kept : List Bool) (fits :
   rest-closed = closed-below (edgeCount P) (λ i. only (on (a .frozen) i && subset (pair P i) rest) (pair P i)) rest (λ i p h k. record {
     at = λ q e.
         let t = of-only (on (a .frozen) i && subset (pair P i) rest) (pair P i) q e in
-        subset-true (pair P i) rest (both (on (a .frozen) i) (subset (pair P i) rest) (t .0) .1) .at q (t .1);
+        subset-true (pair P i) rest (and-parts (on (a .frozen) i) (subset (pair P i) rest) (t .0) .1) .at q (t .1);
   })
 
   -- a live person's block at the start

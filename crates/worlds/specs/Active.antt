@@ -1,6 +1,6 @@
 -- What a valuation says of the rules. Document 01, "World", step 1: "Active edges without an active defeater freeze".
-use mathlib.Core.Bool.{Bool, true, false, _&&_, _||_, not, cond}
-use mathlib.Core.List.{List, [], _∷_}
+use mathlib.Core.Bool.{Bool, _&&_, _||_, not}
+use mathlib.Core.List.{List}
 use Prim.Native.Nat.{ℕ}
 use lib.Dec.{eqb}
 use Rattle.records.specs.Sets.{has, below, anyBelow, anyOf}

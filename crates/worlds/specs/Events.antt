@@ -1,17 +1,15 @@
 -- The events of one world. Document 01, "Line and event": "An event is 12 bytes: kind, a, b, c, 8-byte mask".
-use mathlib.Core.Bool.{Bool, true, false, _&&_, _||_, not, cond}
+use mathlib.Core.Bool.{Bool, _&&_, not, cond}
 use mathlib.Core.List.{List, [], _∷_, _++_, flatMap}
 use Prim.Native.Nat.{ℕ, zero, suc, _/_, _%_}
-use lib.ListN.{getD}
 use lib.Dec.{eqb}
-use Rattle.records.specs.Sets.{has, meets, risingLess, below, anyBelow, numbers}
+use Rattle.records.specs.Sets.{has, meets, risingLess, anyBelow, numbers}
 use Rattle.records.specs.Plan.{Plan, Election}
 use Rattle.records.specs.Case.{Case}
-use Rattle.expressions.specs.Rules.{edgeCount, cutCount, attachmentCount, barCount, statusCount, edge, cut, attachment, bar, status}
+use Rattle.expressions.specs.Rules.{edgeCount, cutCount, attachmentCount, barCount, statusCount, edge, cut, attachment, status}
 use Rattle.expressions.specs.Nodes.{on}
 use Rattle.expressions.specs.Bindings.{evidenceOf}
-use Rattle.worlds.specs.Active.{Active}
-use Rattle.worlds.specs.World.{World, State, looseComponents, sameMembers, standing, blockedBy, barHolds}
+use Rattle.worlds.specs.World.{World, looseComponents, sameMembers, standing, blockedBy, barHolds}
 
 -- n bytes of a number, the lowest first
 unfoldable pub littleBytes : ℕ → ℕ → List ℕ

@@ -1,14 +1,11 @@
 -- What one world says of a person. Document 01: the roles and kinds of "Line and event", and "Citations".
-use mathlib.Core.Bool.{Bool, true, false, _&&_, _||_, not, cond}
-use mathlib.Core.List.{List, [], _∷_}
+use mathlib.Core.Bool.{Bool, _&&_, _||_, cond}
 use Prim.Native.Nat.{ℕ}
-use lib.Dec.{eqb}
 use Rattle.records.specs.Sets.{has, one, union, meet, minus, only, meets, unionBelow}
 use Rattle.records.specs.Plan.{Plan}
 use Rattle.expressions.specs.Rules.{edgeCount, cutCount, attachmentCount, barCount, statusCount, edge, cut, attachment, bar, status, pair}
 use Rattle.expressions.specs.Nodes.{on}
-use Rattle.worlds.specs.Active.{Active}
-use Rattle.worlds.specs.World.{World, Marks, State, marked, blockOf, about}
+use Rattle.worlds.specs.World.{World, marked, blockOf, about}
 
 -- block 0: none; role: 0 none, 1 member, 2 excluded, 3 barred; kind: 0, or the mark's, 3 overlap, 4 discretion
 pub record View : Type 0 where

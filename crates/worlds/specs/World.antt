@@ -1,7 +1,7 @@
 -- One world. Document 01, "World", steps 2 to 8. Rules go by number: "merged" cuts are cuts with equal members.
-use mathlib.Core.Bool.{Bool, true, false, _&&_, _||_, not, cond, Bool·beq}
-use mathlib.Core.List.{List, [], _∷_, _++_}
-use Prim.Native.Nat.{ℕ, zero, suc}
+use mathlib.Core.Bool.{Bool, _&&_, not, cond, Bool·beq}
+use mathlib.Core.List.{List, _++_}
+use Prim.Native.Nat.{ℕ}
 use lib.ListN.{getD}
 use lib.Dec.{eqb, ltb}
 use Rattle.records.specs.Sets.{has, one, union, minus, only, meets, subset, size, setOf, members, closeOf, below, anyBelow, unionBelow, foldBelow, allOf, unionOf}

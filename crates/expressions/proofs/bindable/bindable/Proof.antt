@@ -10,11 +10,6 @@ use Prim.Native.Nat.{_+_}
 use borrow.Author.Needs.{needs}
 use Rattle.expressions.proofs.bindable.bindable.Statement.{statement}
 use Rattle.expressions.proofs.bindable.bindable.Tie as tie
-use Rattle.expressions.proofs.bindable.bindable.Reads as reads
-use Rattle.expressions.proofs.bindable.bindable.Lts as lts
-use Rattle.expressions.proofs.bindable.boolean_faults.Reads as boolean-faults-reads
-use Rattle.expressions.proofs.bindable.family_faults.Reads as family-faults-reads
-use Rattle.expressions.proofs.counts.upto.Reads as upto-reads
 
 -- src/bindable.rt:106:9
 upto-requires : tie.Need-upto-requires

@@ -1,20 +1,13 @@
 use Rattle.expressions.proofs.FaultLaws.{sameFact, booleanJudge, from, faults-end, booleans-whole, passed, boolean-clash, boolean-twice, boolean-on}
 use Rattle.records.specs.Decoded.{booleanOf}
 use Rattle.records.specs.Check.{checkedOf}
-use Rattle.records.specs.Fields.{fault}
 use borrow.Author.Needs.{needs}
 use lib.ListN.{length, length-map, take}
 use mathlib.Core.List.{map}
-use mathlib.Core.Bool.{Bool, not}
 use mathlib.Core.Path.{_≡_, refl, sym, ap, _∙_}
-use Prim.Native.Nat.{ℕ, _≤_, _-_, _+_}
+use Prim.Native.Nat.{_≤_, _-_}
 use Rattle.expressions.proofs.bindable.boolean_faults.Statement.{statement}
 use Rattle.expressions.proofs.bindable.boolean_faults.Tie as tie
-use Rattle.expressions.proofs.bindable.boolean_faults.Reads as reads
-use Rattle.expressions.proofs.bindable.boolean_faults.Lts as lts
-use Rattle.expressions.proofs.bindable.clashes.Reads as clashes-reads
-use Rattle.expressions.proofs.bindable.fact_before.Reads as fact-before-reads
-use Rattle.expressions.proofs.counts.upto.Reads as upto-reads
 
 abbrev Inv-loop : tie.InvT-loop
 Inv-loop first booleans n i₀ i =

@@ -1,8 +1,6 @@
 use Rattle.expressions.proofs.FaultLaws.{clash-beside, clash-none}
 use Rattle.expressions.proofs.bindable.clashes.Statement.{statement}
 use Rattle.expressions.proofs.bindable.clashes.Tie as tie
-use Rattle.expressions.proofs.bindable.clashes.Reads as reads
-use Rattle.expressions.proofs.bindable.clashes.Lts as lts
 
 -- src/bindable.rt:70:1
 returns : tie.Need-returns

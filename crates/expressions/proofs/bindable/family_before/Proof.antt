@@ -4,13 +4,10 @@ use borrow.Author.Tests.{eq-eqb, ne-eqb}
 use borrow.Author.Needs.{needs}
 use lib.Dec.{eqb}
 use lib.ListN.{length, length-map}
-use mathlib.Core.Path.{_≡_, refl, sym, ap, _∙_}
-use Prim.Native.Nat.{ℕ, _≤_, _-_, _+_}
+use mathlib.Core.Path.{_≡_, refl, sym, _∙_}
+use Prim.Native.Nat.{_≤_, _-_}
 use Rattle.expressions.proofs.bindable.family_before.Statement.{statement}
 use Rattle.expressions.proofs.bindable.family_before.Tie as tie
-use Rattle.expressions.proofs.bindable.family_before.Reads as reads
-use Rattle.expressions.proofs.bindable.family_before.Lts as lts
-use Rattle.expressions.proofs.counts.upto.Reads as upto-reads
 
 abbrev Inv-loop : tie.InvT-loop
 Inv-loop i number families n j₀ j =

@@ -7,13 +7,9 @@ use lib.ListN.{length, length-map, take}
 use mathlib.Core.List.{map}
 use mathlib.Core.Bool.{Bool, not}
 use mathlib.Core.Path.{_≡_, refl, sym, ap, _∙_}
-use Prim.Native.Nat.{ℕ, _≤_, _-_, _+_}
+use Prim.Native.Nat.{_≤_, _-_}
 use Rattle.expressions.proofs.bindable.family_faults.Statement.{statement}
 use Rattle.expressions.proofs.bindable.family_faults.Tie as tie
-use Rattle.expressions.proofs.bindable.family_faults.Reads as reads
-use Rattle.expressions.proofs.bindable.family_faults.Lts as lts
-use Rattle.expressions.proofs.bindable.family_before.Reads as family-before-reads
-use Rattle.expressions.proofs.counts.upto.Reads as upto-reads
 
 abbrev Inv-loop : tie.InvT-loop
 Inv-loop first families n i₀ i =

@@ -2,8 +2,8 @@
 use mathlib.Core.Path.{sym, ap, _∙_}
 use borrow.Author.Tests.{not-true, not-false}
 use borrow.Author.Needs.{needs}
-use Rattle.records.proofs.NamingLaws.{boolean-of}
-use Rattle.expressions.proofs.FactLaws.{family-fact, binding-none, binding-boolean, binding-relation}
+use Rattle.records.proofs.NamingLaws.{boolean-of, family-of}
+use Rattle.expressions.proofs.FactLaws.{binding-none, binding-boolean, binding-relation}
 use Rattle.expressions.specs.Codes.{boundOf}
 use Rattle.records.specs.Decoded.{planOf, caseOf}
 use Rattle.records.specs.Plan.{Fact, getFact, isBoolean}
@@ -47,7 +47,7 @@ returns-3 c =
     c .bound-relation .ensures
     ∙ binding-relation (planOf (a .plan)) (caseOf (a .case)) (a .set) (a .fact) (f .result .family) (sym (k .before .contains .ensures) ∙ not-false (k .before .contains .result) (k .if1 .left))
     (ap isBoolean (sym (f .ensures)) ∙ boolean-of (f .result) ∙ c .before .if2 .left)
-    (ap (λ (x : Fact). x .family) (sym (f .ensures)) ∙ family-fact (f .result) (c .before .if2 .left))
+    (ap (λ (x : Fact). x .family) (sym (f .ensures)) ∙ family-of (f .result) (c .before .if2 .left))
 
 pub binding-spec : {M : Type 1} → statement M
 binding-spec =

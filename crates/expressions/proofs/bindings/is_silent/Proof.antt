@@ -1,6 +1,6 @@
 -- `expressions::bindings::is_silent` meets its contract. Assumes nothing.
 use mathlib.Core.Bool.{not, Bool·not-not}
-use mathlib.Core.Path.{_≡_, refl, sym, ap, _∙_}
+use mathlib.Core.Path.{sym, ap, _∙_}
 use lib.ListN.{length}
 use lib.Dec.{eqb}
 use borrow.Author.Tests.{not-true, not-false}

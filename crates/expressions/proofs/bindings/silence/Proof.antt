@@ -2,9 +2,8 @@
 use Prim.Native.Nat.{_≤_, _-_}
 use mathlib.Core.Bool.{true, false}
 use mathlib.Core.Logic.{⊎-elim}
-use mathlib.Core.List.{map}
-use mathlib.Core.Path.{_≡_, refl, sym, ap, _∙_}
-use lib.ListN.{length, take, length-map}
+use mathlib.Core.Path.{_≡_, refl, sym, _∙_}
+use lib.ListN.{length, length-map}
 use borrow.Author.Needs.{needs}
 use Rattle.expressions.proofs.FamilyLaws.{silentFrom, silent-end, silent-here, silent-other, silent-scope}
 use Rattle.expressions.proofs.bindings.silence.Statement.{statement}

@@ -6,7 +6,6 @@ use mathlib.Core.Path.{_≡_, refl, sym, ap, _∙_}
 use native.Mathlib.Omega.{arith}
 use lib.ListN.{length, getD, length-map}
 use borrow.Author.Needs.{needs}
-use Rattle.records.specs.declared.plan.Cut.{Cut as Coded}
 use Rattle.records.proofs.plan.Cut.{the-type}
 use Rattle.records.specs.Sets.{below, numbers}
 use Rattle.records.specs.Plan.{Cut}
@@ -18,6 +17,7 @@ use Rattle.expressions.proofs.ListLaws.{made-at, made-length}
 use Rattle.expressions.proofs.OpenLaws.{all-next, room-all}
 use Rattle.expressions.proofs.decisions.open_over.Statement.{statement}
 use Rattle.expressions.proofs.decisions.open_over.Tie as tie
+use Rattle.records.specs.declared.plan.Cut.{Cut as Coded}
 
 abbrev none : Coded
 none = record {

@@ -4,8 +4,6 @@ use mathlib.Core.Path.{_≡_, refl, sym, ap, ap₂, _∙_}
 use native.Mathlib.Omega.{arith}
 use lib.ListN.{length, getD, length-map}
 use borrow.Author.Needs.{needs}
-use Rattle.records.proofs.plan.Cut.{the-type as cut-type}
-use Rattle.records.proofs.plan.Edge.{the-type as edge-type}
 use Rattle.records.specs.Sets.{union}
 use Rattle.records.specs.Decoded.{cutOf, edgeOf}
 use Rattle.expressions.specs.Coded.{cutsOf, edgesOf, EndsFit}
@@ -14,6 +12,8 @@ use Rattle.expressions.specs.Undecided.{openTouch}
 use Rattle.expressions.proofs.ListLaws.{made-length, made-at, made-each}
 use Rattle.expressions.proofs.decisions.open_touch.Statement.{statement}
 use Rattle.expressions.proofs.decisions.open_touch.Tie as tie
+use Rattle.records.proofs.plan.Cut.{the-type as cut-type}
+use Rattle.records.proofs.plan.Edge.{the-type as edge-type}
 
 long : (c : tie.Start) → length (c .args .t1 .items) ≡ 16
 long c = sym (length-map (c .args .t1 .items) (cut-type .to)) ∙ c .good .0 .1 .1 .1 .0 .1 .0 .1

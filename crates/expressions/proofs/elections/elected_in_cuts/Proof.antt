@@ -1,9 +1,8 @@
 -- `expressions::elections::elected_in_cuts` meets its contract: the first election on the fact is among the records from i on. Assumes nothing.
 use Prim.Native.Nat.{_≤_, _-_}
 use mathlib.Core.Logic.{⊎-elim}
-use mathlib.Core.List.{map}
-use mathlib.Core.Path.{_≡_, refl, sym, ap, _∙_}
-use lib.ListN.{length, take, length-map}
+use mathlib.Core.Path.{_≡_, refl, sym, _∙_}
+use lib.ListN.{length, length-map}
 use borrow.Author.Tests.{eqb-true, eqb-false}
 use borrow.Author.Needs.{needs}
 use Rattle.expressions.proofs.ElectionLaws.{electedFrom, elected-end, elected-here, elected-other, elected-not}

@@ -1,7 +1,7 @@
 -- `expressions::observations::entry` meets its contract: past sixteen there is no entry. Assumes nothing.
 use mathlib.Core.Path.{sym}
 use native.Mathlib.Omega.{arith}
-use lib.ListN.{length, List·getD-eq-default}
+use lib.ListN.{List·getD-eq-default}
 use mir.Syntax.{w8}
 use borrow.Kind.Array.{eInt, good-length}
 use borrow.Author.Needs.{needs}

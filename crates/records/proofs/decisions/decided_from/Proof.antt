@@ -9,8 +9,6 @@ use Rattle.records.proofs.DecisionLaws.{any-here, any-later, any-none}
 use borrow.Author.Needs.{needs}
 use Rattle.records.proofs.decisions.decided_from.Statement.{statement}
 use Rattle.records.proofs.decisions.decided_from.Tie as tie
-use Rattle.records.proofs.decisions.decided_from.Reads as reads
-use Rattle.records.proofs.decisions.decided_from.Lts as lts
 
 abbrev Inv-loop : tie.InvT-loop
 Inv-loop edge i d n j₀ j = (j ≤ n) × (anyOf (λ e. eqb (e .edge) edge) (decisionsFrom d j) ≡ anyOf (λ e. eqb (e .edge) edge) (decisionsFrom d i))

@@ -9,8 +9,6 @@ use Rattle.records.proofs.DecisionLaws.{from-all, once-not, once-more, 
 use borrow.Author.Needs.{needs}
 use Rattle.records.proofs.decisions.decided_once.Statement.{statement}
 use Rattle.records.proofs.decisions.decided_once.Tie as tie
-use Rattle.records.proofs.decisions.decided_once.Reads as reads
-use Rattle.records.proofs.decisions.decided_once.Lts as lts
 
 abbrev Inv-loop : tie.InvT-loop
 Inv-loop d n i₀ i = (i ≤ n) × (decidedOnce (decisionsFrom d i) ≡ decidedOnce (decisionsOf d))

@@ -10,8 +10,6 @@ use Rattle.records.proofs.DecisionLaws.{from-all, open-some, open-other
 use borrow.Author.Needs.{needs}
 use Rattle.records.proofs.decisions.unresolved_in.Statement.{statement}
 use Rattle.records.proofs.decisions.unresolved_in.Tie as tie
-use Rattle.records.proofs.decisions.unresolved_in.Reads as reads
-use Rattle.records.proofs.decisions.unresolved_in.Lts as lts
 
 abbrev Inv-loop : tie.InvT-loop
 Inv-loop d n total₀ i₀ total i = (i ≤ n) × (total ≤ i) × (total + unresolvedIn (decisionsFrom d i) ≡ unresolvedIn (decisionsOf d))

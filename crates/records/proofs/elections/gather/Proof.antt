@@ -1,13 +1,11 @@
 -- A loop over cuts and attachments that keeps each election. Assumes nothing.
 use mathlib.Core.Path.{_≡_, refl, ap, _∙_, subst, sym}
-use mathlib.Core.List.{List}
 use Prim.Native.Nat.{_≤_, _-_}
 use native.Mathlib.Omega.{arith}
-use lib.ListN.{length, length-set, length-replicate, replicate}
+use lib.ListN.{length, length-set, replicate}
 use borrow.Author.Needs.{needs}
 use Rattle.records.specs.Plan as paper
-use Rattle.records.specs.Decoded.{planOf, noElection}
-use Rattle.records.specs.declared.plan.Election.{Election}
+use Rattle.records.specs.Decoded.{planOf}
 use Rattle.records.proofs.ElectionLaws.{Known, known-none, known-more, known-all, length-records}
 use Rattle.records.proofs.elections.gather.Statement.{statement}
 use Rattle.records.proofs.elections.gather.Tie as tie

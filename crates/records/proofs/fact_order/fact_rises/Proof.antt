@@ -8,8 +8,6 @@ use Rattle.records.proofs.FactLaws.{is-boolean}
 use borrow.Author.Needs.{needs}
 use Rattle.records.proofs.fact_order.fact_rises.Statement.{statement}
 use Rattle.records.proofs.fact_order.fact_rises.Tie as tie
-use Rattle.records.proofs.fact_order.fact_rises.Reads as reads
-use Rattle.records.proofs.fact_order.fact_rises.Lts as lts
 
 returns : tie.Need-returns
 unfolding rises isBoolean factOf lexLess

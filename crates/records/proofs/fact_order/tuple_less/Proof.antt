@@ -9,8 +9,6 @@ use Rattle.records.proofs.FactLaws.{lex-short, lex-differ, lex-same, le
 use borrow.Author.Needs.{needs}
 use Rattle.records.proofs.fact_order.tuple_less.Statement.{statement}
 use Rattle.records.proofs.fact_order.tuple_less.Tie as tie
-use Rattle.records.proofs.fact_order.tuple_less.Reads as reads
-use Rattle.records.proofs.fact_order.tuple_less.Lts as lts
 
 abbrev Inv-loop : tie.InvT-loop
 Inv-loop m n a b j k i₀ i = (i ≤ j) × (i ≤ k) × (lexLess (drop i (take m a)) (drop i (take n b)) ≡ lexLess (take m a) (take n b))

@@ -4,8 +4,6 @@ use Rattle.records.specs.Fields.{byteAt}
 use borrow.Author.Needs.{needs}
 use Rattle.records.proofs.fields.byte_at.Statement.{statement}
 use Rattle.records.proofs.fields.byte_at.Tie as tie
-use Rattle.records.proofs.fields.byte_at.Reads as reads
-use Rattle.records.proofs.fields.byte_at.Lts as lts
 
 shared-slice-read-if2 : tie.Need-shared-slice-read-if2
 shared-slice-read-if2 c = search needs

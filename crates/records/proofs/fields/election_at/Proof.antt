@@ -9,8 +9,6 @@ use Rattle.records.proofs.Reading.{seen}
 use borrow.Author.Needs.{needs}
 use Rattle.records.proofs.fields.election_at.Statement.{statement}
 use Rattle.records.proofs.fields.election_at.Tie as tie
-use Rattle.records.proofs.fields.election_at.Reads as reads
-use Rattle.records.proofs.fields.election_at.Lts as lts
 
 no-election-requires : tie.Need-no-election-requires
 no-election-requires c κs = search needs

@@ -11,8 +11,6 @@ use Rattle.records.proofs.Reading.{seen, entries-none, entry-more, entr
 use borrow.Author.Needs.{needs}
 use Rattle.records.proofs.fields.entries_stand.Statement.{statement}
 use Rattle.records.proofs.fields.entries_stand.Tie as tie
-use Rattle.records.proofs.fields.entries_stand.Reads as reads
-use Rattle.records.proofs.fields.entries_stand.Lts as lts
 
 abbrev Inv-loop : tie.InvT-loop
 Inv-loop s at n top p₀ i₀ p i = (i ≤ n) × (isGot (bytesAt s p (repeat (n - i) (upTo top ∷ []))) ≡ isGot (bytesAt s at (repeat n (upTo top ∷ []))))

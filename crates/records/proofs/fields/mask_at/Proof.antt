@@ -8,8 +8,6 @@ use Rattle.records.proofs.Reading.{eight-free, bytes-short}
 use borrow.Author.Needs.{needs}
 use Rattle.records.proofs.fields.mask_at.Statement.{statement}
 use Rattle.records.proofs.fields.mask_at.Tie as tie
-use Rattle.records.proofs.fields.mask_at.Reads as reads
-use Rattle.records.proofs.fields.mask_at.Lts as lts
 
 returns : tie.Need-returns
 unfolding little

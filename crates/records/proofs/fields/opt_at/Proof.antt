@@ -5,8 +5,6 @@ use Rattle.records.proofs.Reading.{one-field}
 use borrow.Author.Needs.{needs}
 use Rattle.records.proofs.fields.opt_at.Statement.{statement}
 use Rattle.records.proofs.fields.opt_at.Tie as tie
-use Rattle.records.proofs.fields.opt_at.Reads as reads
-use Rattle.records.proofs.fields.opt_at.Lts as lts
 
 byte-at-requires : tie.Need-byte-at-requires
 byte-at-requires c κs = search needs

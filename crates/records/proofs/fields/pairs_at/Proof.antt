@@ -12,8 +12,6 @@ use Rattle.records.proofs.Reading.{seen, list-bad, list-stands, list-st
 use borrow.Author.Needs.{needs}
 use Rattle.records.proofs.fields.pairs_at.Statement.{statement}
 use Rattle.records.proofs.fields.pairs_at.Tie as tie
-use Rattle.records.proofs.fields.pairs_at.Reads as reads
-use Rattle.records.proofs.fields.pairs_at.Lts as lts
 
 returns : tie.Need-returns
 unfolding span

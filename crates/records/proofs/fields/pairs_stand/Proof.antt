@@ -11,8 +11,6 @@ use Rattle.records.proofs.Reading.{seen, entries-none, entry-bad, pair-
 use borrow.Author.Needs.{needs}
 use Rattle.records.proofs.fields.pairs_stand.Statement.{statement}
 use Rattle.records.proofs.fields.pairs_stand.Tie as tie
-use Rattle.records.proofs.fields.pairs_stand.Reads as reads
-use Rattle.records.proofs.fields.pairs_stand.Lts as lts
 
 abbrev Inv-loop : tie.InvT-loop
 Inv-loop s at n top low high p₀ i₀ p i =

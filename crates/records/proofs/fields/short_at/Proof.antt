@@ -10,8 +10,6 @@ use Rattle.records.proofs.Reading.{seen, word-is}
 use borrow.Author.Needs.{needs}
 use Rattle.records.proofs.fields.short_at.Statement.{statement}
 use Rattle.records.proofs.fields.short_at.Tie as tie
-use Rattle.records.proofs.fields.short_at.Reads as reads
-use Rattle.records.proofs.fields.short_at.Lts as lts
 
 returns : tie.Need-returns
 unfolding little

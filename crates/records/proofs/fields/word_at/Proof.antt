@@ -5,8 +5,6 @@ use native.Mathlib.Omega.{arith}
 use borrow.Author.Needs.{needs}
 use Rattle.records.proofs.fields.word_at.Statement.{statement}
 use Rattle.records.proofs.fields.word_at.Tie as tie
-use Rattle.records.proofs.fields.word_at.Reads as reads
-use Rattle.records.proofs.fields.word_at.Lts as lts
 
 shared-slice-read-to-u64 : tie.Need-shared-slice-read-to-u64
 shared-slice-read-to-u64 c = search needs

@@ -7,8 +7,6 @@ use borrow.Author.Tests.{not-true, not-false}
 use Rattle.records.proofs.KindLaws.{room-left}
 use Rattle.records.proofs.judge.judged.Statement.{statement}
 use Rattle.records.proofs.judge.judged.Tie as tie
-use Rattle.records.proofs.judge.judged.Reads as reads
-use Rattle.records.proofs.judge.judged.Lts as lts
 
 past-requires : tie.Need-past-requires
 past-requires c κs = search needs

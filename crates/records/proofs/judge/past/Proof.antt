@@ -2,8 +2,6 @@
 use borrow.Author.Tests.{le-leb, lt-leb}
 use Rattle.records.proofs.judge.past.Statement.{statement}
 use Rattle.records.proofs.judge.past.Tie as tie
-use Rattle.records.proofs.judge.past.Reads as reads
-use Rattle.records.proofs.judge.past.Lts as lts
 
 returns : tie.Need-returns
 returns c = rw (le-leb _ _ (c .if1 .taken))

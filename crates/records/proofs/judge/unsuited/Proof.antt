@@ -1,8 +1,6 @@
 -- Wrong bits, or no heading. Assumes nothing.
 use Rattle.records.proofs.judge.unsuited.Statement.{statement}
 use Rattle.records.proofs.judge.unsuited.Tie as tie
-use Rattle.records.proofs.judge.unsuited.Reads as reads
-use Rattle.records.proofs.judge.unsuited.Lts as lts
 
 returns : tie.Need-returns
 returns c = rw (c .if1 .taken)

@@ -12,8 +12,6 @@ use Rattle.records.proofs.Listing.{decided, pair-copied}
 use borrow.Author.Needs.{needs}
 use Rattle.records.proofs.lists.decisions_from.Statement.{statement}
 use Rattle.records.proofs.lists.decisions_from.Tie as tie
-use Rattle.records.proofs.lists.decisions_from.Reads as reads
-use Rattle.records.proofs.lists.decisions_from.Lts as lts
 
 abbrev Inv-loop : tie.InvT-loop
 Inv-loop s first count n edges₀ verdicts₀ i₀ edges verdicts i =

@@ -10,8 +10,6 @@ use Rattle.records.proofs.Listing.{copied}
 use borrow.Author.Needs.{needs}
 use Rattle.records.proofs.lists.numbers_from.Statement.{statement}
 use Rattle.records.proofs.lists.numbers_from.Tie as tie
-use Rattle.records.proofs.lists.numbers_from.Reads as reads
-use Rattle.records.proofs.lists.numbers_from.Lts as lts
 
 abbrev Inv-loop : tie.InvT-loop
 Inv-loop s first count n items₀ i₀ items i = (i ≤ n) × (length items ≡ 16) × (take i items ≡ span s first i)

@@ -9,8 +9,6 @@ use Rattle.records.proofs.Listing.{copied}
 use borrow.Author.Needs.{needs}
 use Rattle.records.proofs.lists.tuple_from.Statement.{statement}
 use Rattle.records.proofs.lists.tuple_from.Tie as tie
-use Rattle.records.proofs.lists.tuple_from.Reads as reads
-use Rattle.records.proofs.lists.tuple_from.Lts as lts
 
 abbrev Inv-loop : tie.InvT-loop
 Inv-loop s first count n items₀ i₀ items i = (i ≤ n) × (length items ≡ 4) × (take i items ≡ span s first i)

@@ -12,7 +12,7 @@ use Rattle.records.specs.Check.{checkedOf}
 use Rattle.records.specs.Named.{CountsOf, Tells, nodeFaults, edgeFaults, cutFaults, attachmentFaults, barFaults, statusFaults}
 use Rattle.records.specs.declared.counts.Counts.{Counts}
 use Rattle.records.specs.declared.checked.Checked.{Checked}
-use Rattle.records.specs.declared.checked.Checked.the-variants.{Accepted, Refused}
+use Rattle.records.specs.declared.checked.Checked.the-variants.{Accepted}
 use Rattle.records.specs.declared.plan.Plan.{Plan}
 use Rattle.records.proofs.NamingLaws.{length-each}
 use Rattle.records.proofs.FaultLaws.{kind-refused, kind-passed}

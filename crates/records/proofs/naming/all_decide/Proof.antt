@@ -9,7 +9,6 @@ use lib.Dec.{ltb}
 use lib.ListN.{length, getD, drop}
 use borrow.Author.Needs.{needs}
 use borrow.Author.Tests.{lt-ltb, le-ltb}
-use Rattle.records.specs.Plan as paper
 use Rattle.records.proofs.NamingLaws.{entries, all-edges}
 use Rattle.records.proofs.LoopLaws.{length-below, getD-below}
 use Rattle.records.proofs.naming.all_decide.Statement.{statement}

@@ -15,8 +15,6 @@ use Rattle.records.proofs.KindLaws.{attachmentKind, needs-test, made-mo
 use borrow.Author.Needs.{needs}
 use Rattle.records.proofs.read_attachments.read_attachments.Statement.{statement}
 use Rattle.records.proofs.read_attachments.read_attachments.Tie as tie
-use Rattle.records.proofs.read_attachments.read_attachments.Reads as reads
-use Rattle.records.proofs.read_attachments.read_attachments.Lts as lts
 
 abbrev Inv-loop : tie.InvT-loop
 Inv-loop s start before headed attachments₀ at₀ k₀ attachments at k =

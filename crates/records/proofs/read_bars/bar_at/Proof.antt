@@ -12,8 +12,6 @@ use Rattle.records.proofs.Chain.{more, skip, stop, last, unknown, half-
 use borrow.Author.Needs.{needs}
 use Rattle.records.proofs.read_bars.bar_at.Statement.{statement}
 use Rattle.records.proofs.read_bars.bar_at.Tie as tie
-use Rattle.records.proofs.read_bars.bar_at.Reads as reads
-use Rattle.records.proofs.read_bars.bar_at.Lts as lts
 
 byte-at-requires : tie.Need-byte-at-requires
 byte-at-requires c κs = search needs

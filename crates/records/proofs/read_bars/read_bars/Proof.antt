@@ -15,8 +15,6 @@ use Rattle.records.proofs.KindLaws.{barKind, needs-test, made-more, jud
 use borrow.Author.Needs.{needs}
 use Rattle.records.proofs.read_bars.read_bars.Statement.{statement}
 use Rattle.records.proofs.read_bars.read_bars.Tie as tie
-use Rattle.records.proofs.read_bars.read_bars.Reads as reads
-use Rattle.records.proofs.read_bars.read_bars.Lts as lts
 
 abbrev Inv-loop : tie.InvT-loop
 Inv-loop s start before headed bars₀ at₀ k₀ bars at k =

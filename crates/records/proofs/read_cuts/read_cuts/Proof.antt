@@ -22,8 +22,6 @@ use Rattle.records.specs.Plan as paper
 use borrow.Author.Needs.{needs}
 use Rattle.records.proofs.read_cuts.read_cuts.Statement.{statement}
 use Rattle.records.proofs.read_cuts.read_cuts.Tie as tie
-use Rattle.records.proofs.read_cuts.read_cuts.Reads as reads
-use Rattle.records.proofs.read_cuts.read_cuts.Lts as lts
 
 abbrev Inv-loop : tie.InvT-loop
 Inv-loop s start before headed cuts₀ pending₀ at₀ k₀ cuts pending at k =

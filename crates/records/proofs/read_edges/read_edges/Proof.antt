@@ -16,8 +16,6 @@ use Rattle.records.specs.Fields as fields
 use borrow.Author.Needs.{needs}
 use Rattle.records.proofs.read_edges.read_edges.Statement.{statement}
 use Rattle.records.proofs.read_edges.read_edges.Tie as tie
-use Rattle.records.proofs.read_edges.read_edges.Reads as reads
-use Rattle.records.proofs.read_edges.read_edges.Lts as lts
 
 abbrev Inv-loop : tie.InvT-loop
 Inv-loop s start before headed edges₀ at₀ k₀ edges at k =

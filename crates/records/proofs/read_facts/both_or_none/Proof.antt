@@ -2,8 +2,6 @@
 use borrow.Author.Tests.{eq-eqb, ne-eqb}
 use Rattle.records.proofs.read_facts.both_or_none.Statement.{statement}
 use Rattle.records.proofs.read_facts.both_or_none.Tie as tie
-use Rattle.records.proofs.read_facts.both_or_none.Reads as reads
-use Rattle.records.proofs.read_facts.both_or_none.Lts as lts
 
 returns : tie.Need-returns
 returns c = rw (eq-eqb _ _ (c .if1 .taken))

@@ -12,8 +12,6 @@ use Rattle.records.specs.Plan as paper
 use borrow.Author.Needs.{needs}
 use Rattle.records.proofs.read_facts.fact_at.Statement.{statement}
 use Rattle.records.proofs.read_facts.fact_at.Tie as tie
-use Rattle.records.proofs.read_facts.fact_at.Reads as reads
-use Rattle.records.proofs.read_facts.fact_at.Lts as lts
 
 byte-at-requires : tie.Need-byte-at-requires
 byte-at-requires c κs = search needs

@@ -13,12 +13,11 @@ use Rattle.records.proofs.LoopLaws.{length-made}
 use Rattle.records.proofs.Reading.{seen}
 use Rattle.records.proofs.Passing.{Going, going, ends-short, ends-other, refused-bad, refused-judged, goes-on, goes-later}
 use Rattle.records.proofs.FactLaws.{lastFact, last-none, last-more, rise-more}
-use Rattle.records.proofs.KindLaws.{factKind, made-more, judge-same, is-sound, it-fits, and-left, no-tuple, fact-is}
+use Rattle.records.proofs.SetLaws.{and-parts}
+use Rattle.records.proofs.KindLaws.{factKind, made-more, judge-same, is-sound, it-fits, no-tuple, fact-is}
 use borrow.Author.Needs.{needs}
 use Rattle.records.proofs.read_facts.read_facts.Statement.{statement}
 use Rattle.records.proofs.read_facts.read_facts.Tie as tie
-use Rattle.records.proofs.read_facts.read_facts.Reads as reads
-use Rattle.records.proofs.read_facts.read_facts.Lts as lts
 
 abbrev Inv-loop : tie.InvT-loop
 Inv-loop s start before headed facts₀ last₀ at₀ k₀ facts last at k =
@@ -129,7 +128,7 @@ loop-again c =
       ap factsRise more ∙ rise-more (factsOf l) _ ∙ ap₂ _&&_ (i .4) (sym d ∙ r),
       ap lastFact more ∙ last-more (factsOf l) _ ∙ sym x,
       g .0,
-      λ y. no-tuple b _ (sym (c .before .before .both-or-none .ensures) ∙ and-left (c .before .before .both-or-none .result) (c .before .before .before .before .before .before .before .before .before .before .before .before .before .before .before .args .headed) t) y (g .2),
+      λ y. no-tuple b _ (sym (c .before .before .both-or-none .ensures) ∙ and-parts (c .before .before .both-or-none .result) (c .before .before .before .before .before .before .before .before .before .before .before .before .before .before .before .args .headed) t .0) y (g .2),
     )
 
 returns-3 : tie.Need-returns-3 Inv-loop μ-loop

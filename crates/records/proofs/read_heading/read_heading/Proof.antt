@@ -16,8 +16,6 @@ use Rattle.records.specs.Fields as fields
 use borrow.Author.Needs.{needs}
 use Rattle.records.proofs.read_heading.read_heading.Statement.{statement}
 use Rattle.records.proofs.read_heading.read_heading.Tie as tie
-use Rattle.records.proofs.read_heading.read_heading.Reads as reads
-use Rattle.records.proofs.read_heading.read_heading.Lts as lts
 
 abbrev Inv-loop : tie.InvT-loop
 Inv-loop s headings₀ relation₀ chained₀ chain₀ at₀ k₀ headings relation chained chain at k =

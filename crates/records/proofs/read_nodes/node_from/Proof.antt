@@ -3,8 +3,6 @@ use Rattle.records.specs.Decoded as decoded
 use Rattle.records.proofs.KindLaws.{bit0-on, bit0-off, bit-on, bit-off}
 use Rattle.records.proofs.read_nodes.node_from.Statement.{statement}
 use Rattle.records.proofs.read_nodes.node_from.Tie as tie
-use Rattle.records.proofs.read_nodes.node_from.Reads as reads
-use Rattle.records.proofs.read_nodes.node_from.Lts as lts
 
 returns : tie.Need-returns
 unfolding decoded.nodeOf decoded.nodeBy

@@ -8,8 +8,6 @@ use Rattle.records.proofs.SetLaws.{ones-size}
 use borrow.Author.Needs.{needs}
 use Rattle.records.proofs.read_nodes.one_bit.Statement.{statement}
 use Rattle.records.proofs.read_nodes.one_bit.Tie as tie
-use Rattle.records.proofs.read_nodes.one_bit.Reads as reads
-use Rattle.records.proofs.read_nodes.one_bit.Lts as lts
 
 to-u64-requires : tie.Need-to-u64-requires
 to-u64-requires c κs = search needs

@@ -16,8 +16,6 @@ use Rattle.records.specs.Fields as fields
 use borrow.Author.Needs.{needs}
 use Rattle.records.proofs.read_nodes.read_nodes.Statement.{statement}
 use Rattle.records.proofs.read_nodes.read_nodes.Tie as tie
-use Rattle.records.proofs.read_nodes.read_nodes.Reads as reads
-use Rattle.records.proofs.read_nodes.read_nodes.Lts as lts
 
 abbrev Inv-loop : tie.InvT-loop
 Inv-loop s start before headed nodes₀ at₀ k₀ nodes at k =

@@ -15,8 +15,6 @@ use Rattle.records.proofs.KindLaws.{statusKind, needs-test, made-more, 
 use borrow.Author.Needs.{needs}
 use Rattle.records.proofs.read_statuses.read_statuses.Statement.{statement}
 use Rattle.records.proofs.read_statuses.read_statuses.Tie as tie
-use Rattle.records.proofs.read_statuses.read_statuses.Reads as reads
-use Rattle.records.proofs.read_statuses.read_statuses.Lts as lts
 
 abbrev Inv-loop : tie.InvT-loop
 Inv-loop s start before headed statuses₀ at₀ k₀ statuses at k =

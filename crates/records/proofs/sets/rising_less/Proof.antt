@@ -1,6 +1,6 @@
 -- `sets::rising_less`: the lowest digit in which the two differ decides. Assumes nothing.
 use mathlib.Core.Path.{sym}
-use Prim.Native.Nat.{ℕ, _<_, _^_}
+use Prim.Native.Nat.{_<_}
 use native.Mathlib.Omega.{arith}
 use lib.Bits.{bitXor, xor-lt}
 use lib.Count.{trailingZeros}
