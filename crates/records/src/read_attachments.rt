@@ -19,6 +19,7 @@ ghost use Rattle.records.specs.Readers.{mapRead};
 ghost use Rattle.records.specs.Passes.{rawOf, seenBy, Passed};
 ghost use Rattle.records.specs.PlanPasses.{planReading, attachmentRead, attachmentsOf, withAttachments};
 
+// The bits, the attachment, and the place after it.
 pub enum AttachmentSeen {
     Got(u8, Attachment, usize),
     Bad,

@@ -16,6 +16,7 @@ ghost use Rattle.records.specs.Readers.{mapRead};
 ghost use Rattle.records.specs.Passes.{rawOf, seenBy, Passed};
 ghost use Rattle.records.specs.PlanPasses.{planReading, barRead, barFrom, barsOf, withBars};
 
+// The bits, the bar, and the place after it.
 pub enum BarSeen {
     Got(u8, Bar, usize),
     Bad,

@@ -18,7 +18,7 @@ ghost use Rattle.records.specs.Readers.{mapRead};
 ghost use Rattle.records.specs.Passes.{rawOf, seenBy, Passed};
 ghost use Rattle.records.specs.CasePasses.{caseReading, booleanRead, booleanFits, booleanBy, booleansOf, withBooleans};
 
-// `first` and `count`: where the observations stand
+// The bits, the fact, the evidence of its being unknown, where the observations stand and how many there are, and the place after them.
 pub enum BooleanSeen {
     Got(u8, u8, u8, usize, u8, usize),
     Bad,

@@ -17,6 +17,7 @@ ghost use Rattle.records.specs.Readers.{mapRead};
 ghost use Rattle.records.specs.Passes.{rawOf, seenBy, Passed};
 ghost use Rattle.records.specs.CasePasses.{caseReading, headingRead, headingsBy, withHeadings};
 
+// The bits, the heading, and the place after it.
 pub enum HeadingSeen {
     Got(u8, CaseHeading, usize),
     Bad,

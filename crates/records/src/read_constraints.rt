@@ -13,6 +13,7 @@ ghost use Rattle.records.specs.Readers.{mapRead};
 ghost use Rattle.records.specs.Passes.{rawOf, seenBy, Passed};
 ghost use Rattle.records.specs.CasePasses.{caseReading, constraintRead, constraintBy, constraintsOf, withConstraints};
 
+// The bits, the node, and the place after it.
 pub enum ConstraintSeen {
     Got(u8, u8, usize),
     Bad,

@@ -32,8 +32,8 @@ ghost use Rattle.records.specs.Readers.{mapRead};
 ghost use Rattle.records.specs.Passes.{rawOf, seenBy, Passed};
 ghost use Rattle.records.specs.PlanPasses.{planReading, cutRead, cutFits, cutsOf, withCuts};
 
-// `pairs` and `decided`, `first` and `count`: where the decisions and the cuts
-// it precedes stand
+// The bits, members, condition, citation and election; where the decisions stand and how many there are, the same of the cuts that it
+// precedes; and the place after them.
 pub enum CutSeen {
     Got(u8, u64, u8, u8, Election, usize, u8, usize, u8, usize),
     Bad,

@@ -18,7 +18,7 @@ ghost use Rattle.records.specs.Readers.{mapRead};
 ghost use Rattle.records.specs.Passes.{rawOf, seenBy, Passed};
 ghost use Rattle.records.specs.PlanPasses.{planReading, edgeRead, edgeFits, edgesOf, withEdges};
 
-// `first` and `count`: where the defeaters stand
+// The bits, left, right, condition and citation; where the defeaters stand and how many there are; and the place after them.
 pub enum EdgeSeen {
     Got(u8, u8, u8, u8, u8, usize, u8, usize),
     Bad,

@@ -19,7 +19,7 @@ ghost use Rattle.records.specs.Readers.{mapRead};
 ghost use Rattle.records.specs.Passes.{rawOf, seenBy, Passed};
 ghost use Rattle.records.specs.PlanPasses.{planReading, factBits, factRead, factFits, factFrom, factsOf, withFacts};
 
-// `first` and `count`: where the tuple stands
+// The bits, the family, where the tuple stands and how long it is, and the place after it.
 pub enum FactSeen {
     Got(u8, u8, usize, u8, usize),
     Bad,

@@ -14,6 +14,7 @@ ghost use Rattle.records.specs.Readers.{mapRead};
 ghost use Rattle.records.specs.Passes.{rawOf, seenBy, Passed};
 ghost use Rattle.records.specs.CasePasses.{caseReading, familyRead, familyBy, familiesOf, withFamilies};
 
+// The bits, the family, and the place after it.
 pub enum FamilySeen {
     Got(u8, Family, usize),
     Bad,

@@ -11,6 +11,7 @@ ghost use Rattle.records.specs.Readers.{mapRead};
 ghost use Rattle.records.specs.Passes.{rawOf, seenBy, Passed};
 ghost use Rattle.records.specs.PlanPasses.{planReading, headingRead, headingFrom, headingsBy, withHeadings};
 
+// The bits, the roster relation, the base-chain citation, and the place after it.
 pub enum HeadingSeen {
     Got(u8, u8, u8, usize),
     Bad,

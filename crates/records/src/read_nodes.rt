@@ -21,7 +21,7 @@ ghost use Rattle.records.specs.Readers.{mapRead};
 ghost use Rattle.records.specs.Passes.{rawOf, seenBy, Passed};
 ghost use Rattle.records.specs.PlanPasses.{planReading, nodeSeen, nodeRead, nodeFits, nodesOf, withNodes};
 
-// `ands`, `ors` with their counts: where the children stand
+// The bits, a literal, a fact; where the children of And stand and how many there are, the same of Or; the child of Not, and the place after it.
 pub enum NodeSeen {
     Got(u8, u8, u8, usize, u8, usize, u8, u8, usize),
     Bad,

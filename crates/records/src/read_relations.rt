@@ -14,6 +14,7 @@ ghost use Rattle.records.specs.Readers.{mapRead};
 ghost use Rattle.records.specs.Passes.{rawOf, seenBy, Passed};
 ghost use Rattle.records.specs.CasePasses.{caseReading, relationRead, relationBy, relationsOf, withRelations};
 
+// The bits, the relation, and the place after it.
 pub enum RelationSeen {
     Got(u8, Relation, usize),
     Bad,

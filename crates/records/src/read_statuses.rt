@@ -14,6 +14,7 @@ ghost use Rattle.records.specs.Readers.{mapRead};
 ghost use Rattle.records.specs.Passes.{rawOf, seenBy, Passed};
 ghost use Rattle.records.specs.PlanPasses.{planReading, statusRead, statusFrom, statusesOf, withStatuses};
 
+// The bits, the status, and the place after it.
 pub enum StatusSeen {
     Got(u8, Status, usize),
     Bad,
