@@ -14,6 +14,7 @@ use Rattle.records.specs.Decoded.{given}
 use Rattle.records.specs.Readers.{span}
 use Rattle.records.specs.Passes.{Seen, Reading}
 use Rattle.records.specs.declared.plan.Edges.{Edges}
+use Rattle.records.specs.declared.read_edges.EdgeFields.{EdgeFields}
 use Rattle.records.specs.declared.read_edges.EdgeSeen.{EdgeSeen}
 use Rattle.records.specs.declared.read_edges.EdgeSeen.the-variants as edge
 use Rattle.records.specs.declared.plan.Bars.{Bars}
@@ -31,9 +32,11 @@ use Rattle.records.specs.declared.plan.Facts.{Facts}
 use Rattle.records.specs.declared.read_facts.FactSeen.{FactSeen}
 use Rattle.records.specs.declared.read_facts.FactSeen.the-variants as fact
 use Rattle.records.specs.declared.plan.Nodes.{Nodes}
+use Rattle.records.specs.declared.read_nodes.NodeFields.{NodeFields}
 use Rattle.records.specs.declared.read_nodes.NodeSeen.{NodeSeen}
 use Rattle.records.specs.declared.read_nodes.NodeSeen.the-variants as node
 use Rattle.records.specs.declared.plan.Cuts.{Cuts}
+use Rattle.records.specs.declared.read_cuts.CutFields.{CutFields}
 use Rattle.records.specs.declared.read_cuts.CutSeen.{CutSeen}
 use Rattle.records.specs.declared.read_cuts.CutSeen.the-variants as cut
 use Rattle.records.specs.declared.plan.Decisions.{Decisions}
@@ -56,14 +59,20 @@ withEdges P es = record { headings = P .headings; facts = P .facts; nodes = P .n
 abbrev pub edgesOf : Edges → List Edge
 edgesOf x = map decoded.edgeOf (take (x .count) (x .items))
 
+abbrev pub edgeSeen : List ℕ → ℕ → EdgeFields → Edge
+edgeSeen s bits x =
+    record { left = x .left; right = x .right; condition = x .condition; citation = x .citation; defeaters = span s (x .first) (x .count); combination = has bits 5 }
+
 abbrev pub edgeRead : List ℕ → EdgeSeen → Read (Seen Edge)
-edgeRead s (edge.Got bits left right condition citation at k n) =
-    got (record { bits = bits; item = record { left = left; right = right; condition = condition; citation = citation; defeaters = span s at k; combination = has bits 5 } }) n
+edgeRead s (edge.Got bits x n) = got (record { bits = bits; item = edgeSeen s bits x }) n
 edgeRead s edge.Bad = bad
 
-abbrev pub edgeFits : List ℕ → EdgeSeen → Type 0
-edgeFits s (edge.Got bits left right condition citation at k n) = (k ≤ 16) × (at + k ≤ length s)
-edgeFits s edge.Bad = Unit {0}
+abbrev pub edgeFits : List ℕ → EdgeFields → Type 0
+edgeFits s x = (x .count ≤ 16) × (x .first + x .count ≤ length s)
+
+abbrev pub edgeAnswerFits : List ℕ → EdgeSeen → Type 0
+edgeAnswerFits s (edge.Got bits x n) = edgeFits s x
+edgeAnswerFits s edge.Bad = Unit {0}
 
 -- ---- bars
 
@@ -153,18 +162,21 @@ withNodes P xs = record { headings = P .headings; facts = P .facts; nodes = xs; 
 abbrev pub nodesOf : Nodes → List Node
 nodesOf x = map decoded.nodeOf (take (x .count) (x .items))
 
-abbrev pub nodeSeen : List ℕ → ℕ → ℕ → ℕ → ℕ → ℕ → ℕ → ℕ → ℕ → Node
-nodeSeen s bits b f xs k ys m g =
-    cond (has bits 0) (literal b)
-    (cond (has bits 1) (paper.fact f) (cond (has bits 2) (conj (span s xs k)) (cond (has bits 3) (disj (span s ys m)) (neg g))))
+abbrev pub nodeSeen : List ℕ → ℕ → NodeFields → Node
+nodeSeen s bits x =
+    cond (has bits 0) (literal (x .literal))
+    (cond (has bits 1) (paper.fact (x .fact)) (cond (has bits 2) (conj (span s (x .ands) (x .conjuncts))) (cond (has bits 3) (disj (span s (x .ors) (x .disjuncts))) (neg (x .negated)))))
 
 abbrev pub nodeRead : List ℕ → NodeSeen → Read (Seen Node)
-nodeRead s (node.Got bits b f xs k ys m g n) = got (record { bits = bits; item = nodeSeen s bits b f xs k ys m g }) n
+nodeRead s (node.Got bits x n) = got (record { bits = bits; item = nodeSeen s bits x }) n
 nodeRead s node.Bad = bad
 
-abbrev pub nodeFits : List ℕ → NodeSeen → Type 0
-nodeFits s (node.Got bits b f xs k ys m g n) = (k ≤ 16) × (xs + k ≤ length s) × (m ≤ 16) × (ys + m ≤ length s)
-nodeFits s node.Bad = Unit {0}
+abbrev pub nodeFits : List ℕ → NodeFields → Type 0
+nodeFits s x = (x .conjuncts ≤ 16) × (x .ands + x .conjuncts ≤ length s) × (x .disjuncts ≤ 16) × (x .ors + x .disjuncts ≤ length s)
+
+abbrev pub nodeAnswerFits : List ℕ → NodeSeen → Type 0
+nodeAnswerFits s (node.Got bits x n) = nodeFits s x
+nodeAnswerFits s node.Bad = Unit {0}
 
 -- ---- cuts
 
@@ -174,24 +186,26 @@ withCuts P xs = record { headings = P .headings; facts = P .facts; nodes = P .no
 abbrev pub cutsOf : Cuts → List Cut
 cutsOf x = map decoded.cutOf (take (x .count) (x .items))
 
+abbrev pub cutSeen : List ℕ → CutFields → Cut
+cutSeen s x = record {
+  members = x .members;
+  condition = x .condition;
+  citation = x .citation;
+  election = decoded.electionOf (x .election);
+  decisions = decisionsOf (span s (x .pairs) (x .decided * 2));
+  precedes = span s (x .first) (x .count);
+}
+
 abbrev pub cutRead : List ℕ → CutSeen → Read (Seen Cut)
-cutRead s (cut.Got bits members condition citation e ps d at k n) =
-    got (record {
-      bits = bits;
-      item = record {
-        members = members;
-        condition = condition;
-        citation = citation;
-        election = decoded.electionOf e;
-        decisions = decisionsOf (span s ps (d * 2));
-        precedes = span s at k;
-      };
-    }) n
+cutRead s (cut.Got bits x n) = got (record { bits = bits; item = cutSeen s x }) n
 cutRead s cut.Bad = bad
 
-abbrev pub cutFits : List ℕ → CutSeen → Type 0
-cutFits s (cut.Got bits members condition citation e ps d at k n) = (d ≤ 64) × (ps + d * 2 ≤ length s) × (k ≤ 16) × (at + k ≤ length s)
-cutFits s cut.Bad = Unit {0}
+abbrev pub cutFits : List ℕ → CutFields → Type 0
+cutFits s x = (x .decided ≤ 64) × (x .pairs + x .decided * 2 ≤ length s) × (x .count ≤ 16) × (x .first + x .count ≤ length s)
+
+abbrev pub cutAnswerFits : List ℕ → CutSeen → Type 0
+cutAnswerFits s (cut.Got bits x n) = cutFits s x
+cutAnswerFits s cut.Bad = Unit {0}
 
 -- the decisions from number i on
 abbrev pub decisionsFrom : Decisions → ℕ → List Decision

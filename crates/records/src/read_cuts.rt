@@ -30,17 +30,29 @@ ghost use Rattle.records.specs.Sets.{allOf};
 ghost use Rattle.records.specs.Plan as paper;
 ghost use Rattle.records.specs.Readers.{mapRead};
 ghost use Rattle.records.specs.Passes.{rawOf, seenBy, Passed};
-ghost use Rattle.records.specs.PlanPasses.{planReading, cutRead, cutFits, cutsOf, withCuts};
+ghost use Rattle.records.specs.Decoded.{cutOf};
+ghost use Rattle.records.specs.PlanPasses.{planReading, cutRead, cutFits, cutsOf, withCuts, cutSeen, cutAnswerFits};
 
-// The bits, members, condition, citation and election; where the decisions stand and how many there are, the same of the cuts that it
-// precedes; and the place after them.
+// The fields of a cut; where the decisions stand and how many there are, the same of the cuts that it precedes.
+pub struct CutFields {
+    pub members: u64,
+    pub condition: u8,
+    pub citation: u8,
+    pub election: Election,
+    pub pairs: usize,
+    pub decided: u8,
+    pub first: usize,
+    pub count: u8,
+}
+
+// The bits, the fields, and the place after them.
 pub enum CutSeen {
-    Got(u8, u64, u8, u8, Election, usize, u8, usize, u8, usize),
+    Got(u8, CutFields, usize),
     Bad,
 }
 
 pub fn cut_at(s: &[u8], at: usize) -> CutSeen
-    ensures { λ r. ⌜ (cutRead (now (s .entry)) r ≡ mapRead (seenBy paper.cutOf) (rawOf paper.planFormats 5 (now (s .entry)) at)) × cutFits (now (s .entry)) r ⌝ }
+    ensures { λ r. ⌜ (cutRead (now (s .entry)) r ≡ mapRead (seenBy paper.cutOf) (rawOf paper.planFormats 5 (now (s .entry)) at)) × cutAnswerFits (now (s .entry)) r ⌝ }
 {
     let Field::Got(bits, p) = byte_at(s, at, 0, 255) else {
         return CutSeen::Bad;
@@ -64,20 +76,36 @@ pub fn cut_at(s: &[u8], at: usize) -> CutSeen
         return CutSeen::Bad;
     };
     if bits / 64 == 0 {
-        return CutSeen::Got(
-            bits,
-            members,
-            condition,
-            citation,
-            election,
-            pairs,
-            decided,
-            first,
-            count,
-            next,
-        );
+        let fields = CutFields {
+            members: members,
+            condition: condition,
+            citation: citation,
+            election: election,
+            pairs: pairs,
+            decided: decided,
+            first: first,
+            count: count,
+        };
+        return CutSeen::Got(bits, fields, next);
     }
     CutSeen::Bad
+}
+
+fn cut_from(s: &[u8], fields: CutFields) -> Cut
+    requires { ⌜ cutFits (now s) fields ⌝ }
+    ensures { λ r. ⌜ (cutOf r ≡ cutSeen (now (s .entry)) fields) × (r .decisions .count ≤ 64) ⌝ }
+{
+    let decisions = decisions_from(s, fields.pairs, fields.decided);
+    let precedes = numbers_from(s, fields.first, fields.count);
+    let election = fields.election;
+    Cut {
+        members: fields.members,
+        condition: fields.condition,
+        citation: fields.citation,
+        election: election,
+        decisions: decisions,
+        precedes: precedes,
+    }
 }
 
 // number 0: all were read, and `at` is the place after them
@@ -130,18 +158,7 @@ pub fn read_cuts(s: &[u8], start: usize, before: usize, headed: bool) -> CutsRea
         if s[at] != 5 {
             break;
         }
-        let CutSeen::Got(
-            bits,
-            members,
-            condition,
-            citation,
-            election,
-            pairs,
-            decided,
-            first,
-            count,
-            next,
-        ) = cut_at(s, at + 1) else {
+        let CutSeen::Got(bits, fields, next) = cut_at(s, at + 1) else {
             return CutsRead {
                 number: 1,
                 record: k,
@@ -150,16 +167,11 @@ pub fn read_cuts(s: &[u8], start: usize, before: usize, headed: bool) -> CutsRea
             };
         };
         let n = cuts.count;
-        let decisions = decisions_from(s, pairs, decided);
+        let cut = cut_from(s, fields);
+        let decisions = cut.decisions;
         let total = pending + unresolved_in(decisions);
-        let number = judged(
-            n,
-            16,
-            16 < total,
-            bits & 7 == 7,
-            headed,
-            decided_once(decisions),
-        );
+        let once = decided_once(decisions);
+        let number = judged(n, 16, 16 < total, bits & 7 == 7, headed, once);
         if number != 0 {
             return CutsRead {
                 number: number,
@@ -168,15 +180,7 @@ pub fn read_cuts(s: &[u8], start: usize, before: usize, headed: bool) -> CutsRea
                 cuts: cuts,
             };
         }
-        let precedes = numbers_from(s, first, count);
-        cuts.items[n] = Cut {
-            members: members,
-            condition: condition,
-            citation: citation,
-            election: election,
-            decisions: decisions,
-            precedes: precedes,
-        };
+        cuts.items[n] = cut;
         cuts.count = n + 1;
         pending = total;
         at = next;

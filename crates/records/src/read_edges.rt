@@ -16,16 +16,27 @@ ghost use lib.ListN.{length};
 ghost use Rattle.records.specs.Plan as paper;
 ghost use Rattle.records.specs.Readers.{mapRead};
 ghost use Rattle.records.specs.Passes.{rawOf, seenBy, Passed};
-ghost use Rattle.records.specs.PlanPasses.{planReading, edgeRead, edgeFits, edgesOf, withEdges};
+ghost use Rattle.records.specs.Decoded.{edgeOf};
+ghost use Rattle.records.specs.PlanPasses.{planReading, edgeRead, edgeFits, edgesOf, withEdges, edgeSeen, edgeAnswerFits};
 
-// The bits, left, right, condition and citation; where the defeaters stand and how many there are; and the place after them.
+// The fields of an edge; `first` and `count`: where the defeaters stand, and how many there are.
+pub struct EdgeFields {
+    pub left: u8,
+    pub right: u8,
+    pub condition: u8,
+    pub citation: u8,
+    pub first: usize,
+    pub count: u8,
+}
+
+// The bits, the fields, and the place after them.
 pub enum EdgeSeen {
-    Got(u8, u8, u8, u8, u8, usize, u8, usize),
+    Got(u8, EdgeFields, usize),
     Bad,
 }
 
 pub fn edge_at(s: &[u8], at: usize) -> EdgeSeen
-    ensures { λ r. ⌜ (edgeRead (now (s .entry)) r ≡ mapRead (seenBy paper.edgeOf) (rawOf paper.planFormats 4 (now (s .entry)) at)) × edgeFits (now (s .entry)) r ⌝ }
+    ensures { λ r. ⌜ (edgeRead (now (s .entry)) r ≡ mapRead (seenBy paper.edgeOf) (rawOf paper.planFormats 4 (now (s .entry)) at)) × edgeAnswerFits (now (s .entry)) r ⌝ }
 {
     let Field::Got(bits, p) = byte_at(s, at, 0, 255) else {
         return EdgeSeen::Bad;
@@ -46,9 +57,32 @@ pub fn edge_at(s: &[u8], at: usize) -> EdgeSeen
         return EdgeSeen::Bad;
     };
     if bits / 64 == 0 {
-        return EdgeSeen::Got(bits, left, right, condition, citation, first, count, next);
+        let fields = EdgeFields {
+            left: left,
+            right: right,
+            condition: condition,
+            citation: citation,
+            first: first,
+            count: count,
+        };
+        return EdgeSeen::Got(bits, fields, next);
     }
     EdgeSeen::Bad
+}
+
+fn edge_from(s: &[u8], bits: u8, fields: EdgeFields) -> Edge
+    requires { ⌜ edgeFits (now s) fields ⌝ }
+    ensures { λ r. ⌜ edgeOf r ≡ edgeSeen (now (s .entry)) bits fields ⌝ }
+{
+    let defeaters = numbers_from(s, fields.first, fields.count);
+    Edge {
+        left: fields.left,
+        right: fields.right,
+        condition: fields.condition,
+        citation: fields.citation,
+        defeaters: defeaters,
+        combination: bits / 32 % 2 == 1,
+    }
 }
 
 // number 0: all were read, and `at` is the place after them
@@ -93,10 +127,7 @@ pub fn read_edges(s: &[u8], start: usize, before: usize, headed: bool) -> EdgesR
         if s[at] != 4 {
             break;
         }
-        let EdgeSeen::Got(bits, left, right, condition, citation, first, count, next) = edge_at(
-            s,
-            at + 1,
-        ) else {
+        let EdgeSeen::Got(bits, fields, next) = edge_at(s, at + 1) else {
             return EdgesRead {
                 number: 1,
                 record: k,
@@ -114,15 +145,7 @@ pub fn read_edges(s: &[u8], start: usize, before: usize, headed: bool) -> EdgesR
                 edges: edges,
             };
         }
-        let defeaters = numbers_from(s, first, count);
-        edges.items[n] = Edge {
-            left: left,
-            right: right,
-            condition: condition,
-            citation: citation,
-            defeaters: defeaters,
-            combination: bits / 32 % 2 == 1,
-        };
+        edges.items[n] = edge_from(s, bits, fields);
         edges.count = n + 1;
         at = next;
         k = k + 1;

@@ -19,16 +19,27 @@ ghost use Rattle.records.specs.Plan as paper;
 ghost use Rattle.records.specs.Decoded as decoded;
 ghost use Rattle.records.specs.Readers.{mapRead};
 ghost use Rattle.records.specs.Passes.{rawOf, seenBy, Passed};
-ghost use Rattle.records.specs.PlanPasses.{planReading, nodeSeen, nodeRead, nodeFits, nodesOf, withNodes};
+ghost use Rattle.records.specs.PlanPasses.{planReading, nodeSeen, nodeRead, nodeFits, nodeAnswerFits, nodesOf, withNodes};
 
-// The bits, a literal, a fact; where the children of And stand and how many there are, the same of Or; the child of Not, and the place after it.
+// The fields of a node, each 0 without its bit; where the children of And and of Or stand, and how many there are.
+pub struct NodeFields {
+    pub literal: u8,
+    pub fact: u8,
+    pub ands: usize,
+    pub conjuncts: u8,
+    pub ors: usize,
+    pub disjuncts: u8,
+    pub negated: u8,
+}
+
+// The bits, the fields, and the place after them.
 pub enum NodeSeen {
-    Got(u8, u8, u8, usize, u8, usize, u8, u8, usize),
+    Got(u8, NodeFields, usize),
     Bad,
 }
 
 pub fn node_at(s: &[u8], at: usize) -> NodeSeen
-    ensures { λ r. ⌜ (nodeRead (now (s .entry)) r ≡ mapRead (seenBy paper.nodeOf) (rawOf paper.planFormats 3 (now (s .entry)) at)) × nodeFits (now (s .entry)) r ⌝ }
+    ensures { λ r. ⌜ (nodeRead (now (s .entry)) r ≡ mapRead (seenBy paper.nodeOf) (rawOf paper.planFormats 3 (now (s .entry)) at)) × nodeAnswerFits (now (s .entry)) r ⌝ }
 {
     let Field::Got(bits, p) = byte_at(s, at, 0, 255) else {
         return NodeSeen::Bad;
@@ -39,35 +50,34 @@ pub fn node_at(s: &[u8], at: usize) -> NodeSeen
     let Field::Got(fact, p1) = opt_at(s, p0, bits / 2 % 2 == 1, 0, 255) else {
         return NodeSeen::Bad;
     };
-    let Listed::Got(ands, andc, p2) = list_at(s, p1, bits / 4 % 2 == 1, 16, 255) else {
+    let Listed::Got(ands, conjuncts, p2) = list_at(s, p1, bits / 4 % 2 == 1, 16, 255) else {
         return NodeSeen::Bad;
     };
-    let Listed::Got(ors, orc, p3) = list_at(s, p2, bits / 8 % 2 == 1, 16, 255) else {
+    let Listed::Got(ors, disjuncts, p3) = list_at(s, p2, bits / 8 % 2 == 1, 16, 255) else {
         return NodeSeen::Bad;
     };
     let Field::Got(negated, next) = opt_at(s, p3, bits / 16 % 2 == 1, 0, 255) else {
         return NodeSeen::Bad;
     };
     if bits / 32 == 0 {
-        return NodeSeen::Got(bits, literal, fact, ands, andc, ors, orc, negated, next);
+        let fields = NodeFields {
+            literal: literal,
+            fact: fact,
+            ands: ands,
+            conjuncts: conjuncts,
+            ors: ors,
+            disjuncts: disjuncts,
+            negated: negated,
+        };
+        return NodeSeen::Got(bits, fields, next);
     }
     NodeSeen::Bad
 }
 
 // the node that the lowest bit says
-fn node_from(
-    s: &[u8],
-    bits: u8,
-    literal: u8,
-    fact: u8,
-    ands: usize,
-    andc: u8,
-    ors: usize,
-    orc: u8,
-    negated: u8,
-) -> Node
-    requires { ⌜ (andc ≤ 16) × (ands + andc ≤ length (now s)) × (orc ≤ 16) × (ors + orc ≤ length (now s)) ⌝ }
-    ensures { λ r. ⌜ decoded.nodeOf r ≡ nodeSeen (now (s .entry)) bits literal fact ands andc ors orc negated ⌝ }
+fn node_from(s: &[u8], bits: u8, fields: NodeFields) -> Node
+    requires { ⌜ nodeFits (now s) fields ⌝ }
+    ensures { λ r. ⌜ decoded.nodeOf r ≡ nodeSeen (now (s .entry)) bits fields ⌝ }
 {
     let none = Numbers {
         count: 0,
@@ -76,19 +86,19 @@ fn node_from(
     if bits % 2 == 1 {
         return Node {
             sort: 0,
-            number: literal,
+            number: fields.literal,
             children: none,
         };
     }
     if bits / 2 % 2 == 1 {
         return Node {
             sort: 1,
-            number: fact,
+            number: fields.fact,
             children: none,
         };
     }
     if bits / 4 % 2 == 1 {
-        let children = numbers_from(s, ands, andc);
+        let children = numbers_from(s, fields.ands, fields.conjuncts);
         return Node {
             sort: 2,
             number: 0,
@@ -96,7 +106,7 @@ fn node_from(
         };
     }
     if bits / 8 % 2 == 1 {
-        let children = numbers_from(s, ors, orc);
+        let children = numbers_from(s, fields.ors, fields.disjuncts);
         return Node {
             sort: 3,
             number: 0,
@@ -105,7 +115,7 @@ fn node_from(
     }
     Node {
         sort: 4,
-        number: negated,
+        number: fields.negated,
         children: none,
     }
 }
@@ -155,10 +165,7 @@ pub fn read_nodes(s: &[u8], start: usize, before: usize, headed: bool) -> NodesR
         if s[at] != 3 {
             break;
         }
-        let NodeSeen::Got(bits, literal, fact, ands, andc, ors, orc, negated, next) = node_at(
-            s,
-            at + 1,
-        ) else {
+        let NodeSeen::Got(bits, fields, next) = node_at(s, at + 1) else {
             return NodesRead {
                 number: 1,
                 record: k,
@@ -176,7 +183,7 @@ pub fn read_nodes(s: &[u8], start: usize, before: usize, headed: bool) -> NodesR
                 nodes: nodes,
             };
         }
-        nodes.items[n] = node_from(s, bits, literal, fact, ands, andc, ors, orc, negated);
+        nodes.items[n] = node_from(s, bits, fields);
         nodes.count = n + 1;
         at = next;
         k = k + 1;

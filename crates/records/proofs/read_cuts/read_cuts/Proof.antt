@@ -16,7 +16,7 @@ use Rattle.records.proofs.LoopLaws.{length-made}
 use Rattle.records.proofs.Reading.{seen}
 use Rattle.records.proofs.Passing.{Going, going, ends-short, ends-other, refused-bad, refused-judged, goes-on, goes-later}
 use Rattle.records.proofs.DecisionLaws.{unresolved-more, all-more}
-use Rattle.records.proofs.KindLaws.{cutKind, once, needs-test, made-more, judge-same, is-sound, not-over, cut-is}
+use Rattle.records.proofs.KindLaws.{cutKind, once, needs-test, made-more, judge-same, is-sound, not-over}
 use Rattle.records.specs.Fields as fields
 use Rattle.records.specs.Plan as paper
 use borrow.Author.Needs.{needs}
@@ -72,47 +72,46 @@ returns c =
       i .6,
     )
 
-decisions-from-requires : tie.Need-decisions-from-requires Inv-loop μ-loop
-decisions-from-requires c κs = let f = rw (c .before .bits .given .1) at (c .before .before .before .cut-at .ensures .1) in (f .0, f .1)
+cut-from-requires : tie.Need-cut-from-requires Inv-loop μ-loop
+cut-from-requires c κs = let f = rw (c .before .bits .given .1) at (c .before .before .before .cut-at .ensures .1) in (f .0, f .1, f .2, f .3)
 
 unresolved-in-requires : tie.Need-unresolved-in-requires Inv-loop μ-loop
-unresolved-in-requires c κs = let f = rw (c .before .before .bits .given .1) at (c .before .before .before .before .cut-at .ensures .1) in omega (arith, f .0, c .decisions-from .ensures .1)
+unresolved-in-requires c κs = c .before .cut-from .ensures .1
 
 add-total : tie.Need-add-total Inv-loop μ-loop
-add-total c = let h = c .unresolved-in .ensures in let i = c .before .before .before .before .before .before .before .before .before .loop .inv in search (needs, h .1, i .5)
+add-total c = let h = c .unresolved-in .ensures in let i = c .before .before .before .before .before .before .before .before .before .before .loop .inv in search (needs, h .1, i .5)
 
 decided-once-requires : tie.Need-decided-once-requires Inv-loop μ-loop
-decided-once-requires c κs = let f = rw (c .before .before .before .bits .given .1) at (c .before .before .before .before .before .cut-at .ensures .1) in omega (arith, f .0, c .before .decisions-from .ensures .1)
+decided-once-requires c κs = c .before .before .cut-from .ensures .1
 
 judged-requires : tie.Need-judged-requires Inv-loop μ-loop
 judged-requires c κs = search needs
 
 returns-2 : tie.Need-returns-2 Inv-loop μ-loop
+unfolding cutOf
 returns-2 c =
-    let l = c .before .before .before .before .before .before .before .before .before .before .before .before .loop .cuts in
-    let i = c .before .before .before .before .before .before .before .before .before .before .before .before .loop .inv in
-    let b = c .before .before .before .before .before .before .bits .given .0 .0 in
-    let u = c .before .before .before .unresolved-in .ensures .0 ∙ ap paper.unresolvedIn (c .before .before .before .before .decisions-from .ensures .0) in
+    let l = c .before .before .before .before .before .before .before .before .before .before .before .before .before .loop .cuts in
+    let i = c .before .before .before .before .before .before .before .before .before .before .before .before .before .loop .inv in
+    let b = c .before .before .before .before .before .before .before .bits .given .0 .0 in
+    let e = ap (λ (y : paper.Cut). y .decisions) (c .before .before .before .before .before .cut-from .ensures .0) in
+    let u = c .before .before .before .unresolved-in .ensures .0 ∙ ap paper.unresolvedIn e in
     let o = ap₂ (λ (x y : ℕ). ltb 16 (x + y)) (i .4) u in
-    let d = c .before .before .decided-once .ensures ∙ ap paper.decidedOnce (c .before .before .before .before .decisions-from .ensures .0) in
-    let j = judge-same 16 (l .count) (length (cutsOf l)) _ _ _ (fields.needs 7 b) (c .before .before .before .before .before .before .before .before .before .before .before .before .before .before .before .args .headed) _ _ (c .before .judged .ensures .0) (length-made cutOf (l .items) (l .count) (omega (arith, i .1, i .2))) o (needs-test b 7) d in (
-      refused-judged cutKind _ _ _ _ (i .3) (i .0) (c .before .before .before .before .before .before .before .before .before .before .before .loop-test .taken) (c .before .before .before .before .before .before .before .before .before .if1 .left) (i .6) (seen (cutRead (now (c .before .before .before .before .before .before .before .before .before .before .before .before .before .before .before .args .s))) (c .before .before .before .before .before .before .before .before .cut-at .ensures .0) (c .before .before .before .before .before .before .bits .given .1)) _ j (c .if2 .taken),
+    let d = c .before .before .decided-once .ensures ∙ ap paper.decidedOnce e in
+    let j = judge-same 16 (l .count) (length (cutsOf l)) _ _ _ (fields.needs 7 b) (c .before .before .before .before .before .before .before .before .before .before .before .before .before .before .before .before .args .headed) _ _ (c .before .judged .ensures .0) (length-made cutOf (l .items) (l .count) (omega (arith, i .1, i .2))) o (needs-test b 7) d in (
+      refused-judged cutKind _ _ _ _ (i .3) (i .0) (c .before .before .before .before .before .before .before .before .before .before .before .before .loop-test .taken) (c .before .before .before .before .before .before .before .before .before .before .if1 .left) (i .6) (seen (cutRead (now (c .before .before .before .before .before .before .before .before .before .before .before .before .before .before .before .before .args .s))) (c .before .before .before .before .before .before .before .before .before .cut-at .ensures .0) (c .before .before .before .before .before .before .before .bits .given .1)) _ j (c .if2 .taken),
       i .0,
-      ap (ltb 16) (sym (i .4)) ∙ le-ltb 16 (c .before .before .before .before .before .before .before .before .before .before .before .before .loop .pending) (i .5),
+      ap (ltb 16) (sym (i .4)) ∙ le-ltb 16 (c .before .before .before .before .before .before .before .before .before .before .before .before .before .loop .pending) (i .5),
       i .6,
     )
 
-numbers-from-requires : tie.Need-numbers-from-requires Inv-loop μ-loop
-numbers-from-requires c κs = let f = rw (c .before .before .before .before .before .before .bits .given .1) at (c .before .before .before .before .before .before .before .before .cut-at .ensures .1) in (f .2, f .3)
+mul-cut : tie.Need-mul-cut Inv-loop μ-loop
+mul-cut c = search needs
 
-mul-t25 : tie.Need-mul-t25 Inv-loop μ-loop
-mul-t25 c = search needs
-
-element-set-from-cuts : tie.Need-element-set-from-cuts Inv-loop μ-loop
-element-set-from-cuts c = let h = c .before .before .judged .ensures .1 (c .before .if2 .left) in search (needs, h)
+element-set-from-cut : tie.Need-element-set-from-cut Inv-loop μ-loop
+element-set-from-cut c = let h = c .before .judged .ensures .1 (c .if2 .left) in search (needs, h)
 
 add-cuts : tie.Need-add-cuts Inv-loop μ-loop
-add-cuts c = let h = c .before .before .judged .ensures .1 (c .before .if2 .left) in search (needs, h)
+add-cuts c = let h = c .before .judged .ensures .1 (c .if2 .left) in search (needs, h)
 
 add-k : tie.Need-add-k Inv-loop μ-loop
 add-k c = let h : mir.Val.Fits mir.Syntax.w64 (c .before .before .before .before .before .before .before .before .before .before .before .before .before .loop .at + 1) = add-cut-at (c .before .before .before .before .before .before .before .before .before .before) in record { fits = omega (arith, h .fits, c .before .before .before .before .before .before .before .before .before .before .before .before .before .loop .inv .0) }
@@ -124,28 +123,29 @@ loop-less c =
     omega (arith, z)
 
 loop-again : tie.Need-loop-again Inv-loop μ-loop
+unfolding cutOf
 loop-again c =
     let l = c .before .before .before .before .before .before .before .before .before .before .before .before .before .loop .cuts in
     let i = c .before .before .before .before .before .before .before .before .before .before .before .before .before .loop .inv in
     let b = c .before .before .before .before .before .before .before .bits .given .0 .0 in
     let f = seen (cutRead (now (c .before .before .before .before .before .before .before .before .before .before .before .before .before .before .before .before .args .s))) (c .before .before .before .before .before .before .before .before .before .cut-at .ensures .0) (c .before .before .before .before .before .before .before .bits .given .1) in
     let z = goes-later cutKind _ _ _ _ (i .3) (i .0) (c .before .before .before .before .before .before .before .before .before .before .before .before .loop-test .taken) (c .before .before .before .before .before .before .before .before .before .before .if1 .left) (i .6) f in
-    let h = c .before .before .judged .ensures .1 (c .before .if2 .left) in
-    let u = c .before .before .before .before .unresolved-in .ensures .0 ∙ ap paper.unresolvedIn (c .before .before .before .before .before .decisions-from .ensures .0) in
+    let h = c .before .judged .ensures .1 (c .if2 .left) in
+    let e = ap (λ (y : paper.Cut). y .decisions) (c .before .before .before .before .before .cut-from .ensures .0) in
+    let u = c .before .before .before .unresolved-in .ensures .0 ∙ ap paper.unresolvedIn e in
     let o = ap₂ (λ (x y : ℕ). ltb 16 (x + y)) (i .4) u in
-    let d = c .before .before .before .decided-once .ensures ∙ ap paper.decidedOnce (c .before .before .before .before .before .decisions-from .ensures .0) in
-    let j = judge-same 16 (l .count) (length (cutsOf l)) _ _ _ (fields.needs 7 b) (c .before .before .before .before .before .before .before .before .before .before .before .before .before .before .before .before .args .headed) _ _ (c .before .before .judged .ensures .0) (length-made cutOf (l .items) (l .count) (omega (arith, i .1, i .2))) o (needs-test b 7) d in
-    let q = sym (c .before .before .judged .ensures .0) ∙ c .before .if2 .left in
-    let over = not-over 16 (l .count) (ltb 16 (c .before .before .before .before .before .before .before .before .before .before .before .before .before .loop .pending + c .before .before .before .before .unresolved-in .result)) (eqb (bitAnd b 7) 7 && c .before .before .before .before .before .before .before .before .before .before .before .before .before .before .before .before .args .headed) (c .before .before .before .decided-once .result) q in
-    let sound = is-sound 16 (l .count) (ltb 16 (c .before .before .before .before .before .before .before .before .before .before .before .before .before .loop .pending + c .before .before .before .before .unresolved-in .result)) (eqb (bitAnd b 7) 7 && c .before .before .before .before .before .before .before .before .before .before .before .before .before .before .before .before .args .headed) (c .before .before .before .decided-once .result) q in
-    let more = made-more cutOf (l .items) (l .count) _ (omega (arith, i .2, h)) ∙ ap (λ (y : paper.Cut). cutsOf l ++ (y ∷ []))
-    (cut-is (c .before .before .before .before .before .before .before .bits .given .0 .1 .0) (c .before .before .before .before .before .before .before .bits .given .0 .1 .1 .0) (c .before .before .before .before .before .before .before .bits .given .0 .1 .1 .1 .0) (c .before .before .before .before .before .before .before .bits .given .0 .1 .1 .1 .1 .0) (c .before .before .before .before .before .decisions-from .result) (c .numbers-from .result) (c .before .before .before .before .before .decisions-from .ensures .0) (c .numbers-from .ensures)) in (
+    let d = c .before .before .decided-once .ensures ∙ ap paper.decidedOnce e in
+    let j = judge-same 16 (l .count) (length (cutsOf l)) _ _ _ (fields.needs 7 b) (c .before .before .before .before .before .before .before .before .before .before .before .before .before .before .before .before .args .headed) _ _ (c .before .judged .ensures .0) (length-made cutOf (l .items) (l .count) (omega (arith, i .1, i .2))) o (needs-test b 7) d in
+    let q = sym (c .before .judged .ensures .0) ∙ c .if2 .left in
+    let over = not-over 16 (l .count) (ltb 16 (c .before .before .before .before .before .before .before .before .before .before .before .before .before .loop .pending + c .before .before .before .unresolved-in .result)) (eqb (bitAnd b 7) 7 && c .before .before .before .before .before .before .before .before .before .before .before .before .before .before .before .before .args .headed) (c .before .before .decided-once .result) q in
+    let sound = is-sound 16 (l .count) (ltb 16 (c .before .before .before .before .before .before .before .before .before .before .before .before .before .loop .pending + c .before .before .before .unresolved-in .result)) (eqb (bitAnd b 7) 7 && c .before .before .before .before .before .before .before .before .before .before .before .before .before .before .before .before .args .headed) (c .before .before .decided-once .result) q in
+    let more = made-more cutOf (l .items) (l .count) (c .before .before .before .before .before .cut-from .result) (omega (arith, i .2, h)) ∙ ap (λ (y : paper.Cut). cutsOf l ++ (y ∷ [])) (c .before .before .before .before .before .cut-from .ensures .0) in (
       omega (arith, z),
       omega (arith, h),
       rw length-set (i .2),
-      goes-on cutKind _ _ _ _ (i .3) (i .0) (c .before .before .before .before .before .before .before .before .before .before .before .before .loop-test .taken) (c .before .before .before .before .before .before .before .before .before .before .if1 .left) (i .6) f _ j (c .before .if2 .left) _ more,
+      goes-on cutKind _ _ _ _ (i .3) (i .0) (c .before .before .before .before .before .before .before .before .before .before .before .before .loop-test .taken) (c .before .before .before .before .before .before .before .before .before .before .if1 .left) (i .6) f _ j (c .if2 .left) _ more,
       ap₂ _+_ (i .4) u ∙ sym (ap paper.unresolved more ∙ unresolved-more (cutsOf l) _),
-      ltb-false 16 (c .before .before .before .before .before .before .before .before .before .before .before .before .before .loop .pending + c .before .before .before .before .unresolved-in .result) over,
+      ltb-false 16 (c .before .before .before .before .before .before .before .before .before .before .before .before .before .loop .pending + c .before .before .before .unresolved-in .result) over,
       ap (allOf once) more ∙ all-more once (cutsOf l) _ ∙ ap₂ _&&_ (i .6) (sym d ∙ sound),
     )
 
@@ -173,15 +173,14 @@ read-cuts-spec =
     enum-known-bits
     enum-told
     returns
-    decisions-from-requires
+    cut-from-requires
     unresolved-in-requires
     add-total
     decided-once-requires
     judged-requires
     returns-2
-    numbers-from-requires
-    mul-t25
-    element-set-from-cuts
+    mul-cut
+    element-set-from-cut
     add-cuts
     add-k
     loop-less

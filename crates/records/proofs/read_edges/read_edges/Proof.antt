@@ -1,5 +1,6 @@
 -- The pass over the edges. Assumes nothing.
-use mathlib.Core.Path.{_≡_, refl, _∙_}
+use mathlib.Core.Path.{_≡_, refl, _∙_, ap}
+use mathlib.Core.List.{[], _∷_, _++_}
 use mathlib.Core.Bool.{true, false}
 use Prim.Native.Nat.{_-_, _≤_}
 use native.Mathlib.Omega.{arith}
@@ -63,11 +64,11 @@ returns-2 c =
     let j = judge-same 64 (l .count) (length (edgesOf l)) false false _ (fields.needs 15 (c .before .before .before .bits .given .0 .0)) (c .before .before .before .before .before .before .before .before .before .before .before .before .args .headed) true true (c .before .judged .ensures .0) (length-made edgeOf (l .items) (l .count) (omega (arith, i .1, i .2))) refl (needs-test (c .before .before .before .bits .given .0 .0) 15) refl in
     (refused-judged edgeKind _ _ _ _ (i .3) (i .0) (c .before .before .before .before .before .before .before .before .loop-test .taken) (c .before .before .before .before .before .before .if1 .left) tt (seen (edgeRead (now (c .before .before .before .before .before .before .before .before .before .before .before .before .args .s))) (c .before .before .before .before .before .edge-at .ensures .0) (c .before .before .before .bits .given .1)) _ j (c .if2 .taken), i .0)
 
-numbers-from-requires : tie.Need-numbers-from-requires Inv-loop μ-loop
-numbers-from-requires c κs = let f = rw (c .before .before .before .bits .given .1) at (c .before .before .before .before .before .edge-at .ensures .1) in (f .0, f .1)
+edge-from-requires : tie.Need-edge-from-requires Inv-loop μ-loop
+edge-from-requires c κs = let f = rw (c .before .before .before .bits .given .1) at (c .before .before .before .before .before .edge-at .ensures .1) in (f .0, f .1)
 
-mul-t20 : tie.Need-mul-t20 Inv-loop μ-loop
-mul-t20 c = search needs
+mul-t14 : tie.Need-mul-t14 Inv-loop μ-loop
+mul-t14 c = search needs
 
 element-set-from-edges : tie.Need-element-set-from-edges Inv-loop μ-loop
 element-set-from-edges c = let h = c .before .before .judged .ensures .1 (c .before .if2 .left) in search (needs, h)
@@ -85,7 +86,6 @@ loop-less c =
     omega (arith, z)
 
 loop-again : tie.Need-loop-again Inv-loop μ-loop
-unfolding edgeOf has
 loop-again c =
     let i = c .before .before .before .before .before .before .before .before .before .before .loop .inv in
     let l = c .before .before .before .before .before .before .before .before .before .before .loop .edges in
@@ -98,7 +98,7 @@ loop-again c =
       omega (arith, h),
       rw length-set (i .2),
       goes-on edgeKind _ _ _ _ (i .3) (i .0) (c .before .before .before .before .before .before .before .before .before .loop-test .taken) (c .before .before .before .before .before .before .before .if1 .left) tt f _ j (c .before .if2 .left) _
-          (made-more edgeOf (l .items) (l .count) _ (omega (arith, i .2, h)) ∙ rw (c .numbers-from .ensures, bit-test b 32)),
+          (made-more edgeOf (l .items) (l .count) _ (omega (arith, i .2, h)) ∙ ap (λ x. edgesOf l ++ (x ∷ [])) (c .edge-from .ensures)),
     )
 
 returns-3 : tie.Need-returns-3 Inv-loop μ-loop
@@ -127,8 +127,8 @@ read-edges-spec =
     returns
     judged-requires
     returns-2
-    numbers-from-requires
-    mul-t20
+    edge-from-requires
+    mul-t14
     element-set-from-edges
     add-edges
     add-k

@@ -69,8 +69,8 @@ returns-2 c =
 node-from-requires : tie.Need-node-from-requires Inv-loop μ-loop
 node-from-requires c κs = let f = rw (c .before .before .before .before .bits .given .1) at (c .before .before .before .before .before .before .node-at .ensures .1) in (f .0, f .1, f .2, f .3)
 
-mul-t20 : tie.Need-mul-t20 Inv-loop μ-loop
-mul-t20 c = search needs
+mul-t14 : tie.Need-mul-t14 Inv-loop μ-loop
+mul-t14 c = search needs
 
 element-set-from-nodes : tie.Need-element-set-from-nodes Inv-loop μ-loop
 element-set-from-nodes c = let h = c .before .before .judged .ensures .1 (c .before .if2 .left) in search (needs, h)
@@ -130,7 +130,7 @@ read-nodes-spec =
     judged-requires
     returns-2
     node-from-requires
-    mul-t20
+    mul-t14
     element-set-from-nodes
     add-nodes
     add-k
