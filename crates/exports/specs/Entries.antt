@@ -20,7 +20,8 @@ abbrev pub recordOf : {A : Type 0} → Verdict A → ℕ
 recordOf (fine a) = 0
 recordOf (refused n k) = k
 
--- ---- a plan, and a case over it
+-- ---- a plan, and a case over it: read, or refused by 1 to 7 of a plan, 1 to 4 of a case; a case that a later number refuses is read, and bound
+-- as it stands
 
 pub record Given : Type 0 where
   pub plan : Plan
@@ -35,7 +36,7 @@ given plan case = onFine (checkedPlan plan) (givenOver case)
 abbrev pub bindingsOf : Given → List Bound
 bindingsOf g = bindings (g .plan) (g .case)
 
--- how a case binds a fact: not at all where plan or case is refused
+-- how a case binds a fact: not at all where plan or case is not read
 abbrev pub boundIn : ℕ → Verdict Given → Bound
 boundIn f (fine g) = bindingAt (bindingsOf g) f
 boundIn f (refused n k) = unbound
@@ -43,7 +44,7 @@ boundIn f (refused n k) = unbound
 unfoldable pub bound : List ℕ → List ℕ → ℕ → Bound
 bound plan case f = boundIn f (given plan case)
 
--- the influence of each fact, then of each decision: none where plan or case is refused
+-- the influence of each fact, then of each decision: none where they are not read
 abbrev pub listed : Influence → List ℕ
 listed I = I .facts ++ I .decisions
 
@@ -76,7 +77,7 @@ variableCode bs s = slotCode s + 256 * choiceCode (choice bs s)
 unfoldable pub variableCodes : List Bound → List Slot → List ℕ
 variableCodes bs ss = map (variableCode bs) (varying bs ss)
 
--- "Order: booleans, decisions by cut and edge, relations": none where plan or case is refused
+-- "Order: booleans, decisions by cut and edge, relations": none where they are not read
 abbrev pub slotsIn : Verdict Given → List Slot
 slotsIn (fine g) = slots (g .plan)
 slotsIn (refused n k) = []
@@ -88,7 +89,7 @@ variablesIn (refused n k) = []
 unfoldable pub variables : List ℕ → List ℕ → List ℕ
 variables plan case = variablesIn (given plan case)
 
--- ---- the count of worlds before constraints and the heading's maximum, "both 2^64 − 1 from 2^64 on": zeros where plan or case is refused
+-- ---- the count of worlds before constraints and the heading's maximum, "both 2^64 − 1 from 2^64 on": zeros where they are not read
 
 abbrev pub nothingCounted : Count
 nothingCounted = record { refused = false; count = 0; maximum = 0 }

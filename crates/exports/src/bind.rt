@@ -25,7 +25,7 @@ ghost use Rattle.exports.specs.Entries.{given};
 ghost use Rattle.exports.specs.Binds.{Binds};
 
 // The code of each fact's binding, the influence of facts and decisions, the order of what a world gives values to, the count of worlds, and
-// the first refusal; nothing but the refusal where plan or case is refused.
+// the first refusal; nothing but the refusal where plan or case is not read.
 pub struct Bound {
     pub codes: [u8; 64],
     pub influence: Influence,

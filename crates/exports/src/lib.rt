@@ -34,7 +34,7 @@ pub extern "C" fn lukhveri_check(plan: &[u8], place: &mut u64) -> u8
     }
 }
 
-// How a case binds a fact, as a code: 0 for a fact that is not bound, and for every fact where plan or case is refused.
+// How a case binds a fact, as a code: 0 for a fact that is not bound, and for every fact where plan or case is not read.
 #[no_mangle]
 pub extern "C" fn lukhveri_binding(plan: &[u8], case: &[u8], fact: usize) -> u8
     ensures { λ r. ⌜ boundOf r ≡ bound (now (plan .entry)) (now (case .entry)) fact ⌝ }
@@ -54,7 +54,7 @@ pub extern "C" fn lukhveri_influence(plan: &[u8], case: &[u8], number: usize) ->
     set_at(influence, number)
 }
 
-// How many variables there are: none where plan or case is refused.
+// How many variables there are: none where plan or case is not read.
 #[no_mangle]
 pub extern "C" fn lukhveri_variables(plan: &[u8], case: &[u8]) -> usize
     ensures { λ r. ⌜ r ≡ length (variables (now (plan .entry)) (now (case .entry))) ⌝ }
@@ -73,7 +73,8 @@ pub extern "C" fn lukhveri_variable(plan: &[u8], case: &[u8], place: usize) -> u
     variable_at(listed, place)
 }
 
-// The count of worlds before constraints; behind the reference the heading's maximum; both 2^64 − 1 from 2^64 worlds on, and 0 where plan or case is refused.
+// The count of worlds before constraints; behind the reference the heading's maximum; both 2^64 − 1 from 2^64 worlds on, and 0 where plan or
+// case is not read.
 #[no_mangle]
 pub extern "C" fn lukhveri_worlds(plan: &[u8], case: &[u8], maximum: &mut u64) -> u64
     ensures { λ r.

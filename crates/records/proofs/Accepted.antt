@@ -14,13 +14,11 @@ use Rattle.records.specs.Plan.{Plan, Heading, Cut, planFormats, nodeOf, 
 use Rattle.records.specs.Sound.{All, SoundEdge, SoundCut, SoundAttachment, SoundBar, SoundStatus, SoundFact, Sound}
 use Rattle.records.proofs.Every.{all-any, exactly-one, all-both, all-parts, all-tested}
 use Rattle.records.proofs.FieldLaws.{InFormat}
-use Rattle.records.proofs.PlanParts.{factFrom, barFrom, statusFrom, nodes-sound, edge-sound, cut-sound, attachment-sound, bar-sound, status-sound, fact-sound}
+use Rattle.records.specs.Plan.{headingFrom, factFrom, barFrom, statusFrom}
+use Rattle.records.proofs.PlanParts.{nodes-sound, edge-sound, cut-sound, attachment-sound, bar-sound, status-sound, fact-sound}
 use Rattle.records.proofs.ReadLaws.{fine-then, of-fine, past-faults, faultless, Judged, Kept, read-keeps, Kind, kind-none, kind-joined, each-sound}
 
 -- ---- what each record keeps
-
-abbrev headingFrom : Raw → Heading
-headingFrom r = record { relation = num r 0; chain = field r 1 }
 
 -- the records of each kind come from such records, and are not too many
 record Kinds (P : Plan) : Type 0 where

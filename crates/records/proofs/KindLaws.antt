@@ -22,7 +22,8 @@ use Rattle.records.specs.declared.plan.Election.{Election}
 use Rattle.records.specs.declared.plan.Decisions.{Decisions}
 use Rattle.records.specs.declared.plan.Numbers.{Numbers}
 use Rattle.records.specs.Passes.{judgement}
-use Rattle.records.specs.PlanPasses.{Clean, planReading, factBits, headingFrom, factFrom, withHeadings, withFacts, withNodes, withCuts, withEdges, withAttachments, withBars, withStatuses, barFrom, statusFrom}
+use Rattle.records.specs.Plan.{factBits, headingFrom, factFrom, barFrom, statusFrom}
+use Rattle.records.specs.PlanPasses.{Clean, planReading, withHeadings, withFacts, withNodes, withCuts, withEdges, withAttachments, withBars, withStatuses}
 use Rattle.records.proofs.SetLaws.{has-zero, Within, antisym, of-meet, in-meet, subset-true, within-subset}
 use Rattle.records.proofs.Listing.{map-more}
 use Rattle.records.proofs.Chain.{raw, odd-test}

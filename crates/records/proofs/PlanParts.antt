@@ -10,20 +10,12 @@ use borrow.Author.Tests.{ltb-true}
 use Rattle.records.specs.Sets.{has, allOf}
 use Rattle.records.specs.Fields.{Raw, field, num, wide, number, citation, person, actor, upTo, bytes, list, fault}
 use Rattle.records.specs.Plan.{Plan, Fact, Node, literal, fact, conj, disj, neg, Decision, Bar, Status, planFormats, nodeOf, electionOf, decisionsOf, edgeOf, cutOf, attachmentOf, decidedOnce, eachFrom, booleanFact, nodeSound, edgeSound, electionSound, cutSound, attachmentSound, nodeNumber}
+use Rattle.records.specs.Plan.{factFrom, barFrom, statusFrom}
 use Rattle.records.specs.Sound.{All, SoundNode, SoundNodes, SoundElection, SoundEdge, SoundDecision, SoundCut, SoundAttachment, SoundBar, SoundStatus, SoundFact}
 use Rattle.records.proofs.Every.{all-both, all-tested, named}
 use Rattle.records.proofs.SetLaws.{and-parts}
 use Rattle.records.proofs.FieldLaws.{Held, held, byte-top, list-numbers, mask-below, pairs, list-pairs}
 use Rattle.records.proofs.ReadLaws.{not-faulty, OfKind, Made}
-
-abbrev pub factFrom : Raw → Fact
-factFrom r = record { family = field r 0; tuple = field r 1 }
-
-abbrev pub barFrom : Raw → Bar
-barFrom r = record { members = wide r 0; condition = num r 1; citation = num r 2 }
-
-abbrev pub statusFrom : Raw → Status
-statusFrom r = record { person = num r 0; condition = num r 1; citation = num r 2 }
 
 decisions-in : (v : List ℕ) → Held (list 64 (number ∷ record { low = 1; top = 3 } ∷ [])) v → (length (decisionsOf v) ≤ 64) × All (λ (x : Decision). x .verdict < 4) (decisionsOf v)
 unfolding pairs decisionsOf

@@ -72,13 +72,25 @@ observationsOf (v ∷ e ∷ bs) = record { value = v; evidence = e } ∷ observa
 abbrev pub headingOf : Raw → CaseHeading
 headingOf r = record { relation = num r 0; scope = num r 1; segment = num r 2; segmentComplete = has (r .bits) 3; roster = wide r 4; complete = field r 5; mostWorlds = wide r 6 }
 
+abbrev pub familyBy : Raw → Family
+familyBy r = record { number = num r 0; scope = num r 1; complete = field r 2 }
+
+abbrev pub booleanBy : Raw → Boolean
+booleanBy r = record { fact = num r 0; unknown = field r 1; observations = observationsOf (field r 2) }
+
+abbrev pub relationBy : Raw → Relation
+relationBy r = record { fact = num r 0; observation = record { value = num r 1; evidence = num r 2 } }
+
+abbrev pub constraintBy : Raw → ℕ
+constraintBy r = num r 0
+
 unfoldable pub addToCase : Raw → Case → Case
 addToCase r C = record {
   headings = joined 1 headingOf r (C .headings);
-  families = joined 2 (λ r. record { number = num r 0; scope = num r 1; complete = field r 2 }) r (C .families);
-  booleans = joined 3 (λ r. record { fact = num r 0; unknown = field r 1; observations = observationsOf (field r 2) }) r (C .booleans);
-  relations = joined 4 (λ r. record { fact = num r 0; observation = record { value = num r 1; evidence = num r 2 } }) r (C .relations);
-  constraints = joined 5 (λ r. num r 0) r (C .constraints);
+  families = joined 2 familyBy r (C .families);
+  booleans = joined 3 booleanBy r (C .booleans);
+  relations = joined 4 relationBy r (C .relations);
+  constraints = joined 5 constraintBy r (C .constraints);
 }
 
 unfoldable pub caseCounts : Case → List ℕ

@@ -10,7 +10,9 @@ use Rattle.records.specs.Sets.{allOf}
 use Rattle.records.specs.Plan as paper
 use Rattle.records.specs.Case as case
 use Rattle.records.specs.Decoded.{familyOf, booleanOf, relationOf}
-use Rattle.records.specs.Named.{factsOf, Tells}
+use Rattle.records.specs.PlanPasses.{factsOf}
+use Rattle.records.specs.CasePasses.{familiesOf, booleansOf, relationsOf, constraintsOf}
+use Rattle.records.specs.Named.{Tells}
 use Rattle.records.specs.declared.plan.Facts.{Facts}
 use Rattle.records.specs.declared.case.Families.{Families}
 use Rattle.records.specs.declared.case.Relation.{Relation}
@@ -35,9 +37,6 @@ pub record CaseCountLimits (r : CaseCounts) : Type 0 where
   pub relations : r .relations ≤ 256
   pub constraints : r .constraints ≤ 16
 
-abbrev pub familiesOf : Families → List case.Family
-familiesOf f = map familyOf (take (f .count) (f .items))
-
 abbrev pub sameFamily : ℕ → case.Family → Bool
 sameFamily n f = allOf (eqb (f .number)) (n ∷ [])
 
@@ -48,20 +47,20 @@ RelationSound fs ms x r =
 -- ---- the first of a kind's records that names what is not there; the kind begins at record `first`
 
 abbrev pub booleanFaults : paper.Plan → Booleans → List ℕ
-booleanFaults P x = paper.faults 4 (λ b. paper.booleanFact P (b .fact)) (map booleanOf (take (x .count) (x .items)))
+booleanFaults P x = paper.faults 4 (λ b. paper.booleanFact P (b .fact)) (booleansOf x)
 
 abbrev pub BooleansNamed : Facts → Booleans → ℕ → Checked → Type 0
 BooleansNamed fs x first r = (P : paper.Plan) (C : case.Case) → factsOf fs ≡ P .facts → Tells C first (booleanFaults P x) r
 
 abbrev pub relationFaults : paper.Plan → case.Case → Relations → List ℕ
-relationFaults P C x = paper.faults 4 (case.relationSound P C) (map relationOf (take (x .count) (x .items)))
+relationFaults P C x = paper.faults 4 (case.relationSound P C) (relationsOf x)
 
 abbrev pub RelationsNamed : Facts → Families → Relations → ℕ → Checked → Type 0
 RelationsNamed fs ms x first r =
     (P : paper.Plan) (C : case.Case) → factsOf fs ≡ P .facts → familiesOf ms ≡ C .families → Tells C first (relationFaults P C x) r
 
 abbrev pub constraintFaults : paper.Plan → Constraints → List ℕ
-constraintFaults P x = paper.faults 4 (λ i. ltb i (length (P .nodes))) (take (x .count) (x .items))
+constraintFaults P x = paper.faults 4 (λ i. ltb i (length (P .nodes))) (constraintsOf x)
 
 abbrev pub ConstraintsNamed : ℕ → Constraints → ℕ → Checked → Type 0
 ConstraintsNamed nodes x first r = (P : paper.Plan) (C : case.Case) → nodes ≡ length (P .nodes) → Tells C first (constraintFaults P x) r

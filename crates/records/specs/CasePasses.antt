@@ -55,9 +55,6 @@ withFamilies C xs = record { headings = C .headings; families = xs; booleans = C
 abbrev pub familiesOf : Families → List Family
 familiesOf x = map decoded.familyOf (take (x .count) (x .items))
 
-abbrev pub familyBy : Raw → Family
-familyBy r = record { number = num r 0; scope = num r 1; complete = field r 2 }
-
 abbrev pub familyRead : FamilySeen → Read (Seen Family)
 familyRead (family.Got b x n) = got (record { bits = b; item = decoded.familyOf x }) n
 familyRead family.Bad = bad
@@ -69,9 +66,6 @@ withBooleans C xs = record { headings = C .headings; families = C .families; boo
 
 abbrev pub booleansOf : Booleans → List Boolean
 booleansOf x = map decoded.booleanOf (take (x .count) (x .items))
-
-abbrev pub booleanBy : Raw → Boolean
-booleanBy r = record { fact = num r 0; unknown = field r 1; observations = observationsOf (field r 2) }
 
 abbrev pub booleanRead : List ℕ → BooleanSeen → Read (Seen Boolean)
 booleanRead s (boolean.Got b fact evidence at k n) =
@@ -90,9 +84,6 @@ withRelations C xs = record { headings = C .headings; families = C .families; bo
 abbrev pub relationsOf : Relations → List Relation
 relationsOf x = map decoded.relationOf (take (x .count) (x .items))
 
-abbrev pub relationBy : Raw → Relation
-relationBy r = record { fact = num r 0; observation = record { value = num r 1; evidence = num r 2 } }
-
 abbrev pub relationRead : RelationSeen → Read (Seen Relation)
 relationRead (relation.Got b x n) = got (record { bits = b; item = decoded.relationOf x }) n
 relationRead relation.Bad = bad
@@ -104,9 +95,6 @@ withConstraints C xs = record { headings = C .headings; families = C .families; 
 
 abbrev pub constraintsOf : Constraints → List ℕ
 constraintsOf x = take (x .count) (x .items)
-
-abbrev pub constraintBy : Raw → ℕ
-constraintBy r = num r 0
 
 abbrev pub constraintRead : ConstraintSeen → Read (Seen ℕ)
 constraintRead (constraint.Got b node n) = got (record { bits = b; item = node }) n

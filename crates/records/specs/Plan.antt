@@ -86,12 +86,16 @@ pub record Plan : Type 0 where
 
 -- ---- the records of a plan
 
+-- "Both bits or, for a boolean fact, neither"
+abbrev pub factBits : ℕ → Bool
+factBits bits = eqb bits 3 || eqb bits 0
+
 unfoldable pub planFormats : List Format
 planFormats =
     -- 1 heading (one): 0 roster relation=, 1 base-chain citation
     record { limit = 1; fits = needs 0b1; fields = bytes (number ∷ []) ∷ bytes (citation ∷ []) ∷ [] } ∷
     -- 2 fact (64): 0 family, 1 tuple list of persons (0–4); both bits or neither
-    record { limit = 64; fits = λ bits. eqb bits 0b11 || eqb bits 0; fields = bytes (number ∷ []) ∷ list 4 (person ∷ []) ∷ [] } ∷
+    record { limit = 64; fits = factBits; fields = bytes (number ∷ []) ∷ list 4 (person ∷ []) ∷ [] } ∷
     -- 3 node (256), just one bit: 0 literal 0/1, 1 fact, 2 And list (0–16), 3 Or list (0–16), 4 Not
     record { limit = 256; fits = single; fields = bytes (upTo 1 ∷ []) ∷ bytes (number ∷ []) ∷ list 16 (number ∷ []) ∷ list 16 (number ∷ []) ∷ bytes (number ∷ []) ∷ [] } ∷
     -- 4 edge (64): 0 left=, 1 right=, 2 condition node=, 3 citation=, 4 defeater nodes (0–16), 5 no field: Combination
@@ -134,20 +138,32 @@ cutOf r = record { members = wide r 0; condition = num r 1; citation = num r 2; 
 abbrev pub attachmentOf : Raw → Attachment
 attachmentOf r = record { members = wide r 0; anchor = num r 1; condition = num r 2; citation = num r 3; actor = num r 4; election = electionOf (field r 5) }
 
+abbrev pub headingFrom : Raw → Heading
+headingFrom r = record { relation = num r 0; chain = field r 1 }
+
+abbrev pub factFrom : Raw → Fact
+factFrom r = record { family = field r 0; tuple = field r 1 }
+
+abbrev pub barFrom : Raw → Bar
+barFrom r = record { members = wide r 0; condition = num r 1; citation = num r 2 }
+
+abbrev pub statusFrom : Raw → Status
+statusFrom r = record { person = num r 0; condition = num r 1; citation = num r 2 }
+
 -- a record joins those of its kind
 abbrev pub joined : {A : Type 0} → ℕ → (Raw → A) → Raw → List A → List A
 joined kind make r xs = cond (eqb (r .kind) kind) (xs ++ (make r ∷ [])) xs
 
 unfoldable pub addToPlan : Raw → Plan → Plan
 addToPlan r P = record {
-  headings = joined 1 (λ r. record { relation = num r 0; chain = field r 1 }) r (P .headings);
-  facts = joined 2 (λ r. record { family = field r 0; tuple = field r 1 }) r (P .facts);
+  headings = joined 1 headingFrom r (P .headings);
+  facts = joined 2 factFrom r (P .facts);
   nodes = joined 3 nodeOf r (P .nodes);
   edges = joined 4 edgeOf r (P .edges);
   cuts = joined 5 cutOf r (P .cuts);
   attachments = joined 6 attachmentOf r (P .attachments);
-  bars = joined 7 (λ r. record { members = wide r 0; condition = num r 1; citation = num r 2 }) r (P .bars);
-  statuses = joined 8 (λ r. record { person = num r 0; condition = num r 1; citation = num r 2 }) r (P .statuses);
+  bars = joined 7 barFrom r (P .bars);
+  statuses = joined 8 statusFrom r (P .statuses);
 }
 
 unfoldable pub planCounts : Plan → List ℕ

@@ -82,9 +82,6 @@ withBars P xs = record { headings = P .headings; facts = P .facts; nodes = P .no
 abbrev pub barsOf : Bars → List Bar
 barsOf x = map decoded.barOf (take (x .count) (x .items))
 
-abbrev pub barFrom : Raw → Bar
-barFrom r = record { members = wide r 0; condition = num r 1; citation = num r 2 }
-
 abbrev pub barRead : BarSeen → Read (Seen Bar)
 barRead (bar.Got bits x n) = got (record { bits = bits; item = decoded.barOf x }) n
 barRead bar.Bad = bad
@@ -96,9 +93,6 @@ withStatuses P xs = record { headings = P .headings; facts = P .facts; nodes = P
 
 abbrev pub statusesOf : Statuses → List Status
 statusesOf x = map decoded.statusOf (take (x .count) (x .items))
-
-abbrev pub statusFrom : Raw → Status
-statusFrom r = record { person = num r 0; condition = num r 1; citation = num r 2 }
 
 abbrev pub statusRead : StatusSeen → Read (Seen Status)
 statusRead (status.Got bits x n) = got (record { bits = bits; item = decoded.statusOf x }) n
@@ -124,9 +118,6 @@ withHeadings P xs = record { headings = xs; facts = P .facts; nodes = P .nodes; 
 abbrev pub headingsBy : ℕ → ℕ → Bool → ℕ → List Heading
 headingsBy n relation chained chain = take n (record { relation = relation; chain = given chained chain } ∷ [])
 
-abbrev pub headingFrom : Raw → Heading
-headingFrom r = record { relation = num r 0; chain = field r 1 }
-
 abbrev pub headingRead : HeadingSeen → Read (Seen Heading)
 headingRead (heading.Got bits relation chain n) = got (record { bits = bits; item = record { relation = relation; chain = given (eqb (bits / 2 % 2) 1) chain } }) n
 headingRead heading.Bad = bad
@@ -138,13 +129,6 @@ withFacts P xs = record { headings = P .headings; facts = xs; nodes = P .nodes; 
 
 abbrev pub factsOf : Facts → List Fact
 factsOf x = map decoded.factOf (take (x .count) (x .items))
-
-abbrev pub factFrom : Raw → Fact
-factFrom r = record { family = field r 0; tuple = field r 1 }
-
--- "Both bits or, for a boolean fact, neither"
-abbrev pub factBits : ℕ → Bool
-factBits bits = eqb bits 3 || eqb bits 0
 
 abbrev pub factRead : List ℕ → FactSeen → Read (Seen Fact)
 factRead s (fact.Got bits family at k n) = got (record { bits = bits; item = record { family = given (eqb (bits % 2) 1) family; tuple = span s at k } }) n

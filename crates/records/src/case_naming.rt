@@ -20,7 +20,8 @@ ghost use Rattle.records.specs.Fields.{fine, firstFault};
 ghost use Rattle.records.specs.Case.{caseNamingFaults, booleansAt};
 ghost use Rattle.records.specs.Decoded.{planOf, caseOf};
 ghost use Rattle.records.specs.Check.{checkedOf};
-ghost use Rattle.records.specs.CaseNamed.{CaseCountsOf, CaseCountLimits, familiesOf, sameFamily, RelationSound, BooleansNamed, RelationsNamed, ConstraintsNamed};
+ghost use Rattle.records.specs.CasePasses.{familiesOf};
+ghost use Rattle.records.specs.CaseNamed.{CaseCountsOf, CaseCountLimits, sameFamily, RelationSound, BooleansNamed, RelationsNamed, ConstraintsNamed};
 
 // How many records of each kind a case has, whatever its count fields say.
 pub struct CaseCounts {

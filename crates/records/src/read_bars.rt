@@ -14,7 +14,8 @@ ghost use lib.ListN.{length};
 ghost use Rattle.records.specs.Plan.{planFormats};
 ghost use Rattle.records.specs.Readers.{mapRead};
 ghost use Rattle.records.specs.Passes.{rawOf, seenBy, Passed};
-ghost use Rattle.records.specs.PlanPasses.{planReading, barRead, barFrom, barsOf, withBars};
+ghost use Rattle.records.specs.Plan.{barFrom};
+ghost use Rattle.records.specs.PlanPasses.{planReading, barRead, barsOf, withBars};
 
 // The bits, the bar, and the place after it.
 pub enum BarSeen {

@@ -16,7 +16,8 @@ ghost use lib.ListN.{length};
 ghost use Rattle.records.specs.Case.{caseFormats};
 ghost use Rattle.records.specs.Readers.{mapRead};
 ghost use Rattle.records.specs.Passes.{rawOf, seenBy, Passed};
-ghost use Rattle.records.specs.CasePasses.{caseReading, booleanRead, booleanFits, booleanBy, booleansOf, withBooleans};
+ghost use Rattle.records.specs.Case.{booleanBy};
+ghost use Rattle.records.specs.CasePasses.{caseReading, booleanRead, booleanFits, booleansOf, withBooleans};
 
 // The bits, the fact, the evidence of its being unknown, where the observations stand and how many there are, and the place after them.
 pub enum BooleanSeen {

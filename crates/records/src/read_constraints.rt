@@ -11,7 +11,8 @@ ghost use lib.ListN.{length};
 ghost use Rattle.records.specs.Case.{caseFormats};
 ghost use Rattle.records.specs.Readers.{mapRead};
 ghost use Rattle.records.specs.Passes.{rawOf, seenBy, Passed};
-ghost use Rattle.records.specs.CasePasses.{caseReading, constraintRead, constraintBy, constraintsOf, withConstraints};
+ghost use Rattle.records.specs.Case.{constraintBy};
+ghost use Rattle.records.specs.CasePasses.{caseReading, constraintRead, constraintsOf, withConstraints};
 
 // The bits, the node, and the place after it.
 pub enum ConstraintSeen {

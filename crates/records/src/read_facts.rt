@@ -17,7 +17,8 @@ ghost use lib.ListN.{length};
 ghost use Rattle.records.specs.Plan as paper;
 ghost use Rattle.records.specs.Readers.{mapRead};
 ghost use Rattle.records.specs.Passes.{rawOf, seenBy, Passed};
-ghost use Rattle.records.specs.PlanPasses.{planReading, factBits, factRead, factFits, factFrom, factsOf, withFacts};
+ghost use Rattle.records.specs.Plan.{factBits, factFrom};
+ghost use Rattle.records.specs.PlanPasses.{planReading, factRead, factFits, factsOf, withFacts};
 
 // The bits, the family, where the tuple stands and how long it is, and the place after it.
 pub enum FactSeen {

@@ -12,7 +12,8 @@ ghost use lib.ListN.{length};
 ghost use Rattle.records.specs.Case.{caseFormats};
 ghost use Rattle.records.specs.Readers.{mapRead};
 ghost use Rattle.records.specs.Passes.{rawOf, seenBy, Passed};
-ghost use Rattle.records.specs.CasePasses.{caseReading, familyRead, familyBy, familiesOf, withFamilies};
+ghost use Rattle.records.specs.Case.{familyBy};
+ghost use Rattle.records.specs.CasePasses.{caseReading, familyRead, familiesOf, withFamilies};
 
 // The bits, the family, and the place after it.
 pub enum FamilySeen {

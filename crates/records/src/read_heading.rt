@@ -9,7 +9,8 @@ ghost use Prim.Native.Nat.{_≤_};
 ghost use Rattle.records.specs.Plan.{planFormats};
 ghost use Rattle.records.specs.Readers.{mapRead};
 ghost use Rattle.records.specs.Passes.{rawOf, seenBy, Passed};
-ghost use Rattle.records.specs.PlanPasses.{planReading, headingRead, headingFrom, headingsBy, withHeadings};
+ghost use Rattle.records.specs.Plan.{headingFrom};
+ghost use Rattle.records.specs.PlanPasses.{planReading, headingRead, headingsBy, withHeadings};
 
 // The bits, the roster relation, the base-chain citation, and the place after it.
 pub enum HeadingSeen {

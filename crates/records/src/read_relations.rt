@@ -12,7 +12,8 @@ ghost use lib.ListN.{length};
 ghost use Rattle.records.specs.Case.{caseFormats};
 ghost use Rattle.records.specs.Readers.{mapRead};
 ghost use Rattle.records.specs.Passes.{rawOf, seenBy, Passed};
-ghost use Rattle.records.specs.CasePasses.{caseReading, relationRead, relationBy, relationsOf, withRelations};
+ghost use Rattle.records.specs.Case.{relationBy};
+ghost use Rattle.records.specs.CasePasses.{caseReading, relationRead, relationsOf, withRelations};
 
 // The bits, the relation, and the place after it.
 pub enum RelationSeen {

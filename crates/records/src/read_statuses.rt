@@ -12,7 +12,8 @@ ghost use lib.ListN.{length};
 ghost use Rattle.records.specs.Plan.{planFormats};
 ghost use Rattle.records.specs.Readers.{mapRead};
 ghost use Rattle.records.specs.Passes.{rawOf, seenBy, Passed};
-ghost use Rattle.records.specs.PlanPasses.{planReading, statusRead, statusFrom, statusesOf, withStatuses};
+ghost use Rattle.records.specs.Plan.{statusFrom};
+ghost use Rattle.records.specs.PlanPasses.{planReading, statusRead, statusesOf, withStatuses};
 
 // The bits, the status, and the place after it.
 pub enum StatusSeen {

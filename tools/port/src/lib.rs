@@ -124,3 +124,14 @@ pub fn bindable(plan: &[u8], case: &[u8]) -> (u8, u64) {
     };
     (number, record)
 }
+
+/// The two numbers that a program is called with: how many inputs, and the seed.
+pub fn count_and_seed(usage: &str) -> (u64, u64) {
+    let mut numbers = std::env::args()
+        .skip(1)
+        .map(|text| text.parse().expect("a number"));
+    match (numbers.next(), numbers.next()) {
+        (Some(count), Some(seed)) => (count, seed),
+        _ => panic!("{usage}"),
+    }
+}

@@ -190,12 +190,7 @@ fn without(bytes: &[u8], mut shows: impl FnMut(&[u8]) -> bool) -> Option<Vec<u8>
 }
 
 fn main() {
-    let mut arguments = std::env::args()
-        .skip(1)
-        .map(|text| text.parse::<u64>().expect("a number"));
-    let (Some(count), Some(seed)) = (arguments.next(), arguments.next()) else {
-        panic!("bound N SEED");
-    };
+    let (count, seed) = port::count_and_seed("bound N SEED");
     let mut tally = Tally::default();
     let ladders = cases::ladders().into_iter().map(Sample::of);
     let randoms = (0..count).map(|number| cases::random(&mut Random::stream(seed, number)));

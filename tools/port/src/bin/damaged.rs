@@ -35,12 +35,7 @@ fn read(plan: &[u8], case: &[u8], counts: &mut Counts) {
 }
 
 fn main() {
-    let mut arguments = std::env::args()
-        .skip(1)
-        .map(|text| text.parse::<u64>().expect("a number"));
-    let (Some(count), Some(seed)) = (arguments.next(), arguments.next()) else {
-        panic!("damaged N SEED");
-    };
+    let (count, seed) = port::count_and_seed("damaged N SEED");
     let (mut plans, mut cases) = ([0; 15], [0; 15]);
     for number in 0..count {
         let random = &mut Random::stream(seed, number);

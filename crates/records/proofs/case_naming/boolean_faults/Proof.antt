@@ -10,7 +10,7 @@ use borrow.Author.Tests.{not-true, not-false}
 use Rattle.records.specs.Plan as paper
 use Rattle.records.specs.Decoded.{booleanOf}
 use Rattle.records.specs.Case as case
-use Rattle.records.specs.Named.{factsOf}
+use Rattle.records.specs.PlanPasses.{factsOf}
 use Rattle.records.specs.CaseNamed.{booleanFaults}
 use Rattle.records.proofs.ListLaws.{length-front}
 use Rattle.records.proofs.FaultLaws.{Going, going, one-faulty, one-sound, none-left}

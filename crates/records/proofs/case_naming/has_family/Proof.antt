@@ -8,7 +8,8 @@ use lib.ListN.{length, getD, drop, length-map}
 use borrow.Author.Needs.{needs}
 use Rattle.records.specs.Sets.{anyOf}
 use Rattle.records.specs.Decoded.{familyOf}
-use Rattle.records.specs.CaseNamed.{familiesOf, sameFamily}
+use Rattle.records.specs.CasePasses.{familiesOf}
+use Rattle.records.specs.CaseNamed.{sameFamily}
 use Rattle.records.specs.declared.case.Family.{Family}
 use Rattle.records.proofs.ListLaws.{length-front, getD-front}
 use Rattle.records.proofs.CaseFaults.{any-goes, any-found, any-ends, same-family, other-family}

@@ -10,8 +10,9 @@ use borrow.Author.Tests.{not-true, not-false}
 use Rattle.records.specs.Plan as paper
 use Rattle.records.specs.Decoded.{relationOf}
 use Rattle.records.specs.Case as case
-use Rattle.records.specs.Named.{factsOf}
-use Rattle.records.specs.CaseNamed.{relationFaults, familiesOf}
+use Rattle.records.specs.PlanPasses.{factsOf}
+use Rattle.records.specs.CasePasses.{familiesOf}
+use Rattle.records.specs.CaseNamed.{relationFaults}
 use Rattle.records.proofs.ListLaws.{length-front}
 use Rattle.records.proofs.FaultLaws.{Going, going, one-faulty, one-sound, none-left}
 use Rattle.records.proofs.case_naming.relation_faults.Statement.{statement}

@@ -9,7 +9,8 @@ use borrow.Author.Needs.{needs}
 use borrow.Author.Tests.{not-true, not-false}
 use Rattle.records.specs.Plan as paper
 use Rattle.records.specs.Decoded.{attachmentOf}
-use Rattle.records.specs.Named.{attachmentFaults, factsOf}
+use Rattle.records.specs.PlanPasses.{factsOf}
+use Rattle.records.specs.Named.{attachmentFaults}
 use Rattle.records.proofs.ListLaws.{length-front}
 use Rattle.records.proofs.FaultLaws.{Going, going, one-faulty, one-sound, none-left}
 use Rattle.records.proofs.name_faults.attachment_faults.Statement.{statement}

@@ -6,7 +6,7 @@ use Rattle.records.specs.Plan as paper
 use Rattle.records.specs.Decoded.{barOf}
 use Rattle.records.specs.Readers.{fieldRead, wideRead, mapRead, first}
 use Rattle.records.specs.Passes.{seenBy}
-use Rattle.records.specs.PlanPasses.{barFrom}
+use Rattle.records.specs.Plan.{barFrom}
 use Rattle.records.proofs.Reading.{seen, found, none}
 use Rattle.records.proofs.Chain.{more, skip, stop, last, unknown, half-of, raw-got, raw-bits, raw-bad}
 use borrow.Author.Needs.{needs}

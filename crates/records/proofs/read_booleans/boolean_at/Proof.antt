@@ -6,7 +6,7 @@ use denote.Ref.{now}
 use Rattle.records.specs.Case.{caseFormats}
 use Rattle.records.specs.Readers.{fieldRead, pairsRead, mapRead, first}
 use Rattle.records.specs.Passes.{seenBy}
-use Rattle.records.specs.CasePasses.{booleanBy}
+use Rattle.records.specs.Case.{booleanBy}
 use Rattle.records.proofs.Reading.{seen, found, none}
 use Rattle.records.proofs.Chain.{more, skip, stop, last, unknown, half-of, raw-got, raw-bits, raw-bad, given-of}
 use borrow.Author.Needs.{needs}

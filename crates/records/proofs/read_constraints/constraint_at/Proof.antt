@@ -4,7 +4,7 @@ use denote.Ref.{now}
 use Rattle.records.specs.Case.{caseFormats}
 use Rattle.records.specs.Readers.{fieldRead, mapRead, first}
 use Rattle.records.specs.Passes.{seenBy}
-use Rattle.records.specs.CasePasses.{constraintBy}
+use Rattle.records.specs.Case.{constraintBy}
 use Rattle.records.proofs.Reading.{seen, found, none}
 use Rattle.records.proofs.Chain.{more, skip, stop, last, unknown, raw-got, raw-bits, raw-bad}
 use borrow.Author.Needs.{needs}

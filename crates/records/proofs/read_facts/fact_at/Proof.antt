@@ -5,7 +5,7 @@ use lib.Dec.{eqb}
 use denote.Ref.{now}
 use Rattle.records.specs.Readers.{fieldRead, listRead, mapRead, first}
 use Rattle.records.specs.Passes.{seenBy}
-use Rattle.records.specs.PlanPasses.{factFrom}
+use Rattle.records.specs.Plan.{factFrom}
 use Rattle.records.proofs.Reading.{seen, found, none}
 use Rattle.records.proofs.Chain.{more, skip, stop, last, unknown, half-of, one-given, list-absent, raw-got, raw-bits, raw-bad}
 use Rattle.records.specs.Plan as paper

@@ -8,7 +8,8 @@ use denote.Ref.{now}
 use lib.ListN.{length, length-set}
 use Rattle.records.specs.Plan.{rises, factsRise, Fact}
 use Rattle.records.specs.Decoded.{factOf}
-use Rattle.records.specs.PlanPasses.{factRead, factBits, factsOf}
+use Rattle.records.specs.Plan.{factBits}
+use Rattle.records.specs.PlanPasses.{factRead, factsOf}
 use Rattle.records.proofs.LoopLaws.{length-made}
 use Rattle.records.proofs.Reading.{seen}
 use Rattle.records.proofs.Passing.{Going, going, ends-short, ends-other, refused-bad, refused-judged, goes-on, goes-later}

@@ -7,7 +7,7 @@ use Rattle.records.specs.Case.{caseFormats}
 use Rattle.records.specs.Decoded.{familyOf}
 use Rattle.records.specs.Readers.{fieldRead, mapRead, first}
 use Rattle.records.specs.Passes.{seenBy}
-use Rattle.records.specs.CasePasses.{familyBy}
+use Rattle.records.specs.Case.{familyBy}
 use Rattle.records.proofs.Reading.{seen, found, none}
 use Rattle.records.proofs.Chain.{more, skip, stop, last, unknown, half-of, raw-got, raw-bits, raw-bad, given-of}
 use borrow.Author.Needs.{needs}

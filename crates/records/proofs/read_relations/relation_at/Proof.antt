@@ -5,7 +5,7 @@ use Rattle.records.specs.Case.{caseFormats}
 use Rattle.records.specs.Decoded.{relationOf}
 use Rattle.records.specs.Readers.{fieldRead, mapRead, first}
 use Rattle.records.specs.Passes.{seenBy}
-use Rattle.records.specs.CasePasses.{relationBy}
+use Rattle.records.specs.Case.{relationBy}
 use Rattle.records.proofs.Reading.{seen, found, none}
 use Rattle.records.proofs.Chain.{more, skip, stop, last, unknown, half-of, raw-got, raw-bits, raw-bad}
 use borrow.Author.Needs.{needs}
