@@ -4,3 +4,9 @@ pub mod View
 pub mod Events
 pub mod Over
 pub mod Classes
+pub mod Tables
+pub mod Cuts
+pub mod Discretion
+pub mod Settled
+pub mod Blocks
+pub mod Citing

@@ -1,3 +1,9 @@
 // One world: steps 1 to 8 on one valuation.
+pub mod cite;
 pub mod classes;
+pub mod cuts;
+pub mod discretion;
 pub mod over;
+pub mod settle;
+pub mod tables;
+pub mod world;
