@@ -10,3 +10,5 @@ pub mod Discretion
 pub mod Settled
 pub mod Blocks
 pub mod Citing
+pub mod Valued
+pub mod Conditions

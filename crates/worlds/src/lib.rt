@@ -1,4 +1,5 @@
 // One world: steps 1 to 8 on one valuation.
+pub mod active;
 pub mod cite;
 pub mod classes;
 pub mod cuts;
@@ -6,4 +7,5 @@ pub mod discretion;
 pub mod over;
 pub mod settle;
 pub mod tables;
+pub mod values;
 pub mod world;
