@@ -12,3 +12,4 @@ pub mod Blocks
 pub mod Citing
 pub mod Valued
 pub mod Conditions
+pub mod Laid

@@ -4,6 +4,7 @@ pub mod cite;
 pub mod classes;
 pub mod cuts;
 pub mod discretion;
+pub mod lay;
 pub mod over;
 pub mod settle;
 pub mod tables;
