@@ -1,3 +1,4 @@
+pub mod OverLaws
 pub mod MarkLaws
 pub mod CutsSeen
 pub mod MarksSeen
