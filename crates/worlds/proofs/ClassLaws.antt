@@ -1,19 +1,21 @@
 -- Classes by some sets become classes by one more: who is joined to whom, and what a table of classes then holds.
 use mathlib.Core.Path.{_≡_, refl, sym, ap, ap₂, _∙_, subst}
-use mathlib.Core.Bool.{Bool, true, false, _&&_, cond, true≢false}
-use mathlib.Core.Logic.{_⊎_, inl, inr, ⊎-elim}
+use mathlib.Core.Bool.{Bool, true, false, _&&_, _||_, not, cond, true≢false}
+use mathlib.Core.Logic.{⊎-elim}
 use mathlib.Core.List.{List, [], _∷_, _++_, append-nil, append-assoc}
-use Prim.Native.Nat.{ℕ, zero, suc, _-_, _^_, _≤_, _<_, suc-le-suc}
-use native.Mathlib.Nat.{not-suc-le-zero, le-of-suc-le-suc, zero-lt-suc}
-use lib.ListN.{length, getD}
-use Rattle.records.specs.Sets.{has, one, union, minus, subset, only, size, members, closeOf, allOf, unionOf}
-use Rattle.records.specs.Sound.{All}
-use Rattle.records.proofs.SetLaws.{Within, has-none, has-high, has-not, antisym, within-refl, along, thru, in-union-l, in-union-r, of-union, in-minus, of-minus, subset-true, within-subset, and-parts, lt-or-le}
-use Rattle.records.proofs.Closing.{Takes, Closed, close-closed, close-within, close-least, close-mono, close-same, close-between, close-sym, closed-minus, closed-union, in-one, one-within}
+use Prim.Native.Nat.{ℕ, _-_, _^_, _≤_, _<_}
+use native.Mathlib.Omega.{arith}
+use lib.ListN.{length, set, List·getD-eq-default}
+use lib.Seq.{getD-set-same, getD-set-other}
+use lib.Dec.{eqb}
+use borrow.Author.Tests.{eqb-true, eqb-false}
+use Rattle.records.specs.Sets.{has, one, union, minus, subset, members, closeOf, allOf, unionOf}
+use Rattle.records.proofs.SetLaws.{Within, has-none, has-high, has-not, antisym, along, thru, in-minus, of-minus, subset-true, and-parts, lt-or-le}
+use Rattle.records.proofs.Closing.{Takes, Closed, close-closed, close-within, close-least, close-mono, close-same, close-sym, close-union, closed-minus, in-one, one-within}
 use Rattle.records.proofs.ListLaws.{all-append}
-use Rattle.records.proofs.MemberLaws.{members-length, member-at, member-place}
-use Rattle.worlds.specs.Over.{entry, Marked}
+use Rattle.worlds.specs.Over.{entry}
 use Rattle.worlds.specs.Classes.{Alone, ClassesBy, Joins}
+use Rattle.worlds.proofs.OverLaws.{union-has, has-union-of}
 
 -- ---- closed sets and closings
 
@@ -89,38 +91,31 @@ close-joined ss s p h =
 
 -- ---- the union of what a table holds at the persons of a set
 
-union-at : (f : ℕ → ℕ) (xs : List ℕ) (i : ℕ) → i < length xs → Within (f (getD xs i 0)) (unionOf f xs)
+union-alike : (f g : ℕ → ℕ) (m : ℕ) → m < 2 ^ 64 → ((i : ℕ) → has m i ≡ true → f i ≡ g i) → Within (unionOf f (members m)) (unionOf g (members m))
+union-alike f g m b e = record {
+  at = λ q h.
+      let w = union-has f m q b h in
+      has-union-of g m (w .0) q b (w .1) (ap (λ (x : ℕ). has x q) (sym (e (w .0) (w .1))) ∙ w .2);
+}
+
+-- a set is the union of its persons
+union-ones : (m : ℕ) → m < 2 ^ 64 → unionOf one (members m) ≡ m
+union-ones m b =
+    antisym (unionOf one (members m)) m
+    (record { at = λ q h. let w = union-has one m q b h in one-within (w .0) m (w .1) .at q (w .2) })
+    (record { at = λ q h. has-union-of one m q q b h (in-one q) })
+
+union-closes : (ss ps : List ℕ) → unionOf (λ q. closeOf ss (one q)) ps ≡ closeOf ss (unionOf one ps)
 unfolding unionOf
-union-at f [] i l = absurd (not-suc-le-zero l)
-union-at f (x ∷ xs) zero l = in-union-l (f x) (unionOf f xs)
-union-at f (x ∷ xs) (suc i) l = thru (union-at f xs i (le-of-suc-le-suc l)) (in-union-r (f x) (unionOf f xs))
+union-closes ss [] = sym (close-same ss 0 (closed-none ss))
+union-closes ss (p ∷ ps) = ap (union (closeOf ss (one p))) (union-closes ss ps) ∙ sym (close-union ss (one p) (unionOf one ps))
 
--- a fact of 0 and of each entry that a union keeps
-union-keeps : (Q : ℕ → Type 0) → Q 0 → ((a b : ℕ) → Q a → Q b → Q (union a b)) → (f : ℕ → ℕ) (xs : List ℕ) → ((i : ℕ) → i < length xs → Q (f (getD xs i 0))) → Q (unionOf f xs)
-unfolding unionOf
-union-keeps Q z u f [] h = z
-union-keeps Q z u f (x ∷ xs) h = u (f x) (unionOf f xs) (h 0 (zero-lt-suc (length xs))) (union-keeps Q z u f xs (λ i l. h (suc i) (suc-le-suc l)))
-
-module _ (ss table : List ℕ) (s : ℕ) (low : (q : ℕ) → has s q ≡ true → q < 64) (holds : (q : ℕ) → has s q ≡ true → entry table q ≡ closeOf ss (one q)) where
-  at-member : (i : ℕ) → i < length (members s) → entry table (getD (members s) i 0) ≡ closeOf ss (one (getD (members s) i 0))
-  at-member i l = holds (getD (members s) i 0) (member-at s 0 i l)
-
-  -- where it holds the classes: all who are joined to someone of the set
-  gathered : unionOf (entry table) (members s) ≡ closeOf ss s
-  gathered =
-      antisym all (closeOf ss s)
-      (union-keeps (λ m. Within m (closeOf ss s)) (record { at = λ q h. absurd (true≢false (sym h ∙ has-none q)) }) (λ a b f g. record { at = λ q h. ⊎-elim (f .at q) (g .at q) (of-union a b q h) }) (entry table) (members s)
-      (λ i l. thru (along (at-member i l)) (close-mono ss (one (getD (members s) i 0)) s (one-within (getD (members s) i 0) s (member-at s 0 i l)))))
-      (close-least ss s all (record { at = λ q h. own q h (member-place s q 0 (low q h) h) })
-      (union-keeps (Closed ss) (closed-none ss) (closed-union ss) (entry table) (members s) (λ i l. subst (Closed ss) (sym (at-member i l)) (close-closed ss (one (getD (members s) i 0))))))
-    where
-      all : ℕ
-      all = unionOf (entry table) (members s)
-
-      own : (q : ℕ) → has s q ≡ true → (i : ℕ) × (i < size s) × (getD (members s) i 0 ≡ q) → has all q ≡ true
-      own q h w =
-          union-at (entry table) (members s) (w .0) (subst (λ (n : ℕ). w .0 < n) (sym (members-length s)) (w .1)) .at q
-          (ap (λ (x : ℕ). has (entry table x) q) (w .2) ∙ ap (λ (x : ℕ). has x q) (holds q h) ∙ close-within ss (one q) .at q (in-one q))
+-- where it holds the classes of a set's persons: all who are joined to someone of the set
+gathered : (ss table : List ℕ) (s : ℕ) → s < 2 ^ 64 → ((q : ℕ) → has s q ≡ true → entry table q ≡ closeOf ss (one q)) → unionOf (entry table) (members s) ≡ closeOf ss s
+gathered ss table s b h =
+    antisym (unionOf (entry table) (members s)) (unionOf (λ q. closeOf ss (one q)) (members s))
+    (union-alike (entry table) (λ q. closeOf ss (one q)) s b h) (union-alike (λ q. closeOf ss (one q)) (entry table) s b (λ q e. sym (h q e)))
+    ∙ union-closes ss (members s) ∙ ap (closeOf ss) (union-ones s b)
 
 -- ---- joining
 
@@ -148,10 +143,11 @@ inside-more : (persons : ℕ) (ss ts : List ℕ) → allOf (λ s. subset s perso
 inside-more persons ss ts a b = all-append (λ s. subset s persons) ss ts ∙ ap₂ _&&_ a b
 
 pub joins-none : (classes : List ℕ) → Joins [] classes classes
-joins-none classes = record { classes = λ persons sets e by. subst (λ (l : List ℕ). ClassesBy persons l classes) (sym (append-nil sets)) by; others = λ persons sets e by p h. refl }
+joins-none classes = record { long = refl; classes = λ persons sets e by. subst (λ (l : List ℕ). ClassesBy persons l classes) (sym (append-nil sets)) by; others = λ persons sets e by p h. refl }
 
 pub joins-next : (xs ys a b c : List ℕ) → Joins xs a b → Joins ys b c → Joins (xs ++ ys) a c
 joins-next xs ys a b c j k = record {
+  long = k .long ∙ j .long;
   classes = λ persons sets e by.
       let t = parts persons e in
       subst (λ (l : List ℕ). ClassesBy persons l c) (append-assoc sets xs ys) (k .classes persons (sets ++ xs) (t .1) (j .classes persons sets (t .0) by));
@@ -170,6 +166,7 @@ inside-one persons s e = subset-true s persons (and-parts (subset s persons) tru
 
 pub joins-same : (s : ℕ) (classes : List ℕ) → ((persons : ℕ) (sets : List ℕ) → Within s persons → ClassesBy persons sets classes → (p : ℕ) → closeOf (sets ++ (s ∷ [])) (one p) ≡ closeOf sets (one p)) → Joins (s ∷ []) classes classes
 joins-same s classes f = record {
+  long = refl;
   classes = λ persons sets e by. record {
     few = by .few;
     inside = inside-more persons sets (s ∷ []) (by .inside) e;
@@ -185,22 +182,28 @@ pub joins-inside : (s a : ℕ) (classes : List ℕ) → has s a ≡ true → sub
 joins-inside s a classes h e =
     joins-same s classes (λ persons sets i by p. joined-already sets s a p (thru (subset-true s (entry classes a) e) (along (by .at a (i .at a h)))))
 
-pub joins-whole : (s whole : ℕ) (before after : List ℕ) → whole ≡ unionOf (entry before) (members s) → Marked whole whole before after → Joins (s ∷ []) before after
-joins-whole s whole before after w m = record {
+-- a person who has a class has a place in the table
+placed : (persons : ℕ) (sets table : List ℕ) → ClassesBy persons sets table → (p : ℕ) → has persons p ≡ true → p < length table
+placed persons sets table by p h =
+    ⊎-elim (λ l. l) (λ l. absurd (true≢false (sym (close-within sets (one p) .at p (in-one p)) ∙ ap (λ (m : ℕ). has m p) (sym (by .at p h) ∙ List·getD-eq-default table 0 l) ∙ has-none p))) (lt-or-le p (length table))
+
+pub joins-whole : (s whole : ℕ) (before after : List ℕ) → s < 2 ^ 64 → whole ≡ unionOf (entry before) (members s) → length after ≡ length before
+    → ((p : ℕ) → p < length before → entry after p ≡ cond (has whole p) whole (entry before p)) → Joins (s ∷ []) before after
+joins-whole s whole before after b w n m = record {
+  long = n;
   classes = λ persons sets e by. record {
     few = by .few;
     inside = inside-more persons sets (s ∷ []) (by .inside) e;
     at = λ p h.
-        m .at p ∙ ap₂ (λ (x y : ℕ). cond (has x p) x y) (is persons sets e by) (by .at p h) ∙ sym (joined-class sets s p);
+        m p (placed persons sets before by p h) ∙ ap₂ (λ (x y : ℕ). cond (has x p) x y) (is persons sets e by) (by .at p h) ∙ sym (joined-class sets s p);
   };
-  others = λ persons sets e by p h.
-      m .at p ∙ ap (λ (b : Bool). cond b whole (entry before p)) (ap (λ (x : ℕ). has x p) (is persons sets e by) ∙ outside persons sets e by p h);
+  others = λ persons sets e by p h. ⊎-elim
+      (λ l. m p l ∙ ap (λ (b : Bool). cond b whole (entry before p)) (ap (λ (x : ℕ). has x p) (is persons sets e by) ∙ outside persons sets e by p h))
+      (λ l. List·getD-eq-default after 0 (subst (λ (k : ℕ). k ≤ p) (sym n) l) ∙ sym (List·getD-eq-default before 0 l)) (lt-or-le p (length before));
 }
   where
     is : (persons : ℕ) (sets : List ℕ) → allOf (λ t. subset t persons) (s ∷ []) ≡ true → ClassesBy persons sets before → whole ≡ closeOf sets s
-    is persons sets e by =
-        let i = inside-one persons s e in
-        w ∙ gathered sets before s (λ q h. ⊎-elim (λ l. l) (λ l. absurd (true≢false (sym (i .at q h) ∙ has-high 64 persons q (by .few) l))) (lt-or-le q 64)) (λ q h. by .at q (i .at q h))
+    is persons sets e by = w ∙ gathered sets before s b (λ q h. by .at q (inside-one persons s e .at q h))
 
     outside : (persons : ℕ) (sets : List ℕ) → allOf (λ t. subset t persons) (s ∷ []) ≡ true → ClassesBy persons sets before → (p : ℕ) → has persons p ≡ false → has (closeOf sets s) p ≡ false
     outside persons sets e by p h = pick (has (closeOf sets s) p) refl
@@ -208,3 +211,37 @@ joins-whole s whole before after w m = record {
         pick : (b : Bool) → has (closeOf sets s) p ≡ b → has (closeOf sets s) p ≡ false
         pick true k = absurd (true≢false (sym (close-least sets s persons (inside-one persons s e) (closed-inside sets persons (by .inside)) .at p k) ∙ h))
         pick false k = k
+
+-- ---- each person alone
+
+-- a turn of the loop, which is at t and leaves r of m
+pub alone-next : (m r t v : ℕ) (table : List ℕ) → ((p : ℕ) → has m p ≡ (eqb t p || has r p)) → v ≡ one t
+    → (p : ℕ) → p < length table → cond (has r p) (one p) (entry (set table t v) p) ≡ cond (has m p) (one p) (entry table p)
+alone-next m r t v table h e p l = pick (eqb t p) refl
+  where
+    either : (b : Bool) (x : ℕ) → cond b x x ≡ x
+    either true x = refl
+    either false x = refl
+
+    pick : (b : Bool) → eqb t p ≡ b → cond (has r p) (one p) (entry (set table t v) p) ≡ cond (has m p) (one p) (entry table p)
+    pick true k =
+        let s = eqb-true t p k in
+        ap (cond (has r p) (one p)) (ap (λ (i : ℕ). entry (set table i v) p) s ∙ getD-set-same table p v 0 l ∙ e ∙ ap one s) ∙ either (has r p) (one p)
+        ∙ sym (ap (λ (b : Bool). cond b (one p) (entry table p)) (h p ∙ ap (λ (b : Bool). b || has r p) k))
+    pick false k =
+        ap (cond (has r p) (one p)) (getD-set-other table t p v 0 (λ z. eqb-false t p k (sym z)))
+        ∙ sym (ap (λ (b : Bool). cond b (one p) (entry table p)) (h p ∙ ap (λ (b : Bool). b || has r p) k))
+
+-- all 64 persons alone: classes by no sets
+pub everyone : (p : ℕ) → p < 64 → has (2 ^ 64 - 1) p ≡ true
+everyone p l = has-not 64 0 p (omega arith) l ∙ ap not (has-none p)
+
+pub alone-classes : (before after : List ℕ) → length before ≡ 64 → Alone (2 ^ 64 - 1) before after → ClassesBy (2 ^ 64 - 1) [] after
+unfolding allOf
+alone-classes before after n a = record {
+  few = omega arith;
+  inside = refl;
+  at = λ p h.
+      a .at p (⊎-elim (λ l. omega (arith, l, n)) (λ l. absurd (true≢false (sym h ∙ has-high 64 (2 ^ 64 - 1) p (omega arith) l))) (lt-or-le p 64))
+      ∙ ap (λ (b : Bool). cond b (one p) (entry before p)) h ∙ sym (close-same [] (one p) tt);
+}
