@@ -3,14 +3,12 @@ use mathlib.Core.Path.{_≡_}
 use mathlib.Core.Bool.{true, false, cond}
 use mathlib.Core.List.{List, _++_}
 use Prim.Native.Nat.{ℕ, _<_, _^_}
-use lib.ListN.{length}
 use Rattle.records.specs.Sets.{has, one, only, subset, allOf, closeOf}
 use Rattle.worlds.specs.Over.{entry}
 
 -- each person of a set alone, the others as they were
 pub record Alone (persons : ℕ) (before after : List ℕ) : Type 0 where
-  pub long : length after ≡ length before
-  pub at : (p : ℕ) → p < length before → entry after p ≡ cond (has persons p) (one p) (entry before p)
+  pub at : (p : ℕ) → entry after p ≡ cond (has persons p) (one p) (entry before p)
 
 -- at each person of a set the closing of that person under the sets, each of which lies within the set
 pub record ClassesBy (persons : ℕ) (sets classes : List ℕ) : Type 0 where
@@ -20,7 +18,6 @@ pub record ClassesBy (persons : ℕ) (sets classes : List ℕ) : Type 0 where
 
 -- classes by some sets become classes by more; persons outside them are left alone
 pub record Joins (more before after : List ℕ) : Type 0 where
-  pub long : length after ≡ length before
   pub classes : (persons : ℕ) (sets : List ℕ) → allOf (λ s. subset s persons) more ≡ true → ClassesBy persons sets before → ClassesBy persons (sets ++ more) after
   pub others : (persons : ℕ) (sets : List ℕ) → allOf (λ s. subset s persons) more ≡ true → ClassesBy persons sets before
       → (p : ℕ) → has persons p ≡ false → entry after p ≡ entry before p
