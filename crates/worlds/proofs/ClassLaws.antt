@@ -10,7 +10,7 @@ use lib.ListN.{length, getD, set, take}
 use lib.Seq.{getD-set-same, getD-set-other, take-suc, take-all}
 use lib.Dec.{eqb}
 use borrow.Author.Tests.{eqb-true, eqb-false}
-use Rattle.records.specs.Sets.{has, one, union, minus, subset, only, lowest, members, closeOf, allOf, unionOf}
+use Rattle.records.specs.Sets.{has, one, union, minus, subset, lowest, members, closeOf, allOf, unionOf}
 use Rattle.records.proofs.SetLaws.{Within, has-none, has-high, has-not, antisym, along, thru, in-minus, of-minus, subset-true, within-subset, and-parts, lt-or-le}
 use Rattle.records.proofs.Closing.{Takes, Closed, close-closed, close-within, close-least, close-mono, close-same, close-sym, close-union, closed-minus, in-one, one-within}
 use Rattle.records.proofs.ListLaws.{all-append}
@@ -159,12 +159,12 @@ joins-next xs ys a b c j k = record {
     parts : (persons : ℕ) → allOf (λ s. subset s persons) (xs ++ ys) ≡ true → (allOf (λ s. subset s persons) xs ≡ true) × (allOf (λ s. subset s persons) ys ≡ true)
     parts persons e = and-parts (allOf (λ s. subset s persons) xs) (allOf (λ s. subset s persons) ys) (sym (all-append (λ s. subset s persons) xs ys) ∙ e)
 
--- a set that lies within the class of one of its persons, or is nobody, changes nothing
 inside-one : (persons s : ℕ) → allOf (λ t. subset t persons) (s ∷ []) ≡ true → Within s persons
 unfolding allOf
 inside-one persons s e = subset-true s persons (and-parts (subset s persons) true e .0)
 
-pub joins-same : (s : ℕ) (classes : List ℕ) → ((persons : ℕ) (sets : List ℕ) → Within s persons → ClassesBy persons sets classes → (p : ℕ) → closeOf (sets ++ (s ∷ [])) (one p) ≡ closeOf sets (one p)) → Joins (s ∷ []) classes classes
+-- a set by which no class changes
+joins-same : (s : ℕ) (classes : List ℕ) → ((persons : ℕ) (sets : List ℕ) → Within s persons → ClassesBy persons sets classes → (p : ℕ) → closeOf (sets ++ (s ∷ [])) (one p) ≡ closeOf sets (one p)) → Joins (s ∷ []) classes classes
 joins-same s classes f = record {
   classes = λ persons sets e by. record {
     few = by .few;
@@ -174,14 +174,16 @@ joins-same s classes f = record {
   others = λ persons sets e by p h. refl;
 }
 
+-- such is nobody
 pub joins-nobody : (s : ℕ) (classes : List ℕ) → s ≡ 0 → Joins (s ∷ []) classes classes
 joins-nobody s classes z = joins-same s classes (λ persons sets i by p. close-taken sets s (one p) (λ q x y. absurd (true≢false (sym x ∙ ap (λ (m : ℕ). has m q) z ∙ has-none q))))
 
+-- and a set that lies within the class of one of its persons
 pub joins-inside : (s a : ℕ) (classes : List ℕ) → has s a ≡ true → subset s (entry classes a) ≡ true → Joins (s ∷ []) classes classes
 joins-inside s a classes h e =
     joins-same s classes (λ persons sets i by p. joined-already sets s a p (thru (subset-true s (entry classes a) e) (along (by .at a (i .at a h)))))
 
--- the union of the classes of its persons, put at each person of it
+-- the classes of a set's persons become one where their union is put at each person of it
 pub joins-whole : (s whole : ℕ) (before after : List ℕ) → s < 2 ^ 64 → whole ≡ unionOf (entry before) (members s) → Marked whole whole before after → Joins (s ∷ []) before after
 joins-whole s whole before after b w m = record {
   classes = λ persons sets e by. record {

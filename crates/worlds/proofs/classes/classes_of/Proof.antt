@@ -1,6 +1,5 @@
 -- `classes::classes_of`: after i sets each person has the class by the first i.
 use Prim.Native.Nat.{_-_, _≤_, _^_}
-use native.Mathlib.Omega.{arith}
 use borrow.Author.Needs.{needs}
 use lib.ListN.{length, take}
 use Rattle.worlds.specs.Classes.{ClassesBy}

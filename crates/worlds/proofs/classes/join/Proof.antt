@@ -1,3 +1,4 @@
+-- `classes::join`: a set joins nobody new where it is empty or lies within one class; else the classes of its persons become one.
 use borrow.Author.Needs.{needs}
 use mathlib.Core.Path.{sym, ap, _∙_}
 use borrow.Author.Tests.{not-false}
@@ -6,44 +7,30 @@ use Rattle.records.proofs.SetLaws.{trailing-member}
 use Rattle.worlds.proofs.ClassLaws.{joins-nobody, joins-inside, joins-whole}
 use Rattle.worlds.proofs.classes.join.Statement.{statement}
 use Rattle.worlds.proofs.classes.join.Tie as tie
-use Rattle.worlds.proofs.classes.join.Reads as reads
-use Rattle.worlds.proofs.classes.join.Lts as lts
-use Rattle.records.proofs.sets.subset.Reads as subset-reads
-use Rattle.worlds.proofs.over.gather.Reads as gather-reads
-use Rattle.worlds.proofs.over.low.Reads as low-reads
-use Rattle.worlds.proofs.over.put.Reads as put-reads
 
--- src/classes.rt:33:29
 low-requires : tie.Need-low-requires
 low-requires c κs = search needs
 
--- src/classes.rt:33:21
 mul-first : tie.Need-mul-first
 mul-first c = search needs
 
--- src/classes.rt:33:21
 element-copy-out-first : tie.Need-element-copy-out-first
 element-copy-out-first c = search needs
 
--- src/classes.rt:34:13
 subset-requires : tie.Need-subset-requires
 subset-requires c κs = search needs
 
--- src/classes.rt:35:17
 gather-requires : tie.Need-gather-requires
 gather-requires c κs = search needs
 
--- src/classes.rt:36:13
 put-requires : tie.Need-put-requires
 put-requires c κs = search needs
 
--- src/classes.rt:29:1
 returns : tie.Need-returns
 returns c =
     let s = c .before .before .before .before .before .before .before .before .before in
     joins-whole (s .args .set) (c .before .before .gather .result) (s .args .classes .now) (c .put .last .0) (s .fits .set .fits) (c .before .before .gather .ensures) (c .put .ensures)
 
--- src/classes.rt:29:1
 returns-2 : tie.Need-returns-2
 unfolding lowest
 returns-2 c =
@@ -53,7 +40,6 @@ returns-2 c =
     (ap (has (s .args .set)) (low .ensures .0) ∙ trailing-member 64 (s .args .set) (s .fits .set .fits) (c .before .before .before .before .if1 .taken))
     (sym (c .before .subset .ensures) ∙ not-false (c .before .subset .result) (c .if2 .left))
 
--- src/classes.rt:29:1
 returns-3 : tie.Need-returns-3
 returns-3 c = joins-nobody (c .before .args .set) (c .before .args .classes .now) (c .if1 .left)
 
