@@ -6,3 +6,4 @@ pub mod StateSeen
 pub mod ViewSeen
 pub mod FirstBlocks
 pub mod Partition
+pub mod ClassLaws
