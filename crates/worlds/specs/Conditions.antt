@@ -1,7 +1,7 @@
 -- The code's tables of conditions, and the activity of rules as masks.
 use mathlib.Core.Path.{_≡_}
 use mathlib.Core.Bool.{Bool, true, false}
-use mathlib.Core.List.{List, []}
+use mathlib.Core.List.{List, [], _∷_}
 use Prim.Native.Nat.{ℕ, _<_}
 use lib.ListN.{getD, take}
 use Rattle.records.specs.Sets.{has}
@@ -11,7 +11,10 @@ use Rattle.expressions.specs.Rules.{edgeCount, cutCount, attachmentCount, barCo
 use Rattle.expressions.specs.Nodes.{on}
 use Rattle.expressions.specs.Variables.{Values}
 use Rattle.worlds.specs.Active as paper
+use Rattle.expressions.specs.Coded.{edgesOf}
+use Rattle.records.specs.declared.plan.Edges.{Edges}
 use Rattle.worlds.specs.Tables.{row, Tells}
+use Rattle.worlds.specs.Laid.{Row, Same}
 use Rattle.worlds.specs.Valued.{Valued}
 use Rattle.worlds.specs.declared.tables.Active.{Active}
 
@@ -23,6 +26,16 @@ pub record Conditioned (P : Plan) (conditions defeaters : List (List ℕ)) : Typ
   pub bars : (i : ℕ) → i < barCount P → row conditions 3 i ≡ bar P i .condition
   pub statuses : (i : ℕ) → i < statusCount P → row conditions 4 i ≡ status P i .condition
   pub against : (i : ℕ) → i < edgeCount P → take (row conditions 5 i) (getD defeaters i []) ≡ edge P i .defeaters
+
+-- the edges' part of it, and a row of another kind
+pub record EdgeConditions (edges : Edges) (before after defeaters : List (List ℕ)) : Type 0 where
+  pub conditions : (P : Plan) → P .edges ≡ edgesOf edges → Row after 0 (edgeCount P) (λ i. edge P i .condition)
+  pub against : (P : Plan) → P .edges ≡ edgesOf edges → (i : ℕ) → i < edgeCount P → take (row after 5 i) (getD defeaters i []) ≡ edge P i .defeaters
+  pub same : Same (0 ∷ 5 ∷ []) before after
+
+pub record ConditionsOf (k : ℕ) (Has : Plan → Type 0) (count : Plan → ℕ) (condition : Plan → ℕ → ℕ) (before after : List (List ℕ)) : Type 0 where
+  pub conditions : (P : Plan) → Has P → Row after k (count P) (condition P)
+  pub same : Same (k ∷ []) before after
 
 -- a mask of rules that is right for all that are not asked, and leaves those out that are
 pub record Split (n : ℕ) (answers : ℕ → Bool) (known asked : ℕ) : Type 0 where

@@ -5,6 +5,9 @@ pub mod Events
 pub mod Over
 pub mod Classes
 pub mod Tables
+pub mod Laid
+pub mod Related
+pub mod Made
 pub mod Cuts
 pub mod Discretion
 pub mod Settled
@@ -12,4 +15,3 @@ pub mod Blocks
 pub mod Citing
 pub mod Valued
 pub mod Conditions
-pub mod Laid
