@@ -1,3 +1,4 @@
+pub mod OverLaws
 pub mod MarkLaws
 pub mod CutsSeen
 pub mod MarksSeen
@@ -5,3 +6,4 @@ pub mod StateSeen
 pub mod ViewSeen
 pub mod FirstBlocks
 pub mod Partition
+pub mod SpreadLaws
