@@ -7,3 +7,5 @@ pub mod ViewSeen
 pub mod FirstBlocks
 pub mod Partition
 pub mod SpreadLaws
+pub mod FindLaws
+pub mod CutLaws
