@@ -9,3 +9,4 @@ pub mod Partition
 pub mod SpreadLaws
 pub mod FindLaws
 pub mod CutLaws
+pub mod ApplyLaws
