@@ -10,3 +10,4 @@ pub mod SpreadLaws
 pub mod FindLaws
 pub mod CutLaws
 pub mod ApplyLaws
+pub mod ClashLaws
