@@ -11,3 +11,4 @@ pub mod FindLaws
 pub mod CutLaws
 pub mod ApplyLaws
 pub mod ClashLaws
+pub mod CutsMade
