@@ -6,8 +6,8 @@ use Prim.Native.Nat.{ℕ, zero, suc, _/_, _^_, _≤_, _<_}
 use native.Mathlib.Omega.{arith}
 use lib.Dec.{ltb}
 use borrow.Author.Tests.{ltb-true, lt-ltb}
-use Rattle.records.specs.Sets.{has, disjoint, meets, members, anyBelow, unionOf}
-use Rattle.records.proofs.SetLaws.{has-suc, antisym, empty, disjoint-false, disjoint-true, and-parts}
+use Rattle.records.specs.Sets.{has, minus, disjoint, meets, members, anyBelow, unionOf}
+use Rattle.records.proofs.SetLaws.{has-suc, has-minus, antisym, empty, disjoint-false, disjoint-true, and-parts}
 use Rattle.records.proofs.BelowLaws.{any-false}
 use Rattle.records.proofs.Local.{which, clash, any-none}
 use Rattle.worlds.proofs.OverLaws.{union-has, has-union-of}
@@ -96,3 +96,11 @@ set-low (suc k) m h = let l = set-low k (m / 2) (λ p l. sym (has-suc m p) ∙ h
 
 pub few-low : (n m : ℕ) → n ≤ 64 → ((c : ℕ) → has m c ≡ true → c < n) → m < 2 ^ 64
 few-low n m l h = set-low 64 m (λ p k. not-so (has m p) (λ e. let z = h p e in omega arith))
+
+-- a set without those of it that pass
+pub minus-passing : (a s r : ℕ) (g : ℕ → Bool) → r ≡ minus a s → ((c : ℕ) → has s c ≡ (has a c && g c)) → (c : ℕ) → has r c ≡ (has a c && not (g c))
+minus-passing a s r g e h c = ap (λ (m : ℕ). has m c) e ∙ has-minus a s c ∙ ap (λ (b : Bool). has a c && not b) (h c) ∙ once (has a c) (g c)
+  where
+    once : (x y : Bool) → (x && not (x && y)) ≡ (x && not y)
+    once true y = refl
+    once false y = refl

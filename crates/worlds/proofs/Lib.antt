@@ -12,3 +12,4 @@ pub mod CutLaws
 pub mod ApplyLaws
 pub mod ClashLaws
 pub mod CutsMade
+pub mod NoteLaws
