@@ -90,8 +90,8 @@ loop-again c =
       less,
       ap length (w .3) ∙ simp length-set (l .loop .inv .1),
       union-first f (l .loop .found) _ _ _ _ _ (c .others .ensures .0) (w .4)
-      (taken-in (bs (low .result)) (row (a .t .now) 2 (low .result)) (λ z. w .0 .taken (edges .ensures ∙ z)) ∙ ap f (low .ensures .0))
-      ∙ l .loop .inv .2,
+          (taken-in (bs (low .result)) (row (a .t .now) 2 (low .result)) (λ z. w .0 .taken (edges .ensures ∙ z)) ∙ ap f (low .ensures .0))
+          ∙ l .loop .inv .2,
       λ i. ap (λ (xs : List ℕ). noting bs (c .others .result) xs i) (w .3)
           ∙ note-store bs (l .loop .m) (c .others .result) (low .result) _ (l .loop .noted) turn (omega (arith, low .ensures .1, l .loop .inv .1))
           (ap (union (entry (l .loop .noted) (low .result))) (edges .ensures)) i
@@ -101,8 +101,8 @@ loop-again c =
       less,
       ap length (w .1) ∙ l .loop .inv .1,
       union-first f (l .loop .found) _ 0 _ _ _ (c .others .ensures .0) (w .2 ∙ sym (union-none (l .loop .found)))
-      (left-out (bs (low .result)) (row (a .t .now) 2 (low .result)) (sym (edges .ensures) ∙ w .0 .left) ∙ ap f (low .ensures .0))
-      ∙ l .loop .inv .2,
+          (left-out (bs (low .result)) (row (a .t .now) 2 (low .result)) (sym (edges .ensures) ∙ w .0 .left) ∙ ap f (low .ensures .0))
+          ∙ l .loop .inv .2,
       λ i. ap (λ (xs : List ℕ). noting bs (c .others .result) xs i) (w .1)
           ∙ note-skip bs (l .loop .m) (c .others .result) (low .result) (l .loop .noted) turn (sym (edges .ensures) ∙ w .0 .left) i
           ∙ l .loop .inv .3 i,
