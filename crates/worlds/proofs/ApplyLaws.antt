@@ -1,24 +1,23 @@
 -- Merged cuts read off the tables: which are applied, and which overlap another with other members.
 use mathlib.Core.Path.{_≡_, refl, sym, ap, ap₂, _∙_}
-use mathlib.Core.Bool.{Bool, true, false, _&&_, _||_, not, Bool·beq, false≢true}
+use mathlib.Core.Bool.{Bool, true, false, _&&_, not, Bool·beq, false≢true}
 use mathlib.Core.List.{List}
-use mathlib.Core.Logic.{_⊎_, inl, inr, ⊎-elim}
-use Prim.Native.Nat.{ℕ, _^_, _≤_, _<_}
-use native.Mathlib.Omega.{arith}
+use mathlib.Core.Logic.{_⊎_, inl, inr}
+use Prim.Native.Nat.{ℕ, _^_, _<_}
 use lib.Dec.{eqb, ltb}
-use borrow.Author.Tests.{ltb-true, lt-ltb, eqb-true, eqb-false, eq-eqb, ne-eqb, not-true, not-false}
-use Rattle.records.specs.Sets.{has, one, disjoint, meets, union, minus, only, members, below, anyBelow, unionOf}
+use borrow.Author.Tests.{ltb-true, lt-ltb, eqb-true, eqb-false, eq-eqb, ne-eqb, not-true}
+use Rattle.records.specs.Sets.{has, one, disjoint, meets, union, minus, only, members, anyBelow}
 use Rattle.records.specs.Plan.{Plan}
 use Rattle.records.proofs.SetLaws.{has-none, has-minus, has-one, in-union-l, in-union-r, member, meeting, disjoint-false, and-parts}
 use Rattle.records.proofs.LoopLaws.{getD-below}
-use Rattle.records.proofs.BelowLaws.{any-false, flag-set, of-only, in-only}
+use Rattle.records.proofs.BelowLaws.{flag-set, of-only, in-only}
 use Rattle.records.proofs.Local.{which, clash}
 use Rattle.expressions.specs.Rules.{edgeCount, cutCount, edge, cut, pair}
 use Rattle.expressions.specs.Nodes.{on}
 use Rattle.expressions.specs.Variables.{Influence}
 use Rattle.worlds.specs.Active as paper
 use Rattle.worlds.specs.World.{about, sameMembers, standing, overlappingCut, overlappingCuts, blockedBy, blockedCut, appliedCuts}
-use Rattle.worlds.specs.Tables.{row, sharing, crosses, Stands, Tells}
+use Rattle.worlds.specs.Tables.{row, crosses, Stands, Tells}
 use Rattle.worlds.specs.Cuts.{blockers, blockedTwins}
 use Rattle.worlds.specs.declared.tables.Common.{Common}
 use Rattle.worlds.specs.declared.tables.Active.{Active}

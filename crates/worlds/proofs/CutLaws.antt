@@ -2,20 +2,18 @@
 use mathlib.Core.Path.{_≡_, refl, sym, ap, ap₂, _∙_}
 use mathlib.Core.Bool.{Bool, true, false, _&&_, _||_, not, false≢true}
 use mathlib.Core.List.{List}
-use mathlib.Core.Logic.{_⊎_, inl, inr, ⊎-elim}
+use mathlib.Core.Logic.{⊎-elim}
 use Prim.Native.Nat.{ℕ, _^_, _≤_, _<_}
 use native.Mathlib.Omega.{arith}
-use lib.ListN.{getD, length}
 use lib.Dec.{eqb, ltb}
 use borrow.Author.Tests.{ltb-true, lt-ltb}
-use Rattle.records.specs.Sets.{has, one, meets, union, meet, minus, members, below, anyBelow, unionOf}
-use Rattle.records.specs.Plan.{Plan, unresolved}
+use Rattle.records.specs.Sets.{has, meets, union, meet, minus, members, below, anyBelow, unionOf}
+use Rattle.records.specs.Plan.{Plan}
 use Rattle.records.proofs.SetLaws.{has-union, has-meet, has-minus, has-one, and-parts, lt-or-le}
 use Rattle.records.proofs.LoopLaws.{getD-below, getD-past}
-use Rattle.records.proofs.BelowLaws.{flag-set}
 use Rattle.expressions.specs.Rules.{edgeCount, cutCount, edge, cut}
 use Rattle.expressions.specs.Nodes.{on}
-use Rattle.expressions.specs.Influence.{says, decisionCount, openDecision, openDecisions}
+use Rattle.expressions.specs.Influence.{decisionCount, openDecision}
 use Rattle.expressions.specs.Variables.{Influence}
 use Rattle.expressions.proofs.OpenLaws.{open-few}
 use Rattle.worlds.specs.Active as paper

@@ -1,11 +1,11 @@
 -- Steps 3 to 5 whole: what is settled by sets of cuts is what the world says.
-use mathlib.Core.Path.{_≡_, refl, sym, ap, ap₂, _∙_}
+use mathlib.Core.Path.{_≡_, sym, ap, ap₂, _∙_}
 use mathlib.Core.Bool.{Bool, true, _&&_, not}
 use mathlib.Core.List.{List}
 use mathlib.Core.Logic.{⊎-elim}
 use Prim.Native.Nat.{ℕ, _^_, _<_}
 use native.Mathlib.Omega.{arith}
-use Rattle.records.specs.Sets.{has, one, meets, meet, minus, only, members, below, unionBelow, unionOf}
+use Rattle.records.specs.Sets.{has, one, meets, meet, minus, only, members, unionBelow, unionOf}
 use Rattle.records.specs.Plan.{Plan}
 use Rattle.records.proofs.SetLaws.{Within, has-minus, has-high, antisym, lt-or-le}
 use Rattle.records.proofs.BelowLaws.{union-find, in-below, of-only, in-only, flag-set}
@@ -14,11 +14,11 @@ use Rattle.expressions.specs.Rules.{cutCount, cut}
 use Rattle.expressions.specs.Nodes.{on}
 use Rattle.expressions.specs.Variables.{Influence}
 use Rattle.worlds.specs.Active as paper
-use Rattle.worlds.specs.World.{World, keptCut, keptCuts, overlappingCuts, standing, spread, overlapSeed, marksOf, afterMarks, worldOf}
+use Rattle.worlds.specs.World.{keptCut, keptCuts, overlappingCuts, standing, spread, overlapSeed, marksOf, afterMarks, worldOf}
 use Rattle.worlds.specs.Events.{leastOfMerged}
-use Rattle.worlds.specs.Tables.{row, Stands, Tells}
+use Rattle.worlds.specs.Tables.{row, Stands}
 use Rattle.worlds.specs.Cuts.{blockers, blockedTwins, Noted}
-use Rattle.worlds.specs.Settled.{blocks, clashes, CutsAre, CutsSettled}
+use Rattle.worlds.specs.Settled.{blocks, clashes, CutsSettled}
 use Rattle.worlds.specs.declared.tables.Common.{Common}
 use Rattle.worlds.specs.declared.tables.Active.{Active}
 use Rattle.worlds.specs.declared.cuts.CutsDone.{CutsDone}
@@ -87,18 +87,20 @@ module _ (P : Plan) (I : Influence) (k : Common) (t : List (List ℕ)) (S : Stan
       ∙ union-members (row t 15) (λ p. spread P I (one p)) (overlapSeed P a) seed-low (λ p h. S .spreads p (seed-on .at p h))
       ∙ sym (spread-members P I (overlapSeed P a) seed-low)
 
-pub cuts-made : (t : List (List ℕ)) (f : Active) (r : CutsDone) (b₀ b₁ c₀ c₁ : List ℕ) (left cl lo st : ℕ)
+pub cuts-made : (t : List (List ℕ)) (f : Active) (r : CutsDone) (b₀ b₁ c₀ c₁ : List ℕ) (left cl lo st out united : ℕ)
     → ((c : ℕ) → has left c ≡ (has (f .cuts) c && not (meets (row t 4 c) (f .cuts))))
     → ((c : ℕ) → has cl c ≡ (has left c && meets (row t 5 c) left))
     → ((c : ℕ) → has lo c ≡ (has cl c && not (meets (row t 3 c) cl)))
     → st ≡ minus left cl
     → Noted lo (λ c. meet (row t 6 c) lo) c₀ c₁
     → Noted st (blockers t (f .frozen) (f .decisions)) b₀ b₁
-    → r .overlap ≡ unionOf (row t 15) (members (unionOf (row t 1) (members cl)))
-    → r .applied ≡ minus st (blockedTwins t (f .frozen) (f .decisions) (members st))
+    → out ≡ blockedTwins t (f .frozen) (f .decisions) (members st)
+    → united ≡ unionOf (row t 1) (members cl)
+    → r .overlap ≡ unionOf (row t 15) (members united)
+    → r .applied ≡ minus st out
     → CutsSettled t f r b₀ b₁ c₀ c₁
 unfolding worldOf afterMarks marksOf blocks clashes leastOfMerged
-cuts-made t f r b₀ b₁ c₀ c₁ left cl lo st hk ho hl hs nc nb eo ea = record {
+cuts-made t f r b₀ b₁ c₀ c₁ left cl lo st out united hk ho hl hs nc nb et eu eo ea = record {
   at = λ P I k a S T.
       let kept = keptCuts P a in
       let low = kept-low P a in
@@ -107,8 +109,8 @@ cuts-made t f r b₀ b₁ c₀ c₁ left cl lo st hk ho hl hs nc nb eo ea = reco
       let st-told : (c : ℕ) → has st c ≡ standing kept (overlappingCuts P kept) c =
       λ c. ap (λ (m : ℕ). has m c) hs ∙ has-minus left cl c ∙ ap₂ (λ (x y : Bool). x && not y) (kt c) (ot c) in
       record {
-        overlap = eo ∙ overlap-told P I k t S a cl ot;
-        applied = applied-told P I k t S a f T kept low st st-told (r .applied) ea;
+        overlap = eo ∙ ap (λ (m : ℕ). unionOf (row t 15) (members m)) eu ∙ overlap-told P I k t S a cl ot;
+        applied = applied-told P I k t S a f T kept low st st-told (r .applied) (ea ∙ ap (minus st) et);
         blocked = noted-added st (blockers t (f .frozen) (f .decisions)) _ b₀ b₁ nb (blocks-told P I k t S kept low a f T st st-told);
         clashed = noted-added lo (λ c. meet (row t 6 c) lo) _ c₀ c₁ nc (clashes-told P I k t S kept low cl ot lo hl);
       };

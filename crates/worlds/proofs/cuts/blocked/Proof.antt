@@ -1,30 +1,18 @@
 -- `cuts::blocked`: with what the cuts left bring, the twins found and the table are those asked for.
 use mathlib.Core.Path.{_≡_, refl, sym, ap, _∙_}
-use mathlib.Core.Bool.{Bool, not, cond}
-use mathlib.Core.List.{List}
 use mathlib.Core.Logic.{⊎-elim}
 use Prim.Native.Nat.{ℕ, _<_, _^_}
 use native.Mathlib.Nat.{lt-trans}
 use native.Mathlib.Omega.{arith}
 use lib.ListN.{length, length-set}
-use lib.Dec.{eqb}
-use borrow.Author.Tests.{ne-eqb, eq-eqb}
-use Rattle.records.specs.Sets.{union, only, members, unionOf}
-use Rattle.expressions.proofs.UnionLaws.{none-union, union-none, union-first, union-end}
-use Rattle.worlds.specs.Over.{entry}
+use Rattle.records.specs.Sets.{union, members}
+use Rattle.expressions.proofs.UnionLaws.{none-union, union-end}
 use Rattle.worlds.specs.Tables.{row}
 use Rattle.worlds.specs.Cuts.{blockers, blockedTwins}
 use Rattle.worlds.proofs.OverLaws.{turn-has, members-none}
-use Rattle.worlds.proofs.NoteLaws.{noting, note-store, note-skip, note-end}
+use Rattle.worlds.proofs.NoteLaws.{noting, note-end, twinsIf, twins-in, twins-out, note-in, note-out}
 use Rattle.worlds.proofs.cuts.blocked.Statement.{statement}
 use Rattle.worlds.proofs.cuts.blocked.Tie as tie
-
--- the twins of a cut that is blocked, and of one that is not
-taken-in : (b s : ℕ) → (b ≡ 0 → ⊥) → s ≡ only (not (eqb b 0)) s
-taken-in b s n = sym (ap (λ (x : Bool). only (not x) s) (ne-eqb b 0 n))
-
-left-out : (b s : ℕ) → b ≡ 0 → 0 ≡ only (not (eqb b 0)) s
-left-out b s e = sym (ap (λ (x : Bool). only (not x) s) (eq-eqb b 0 e))
 
 abbrev Inv-loop : tie.InvT-loop
 Inv-loop t standing frozen decisions noted₀ found₀ m₀ noted found m =
@@ -80,32 +68,29 @@ loop-again c =
     let l = c .before .before .before .before .before in
     let a = l .before .before .before .args in
     let bs = blockers (a .t .now) (a .frozen) (a .decisions) in
+    let tw = row (a .t .now) 2 in
     let low = c .before .before .before .low in
     let edges = c .before .before .blocking in
-    let f : ℕ → ℕ = λ d. only (not (eqb (bs d) 0)) (row (a .t .now) 2 d) in
-    let turn = turn-has _ _ _ (l .loop .inv .0) (low .ensures) (c .others .ensures) in
-    let less = lt-trans (c .others .ensures .1) (l .loop .inv .0) in
+    let m = l .loop .m in
+    let r = c .others .result in
+    let n = c .before .if1 .noted in
+    let f = c .before .if1 .found in
+    let next = c .others .ensures in
+    let turn = turn-has m r (low .result) (l .loop .inv .0) (low .ensures) next in
+    let less = lt-trans (next .1) (l .loop .inv .0) in
+    let room : low .result < length (l .loop .noted) = omega (arith, low .ensures .1, l .loop .inv .1) in
     ⊎-elim
     (λ w. (
       less,
       ap length (w .3) ∙ simp length-set (l .loop .inv .1),
-      union-first f (l .loop .found) _ _ _ _ _ (c .others .ensures .0) (w .4)
-          (taken-in (bs (low .result)) (row (a .t .now) 2 (low .result)) (λ z. w .0 .taken (edges .ensures ∙ z)) ∙ ap f (low .ensures .0))
-          ∙ l .loop .inv .2,
-      λ i. ap (λ (xs : List ℕ). noting bs (c .others .result) xs i) (w .3)
-          ∙ note-store bs (l .loop .m) (c .others .result) (low .result) _ (l .loop .noted) turn (omega (arith, low .ensures .1, l .loop .inv .1))
-          (ap (union (entry (l .loop .noted) (low .result))) (edges .ensures)) i
-          ∙ l .loop .inv .3 i,
+      twins-in bs tw m r (low .result) (edges .result) (edges .ensures) (l .loop .found) f _ (next .0) (low .ensures .0) (l .loop .inv .2) (w .0 .taken) (w .4),
+      note-in bs tw m r (low .result) (edges .result) (edges .ensures) (l .loop .noted) n _ turn (l .loop .inv .3) room (w .3),
     ))
     (λ w. (
       less,
       ap length (w .1) ∙ l .loop .inv .1,
-      union-first f (l .loop .found) _ 0 _ _ _ (c .others .ensures .0) (w .2 ∙ sym (union-none (l .loop .found)))
-          (left-out (bs (low .result)) (row (a .t .now) 2 (low .result)) (sym (edges .ensures) ∙ w .0 .left) ∙ ap f (low .ensures .0))
-          ∙ l .loop .inv .2,
-      λ i. ap (λ (xs : List ℕ). noting bs (c .others .result) xs i) (w .1)
-          ∙ note-skip bs (l .loop .m) (c .others .result) (low .result) (l .loop .noted) turn (sym (edges .ensures) ∙ w .0 .left) i
-          ∙ l .loop .inv .3 i,
+      twins-out bs tw m r (low .result) (edges .result) (edges .ensures) (l .loop .found) f _ (next .0) (low .ensures .0) (l .loop .inv .2) (w .0 .left) (w .2),
+      note-out bs tw m r (low .result) (edges .result) (edges .ensures) (l .loop .noted) n _ turn (l .loop .inv .3) (w .0 .left) (w .1),
     )) (c .before .if1 .came)
 
 returns : tie.Need-returns Inv-loop μ-loop
@@ -114,7 +99,7 @@ returns c =
     let l = c .before in
     let a = l .before .before .before .args in
     let bs = blockers (a .t .now) (a .frozen) (a .decisions) in (
-      sym (union-end (λ d. only (not (eqb (bs d) 0)) (row (a .t .now) 2 d)) (l .loop .found) (members (l .loop .m)) (members-none _ (c .loop-test .left))) ∙ l .loop .inv .2,
+      sym (union-end (twinsIf bs (row (a .t .now) 2)) (l .loop .found) (members (l .loop .m)) (members-none _ (c .loop-test .left))) ∙ l .loop .inv .2,
       record { at = λ i. sym (note-end bs (l .loop .m) (l .loop .noted) (c .loop-test .left) i) ∙ l .loop .inv .3 i },
     )
 

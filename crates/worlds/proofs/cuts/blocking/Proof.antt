@@ -1,9 +1,7 @@
 -- `cuts::blocking`: the frozen edges that cross the cut, and on which it says blocked, or unresolved and false.
 use mathlib.Core.Path.{ap, _∙_}
-use mathlib.Core.List.{[]}
 use Prim.Native.Nat.{ℕ}
 use lib.Bits.{bitAnd, bitOr}
-use lib.ListN.{getD}
 use Rattle.records.specs.Sets.{union, meet, members, unionOf}
 use Rattle.worlds.specs.Tables.{row}
 use Rattle.worlds.specs.Cuts.{blockers}

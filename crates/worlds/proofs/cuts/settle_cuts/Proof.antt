@@ -1,9 +1,5 @@
 -- `cuts::settle_cuts`: steps 3 to 5 by sets of cuts.
-use mathlib.Core.Path.{ap, _∙_}
-use Prim.Native.Nat.{ℕ}
 use borrow.Author.Needs.{needs}
-use Rattle.records.specs.Sets.{minus, members, unionOf}
-use Rattle.worlds.specs.Tables.{row}
 use Rattle.worlds.proofs.CutsMade.{cuts-made}
 use Rattle.worlds.proofs.cuts.settle_cuts.Statement.{statement}
 use Rattle.worlds.proofs.cuts.settle_cuts.Tie as tie
@@ -52,10 +48,10 @@ returns c =
     let left = clashing .before in
     let a = left .before .args in
     let t = a .t .now in
-    cuts-made t (a .active) _ (a .blockings .now) _ (a .clashes .now) _ (left .kept .result) (clashing .overlapping .result) (lowest .lowest-twins .result) (stood .minus .result)
-    (left .kept .ensures) (clashing .overlapping .ensures) (lowest .lowest-twins .ensures) (stood .minus .ensures) (noted .note-clashes .ensures) (out .blocked .ensures .1)
-    (c .before .gather2 .ensures ∙ ap (λ (m : ℕ). unionOf (row t 15) (members m)) (gathered .gather .ensures))
-    (c .minus2 .ensures ∙ ap (minus (stood .minus .result)) (out .blocked .ensures .0))
+    cuts-made t (a .active) _ (a .blockings .now) _ (a .clashes .now) _ (left .kept .result) (clashing .overlapping .result) (lowest .lowest-twins .result)
+    (stood .minus .result) (out .blocked .result) (gathered .gather .result) (left .kept .ensures) (clashing .overlapping .ensures)
+    (lowest .lowest-twins .ensures) (stood .minus .ensures) (noted .note-clashes .ensures) (out .blocked .ensures .1) (out .blocked .ensures .0)
+    (gathered .gather .ensures) (c .before .gather2 .ensures) (c .minus2 .ensures)
 
 pub settle-cuts-spec : {M : Type 1} → statement M
 settle-cuts-spec =
