@@ -7,3 +7,10 @@ pub mod ViewSeen
 pub mod FirstBlocks
 pub mod Partition
 pub mod ClassLaws
+pub mod SpreadLaws
+pub mod FindLaws
+pub mod CutLaws
+pub mod ApplyLaws
+pub mod ClashLaws
+pub mod CutsMade
+pub mod NoteLaws

@@ -110,7 +110,7 @@ module _ (P : Plan) (roster : ℕ) (on-roster : subset (rulePersons P) roster �
   unfolding rulePersons edges cuts spans others
   persons = subset-true (rulePersons P) roster on-roster
 
-  cut-on : (c : ℕ) → Within (cut P c .members) roster
+  pub cut-on : (c : ℕ) → Within (cut P c .members) roster
   unfolding cuts cut
   cut-on c = ⊎-elim named past (lt-or-le c (cutCount P))
     where

@@ -3,6 +3,7 @@ use crate::over::gather;
 use crate::over::low;
 use crate::over::meeting;
 use crate::over::others;
+use crate::over::whole;
 use crate::tables::Active;
 use crate::tables::CLASHING;
 use crate::tables::CROSSING;
@@ -54,6 +55,7 @@ pub fn blocked(t: &Tables, standing: u64, frozen: u64, decisions: u64, noted: &m
     ensures twins { λ r. ⌜ r ≡ blockedTwins (now (t .entry)) frozen decisions (members standing) ⌝ }
     ensures noted { λ r. ⌜ Noted standing (blockers (now (t .entry)) frozen decisions) (now (noted .entry)) (now (noted .exit)) ⌝ }
 {
+    whole(*noted);
     let mut found: u64 = 0;
     let mut m = standing;
     while m != 0 {
@@ -79,6 +81,7 @@ pub fn lowest_twins(t: &Tables, cuts: u64) -> u64
 pub fn note_clashes(t: &Tables, cuts: u64, noted: &mut [u64; 64])
     ensures { λ r. ⌜ Noted cuts (λ c. meet (row (now (t .entry)) 6 c) cuts) (now (noted .entry)) (now (noted .exit)) ⌝ }
 {
+    whole(*noted);
     let mut m = cuts;
     while m != 0 {
         let c = low(m);
