@@ -5,3 +5,6 @@ pub mod StateSeen
 pub mod ViewSeen
 pub mod FirstBlocks
 pub mod Partition
+pub mod OverLaws
+pub mod ClassLaws
+pub mod DiscretionLaws
