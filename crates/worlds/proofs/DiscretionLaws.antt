@@ -3,15 +3,16 @@ use mathlib.Core.Path.{_≡_, refl, sym, ap, ap₂, _∙_, subst, fun-ext}
 use mathlib.Core.Bool.{Bool, true, false, _&&_, _||_, not, cond, true≢false, false≢true}
 use mathlib.Core.Logic.{_⊎_, inl, inr, ⊎-elim}
 use mathlib.Core.List.{List, [], _∷_, _++_, map}
-use Prim.Native.Nat.{ℕ, zero, suc, _+_, _/_, _%_, _^_, _≤_, _<_, zero-le, suc-le-suc}
+use Prim.Native.Nat.{ℕ, zero, suc, _+_, _-_, _/_, _%_, _^_, _≤_, _<_, zero-le, suc-le-suc}
 use native.Mathlib.Nat.{zero-add}
 use native.Mathlib.Omega.{arith}
+use lib.Bits.{bitAnd}
 use lib.Count.{onesIn}
 use lib.Dec.{eqb, ltb}
 use lib.ListN.{length, getD, set}
 use lib.Seq.{getD-set-same, getD-set-other}
 use borrow.Author.Tests.{eqb-true, eqb-false, eq-eqb, le-ltb}
-use Rattle.records.specs.Sets.{has, one, union, minus, only, subset, size, unionOf, allOf, anyOf, members, closeOf}
+use Rattle.records.specs.Sets.{has, one, union, minus, only, subset, size, unionOf, allOf, anyOf, members, lowest, closeOf}
 use Rattle.records.proofs.SetLaws.{Within, has-none, has-suc, has-one, has-minus, within-refl, in-union-l, in-union-r, of-union, of-minus, minus-lt, empty, subset-true, within-subset, and-parts}
 use Rattle.records.proofs.Closing.{Closed, close-closed, close-within, close-least, close-same, in-one, one-within}
 use Rattle.records.proofs.Local.{which, clash}
@@ -19,7 +20,7 @@ use Rattle.expressions.proofs.UnionLaws.{union-assoc, union-none}
 use Rattle.worlds.specs.Over.{entry, Given}
 use Rattle.worlds.specs.Classes.{Alone, ClassesBy, Joins, joinable}
 use Rattle.worlds.specs.Discretion.{near, cliqueBy, looseBy, Heads, LooseParts}
-use Rattle.worlds.proofs.OverLaws.{members-none, has-members, union-has, has-union-of}
+use Rattle.worlds.proofs.OverLaws.{members-next, members-none, has-members, union-has, has-union-of}
 use Rattle.worlds.proofs.FirstBlocks.{close-class}
 
 -- ---- a class of one person is never at discretion
@@ -84,6 +85,10 @@ near-end pairs m p x e = ap (λ (l : List ℕ). union x (unionOf (λ e. only (ha
 pub all-next : (f : ℕ → Bool) (m r t : ℕ) → members m ≡ t ∷ members r → allOf f (members m) ≡ (f t && allOf f (members r))
 unfolding allOf
 all-next f m r t e = ap (allOf f) e
+
+pub all-fails : (f : ℕ → Bool) (m t : ℕ) → m < 2 ^ 64 → (m ≡ 0 → ⊥) → t ≡ lowest m → f t ≡ false → allOf f (members m) ≡ false
+unfolding allOf
+all-fails f m t b n e k = ap (allOf f) (members-next m b n) ∙ ap (λ (x : Bool). x && allOf f (members (bitAnd m (m - 1)))) (ap f (sym e) ∙ k)
 
 pub all-none : (f : ℕ → Bool) (m : ℕ) → m ≡ 0 → allOf f (members m) ≡ true
 unfolding allOf
