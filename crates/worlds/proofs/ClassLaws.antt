@@ -2,20 +2,21 @@
 use mathlib.Core.Path.{_≡_, refl, sym, ap, ap₂, _∙_, subst}
 use mathlib.Core.Bool.{Bool, true, false, _&&_, _||_, not, cond, true≢false}
 use mathlib.Core.Logic.{⊎-elim}
-use mathlib.Core.List.{List, [], _∷_, _++_, append-nil, append-assoc}
-use Prim.Native.Nat.{ℕ, _-_, _^_, _≤_, _<_}
+use mathlib.Core.List.{List, [], _∷_, _++_, map, append-nil, append-assoc}
+use Prim.Native.Nat.{ℕ, _+_, _-_, _^_, _≤_, _<_}
 use native.Mathlib.Omega.{arith}
-use lib.ListN.{length, set, List·getD-eq-default}
-use lib.Seq.{getD-set-same, getD-set-other}
+use native.Mathlib.Numerals.{add-one}
+use lib.ListN.{length, getD, set, take}
+use lib.Seq.{getD-set-same, getD-set-other, take-suc, take-all}
 use lib.Dec.{eqb}
 use borrow.Author.Tests.{eqb-true, eqb-false}
-use Rattle.records.specs.Sets.{has, one, union, minus, subset, members, closeOf, allOf, unionOf}
-use Rattle.records.proofs.SetLaws.{Within, has-none, has-high, has-not, antisym, along, thru, in-minus, of-minus, subset-true, and-parts, lt-or-le}
+use Rattle.records.specs.Sets.{has, one, union, minus, subset, lowest, members, closeOf, allOf, unionOf}
+use Rattle.records.proofs.SetLaws.{Within, has-none, has-high, has-not, antisym, along, thru, in-minus, of-minus, subset-true, within-subset, and-parts, lt-or-le}
 use Rattle.records.proofs.Closing.{Takes, Closed, close-closed, close-within, close-least, close-mono, close-same, close-sym, close-union, closed-minus, in-one, one-within}
 use Rattle.records.proofs.ListLaws.{all-append}
-use Rattle.worlds.specs.Over.{entry}
-use Rattle.worlds.specs.Classes.{Alone, ClassesBy, Joins}
-use Rattle.worlds.proofs.OverLaws.{union-has, has-union-of}
+use Rattle.worlds.specs.Over.{entry, Marked}
+use Rattle.worlds.specs.Classes.{Alone, ClassesBy, Joins, joinable}
+use Rattle.worlds.proofs.OverLaws.{members-none, union-has, has-union-of}
 
 -- ---- closed sets and closings
 
@@ -143,11 +144,10 @@ inside-more : (persons : ℕ) (ss ts : List ℕ) → allOf (λ s. subset s perso
 inside-more persons ss ts a b = all-append (λ s. subset s persons) ss ts ∙ ap₂ _&&_ a b
 
 pub joins-none : (classes : List ℕ) → Joins [] classes classes
-joins-none classes = record { long = refl; classes = λ persons sets e by. subst (λ (l : List ℕ). ClassesBy persons l classes) (sym (append-nil sets)) by; others = λ persons sets e by p h. refl }
+joins-none classes = record { classes = λ persons sets e by. subst (λ (l : List ℕ). ClassesBy persons l classes) (sym (append-nil sets)) by; others = λ persons sets e by p h. refl }
 
 pub joins-next : (xs ys a b c : List ℕ) → Joins xs a b → Joins ys b c → Joins (xs ++ ys) a c
 joins-next xs ys a b c j k = record {
-  long = k .long ∙ j .long;
   classes = λ persons sets e by.
       let t = parts persons e in
       subst (λ (l : List ℕ). ClassesBy persons l c) (append-assoc sets xs ys) (k .classes persons (sets ++ xs) (t .1) (j .classes persons sets (t .0) by));
@@ -159,14 +159,13 @@ joins-next xs ys a b c j k = record {
     parts : (persons : ℕ) → allOf (λ s. subset s persons) (xs ++ ys) ≡ true → (allOf (λ s. subset s persons) xs ≡ true) × (allOf (λ s. subset s persons) ys ≡ true)
     parts persons e = and-parts (allOf (λ s. subset s persons) xs) (allOf (λ s. subset s persons) ys) (sym (all-append (λ s. subset s persons) xs ys) ∙ e)
 
--- a set that lies within the class of one of its persons, or is nobody, changes nothing
 inside-one : (persons s : ℕ) → allOf (λ t. subset t persons) (s ∷ []) ≡ true → Within s persons
 unfolding allOf
 inside-one persons s e = subset-true s persons (and-parts (subset s persons) true e .0)
 
-pub joins-same : (s : ℕ) (classes : List ℕ) → ((persons : ℕ) (sets : List ℕ) → Within s persons → ClassesBy persons sets classes → (p : ℕ) → closeOf (sets ++ (s ∷ [])) (one p) ≡ closeOf sets (one p)) → Joins (s ∷ []) classes classes
+-- a set by which no class changes
+joins-same : (s : ℕ) (classes : List ℕ) → ((persons : ℕ) (sets : List ℕ) → Within s persons → ClassesBy persons sets classes → (p : ℕ) → closeOf (sets ++ (s ∷ [])) (one p) ≡ closeOf sets (one p)) → Joins (s ∷ []) classes classes
 joins-same s classes f = record {
-  long = refl;
   classes = λ persons sets e by. record {
     few = by .few;
     inside = inside-more persons sets (s ∷ []) (by .inside) e;
@@ -175,36 +174,31 @@ joins-same s classes f = record {
   others = λ persons sets e by p h. refl;
 }
 
+-- such is nobody
 pub joins-nobody : (s : ℕ) (classes : List ℕ) → s ≡ 0 → Joins (s ∷ []) classes classes
 joins-nobody s classes z = joins-same s classes (λ persons sets i by p. close-taken sets s (one p) (λ q x y. absurd (true≢false (sym x ∙ ap (λ (m : ℕ). has m q) z ∙ has-none q))))
 
+-- and a set that lies within the class of one of its persons
 pub joins-inside : (s a : ℕ) (classes : List ℕ) → has s a ≡ true → subset s (entry classes a) ≡ true → Joins (s ∷ []) classes classes
 joins-inside s a classes h e =
     joins-same s classes (λ persons sets i by p. joined-already sets s a p (thru (subset-true s (entry classes a) e) (along (by .at a (i .at a h)))))
 
--- a person who has a class has a place in the table
-placed : (persons : ℕ) (sets table : List ℕ) → ClassesBy persons sets table → (p : ℕ) → has persons p ≡ true → p < length table
-placed persons sets table by p h =
-    ⊎-elim (λ l. l) (λ l. absurd (true≢false (sym (close-within sets (one p) .at p (in-one p)) ∙ ap (λ (m : ℕ). has m p) (sym (by .at p h) ∙ List·getD-eq-default table 0 l) ∙ has-none p))) (lt-or-le p (length table))
-
-pub joins-whole : (s whole : ℕ) (before after : List ℕ) → s < 2 ^ 64 → whole ≡ unionOf (entry before) (members s) → length after ≡ length before
-    → ((p : ℕ) → p < length before → entry after p ≡ cond (has whole p) whole (entry before p)) → Joins (s ∷ []) before after
-joins-whole s whole before after b w n m = record {
-  long = n;
+-- the classes of a set's persons become one where their union is put at each person of it
+pub joins-whole : (s whole : ℕ) (before after : List ℕ) → s < 2 ^ 64 → whole ≡ unionOf (entry before) (members s) → Marked whole whole before after → Joins (s ∷ []) before after
+joins-whole s whole before after b w m = record {
   classes = λ persons sets e by. record {
     few = by .few;
     inside = inside-more persons sets (s ∷ []) (by .inside) e;
-    at = λ p h.
-        m p (placed persons sets before by p h) ∙ ap₂ (λ (x y : ℕ). cond (has x p) x y) (is persons sets e by) (by .at p h) ∙ sym (joined-class sets s p);
+    at = λ p h. m .at p ∙ ap₂ (λ (x y : ℕ). cond (has x p) x y) (is persons sets e by) (by .at p h) ∙ sym (joined-class sets s p);
   };
-  others = λ persons sets e by p h. ⊎-elim
-      (λ l. m p l ∙ ap (λ (b : Bool). cond b whole (entry before p)) (ap (λ (x : ℕ). has x p) (is persons sets e by) ∙ outside persons sets e by p h))
-      (λ l. List·getD-eq-default after 0 (subst (λ (k : ℕ). k ≤ p) (sym n) l) ∙ sym (List·getD-eq-default before 0 l)) (lt-or-le p (length before));
+  others = λ persons sets e by p h.
+      m .at p ∙ ap (λ (b : Bool). cond b whole (entry before p)) (ap (λ (x : ℕ). has x p) (is persons sets e by) ∙ outside persons sets e by p h);
 }
   where
     is : (persons : ℕ) (sets : List ℕ) → allOf (λ t. subset t persons) (s ∷ []) ≡ true → ClassesBy persons sets before → whole ≡ closeOf sets s
     is persons sets e by = w ∙ gathered sets before s b (λ q h. by .at q (inside-one persons s e .at q h))
 
+    -- the classes of persons inside stay inside
     outside : (persons : ℕ) (sets : List ℕ) → allOf (λ t. subset t persons) (s ∷ []) ≡ true → ClassesBy persons sets before → (p : ℕ) → has persons p ≡ false → has (closeOf sets s) p ≡ false
     outside persons sets e by p h = pick (has (closeOf sets s) p) refl
       where
@@ -215,33 +209,69 @@ joins-whole s whole before after b w n m = record {
 -- ---- each person alone
 
 -- a turn of the loop, which is at t and leaves r of m
-pub alone-next : (m r t v : ℕ) (table : List ℕ) → ((p : ℕ) → has m p ≡ (eqb t p || has r p)) → v ≡ one t
-    → (p : ℕ) → p < length table → cond (has r p) (one p) (entry (set table t v) p) ≡ cond (has m p) (one p) (entry table p)
-alone-next m r t v table h e p l = pick (eqb t p) refl
+pub alone-next : (m r t v : ℕ) (table : List ℕ) → ((p : ℕ) → has m p ≡ (eqb t p || has r p)) → t < length table → v ≡ one t
+    → (p : ℕ) → cond (has r p) (one p) (entry (set table t v) p) ≡ cond (has m p) (one p) (entry table p)
+alone-next m r t v table h l e p = pick (eqb t p) refl
   where
     either : (b : Bool) (x : ℕ) → cond b x x ≡ x
     either true x = refl
     either false x = refl
 
+    by : (b : Bool) → eqb t p ≡ b → cond (has m p) (one p) (entry table p) ≡ cond (b || has r p) (one p) (entry table p)
+    by b k = ap (λ (x : Bool). cond x (one p) (entry table p)) (h p ∙ ap (λ (x : Bool). x || has r p) k)
+
     pick : (b : Bool) → eqb t p ≡ b → cond (has r p) (one p) (entry (set table t v) p) ≡ cond (has m p) (one p) (entry table p)
     pick true k =
         let s = eqb-true t p k in
-        ap (cond (has r p) (one p)) (ap (λ (i : ℕ). entry (set table i v) p) s ∙ getD-set-same table p v 0 l ∙ e ∙ ap one s) ∙ either (has r p) (one p)
-        ∙ sym (ap (λ (b : Bool). cond b (one p) (entry table p)) (h p ∙ ap (λ (b : Bool). b || has r p) k))
-    pick false k =
-        ap (cond (has r p) (one p)) (getD-set-other table t p v 0 (λ z. eqb-false t p k (sym z)))
-        ∙ sym (ap (λ (b : Bool). cond b (one p) (entry table p)) (h p ∙ ap (λ (b : Bool). b || has r p) k))
+        ap (cond (has r p) (one p)) (ap (entry (set table t v)) (sym s) ∙ getD-set-same table t v 0 l ∙ e ∙ ap one s) ∙ either (has r p) (one p) ∙ sym (by true k)
+    pick false k = ap (cond (has r p) (one p)) (getD-set-other table t p v 0 (λ z. eqb-false t p k (sym z))) ∙ sym (by false k)
 
--- all 64 persons alone: classes by no sets
-pub everyone : (p : ℕ) → p < 64 → has (2 ^ 64 - 1) p ≡ true
+everyone : (p : ℕ) → p < 64 → has (2 ^ 64 - 1) p ≡ true
 everyone p l = has-not 64 0 p (omega arith) l ∙ ap not (has-none p)
 
-pub alone-classes : (before after : List ℕ) → length before ≡ 64 → Alone (2 ^ 64 - 1) before after → ClassesBy (2 ^ 64 - 1) [] after
+-- all 64 persons alone: classes by no sets
+pub alone-classes : (before after : List ℕ) → Alone (2 ^ 64 - 1) before after → ClassesBy (2 ^ 64 - 1) [] after
 unfolding allOf
-alone-classes before after n a = record {
+alone-classes before after a = record {
   few = omega arith;
   inside = refl;
-  at = λ p h.
-      a .at p (⊎-elim (λ l. omega (arith, l, n)) (λ l. absurd (true≢false (sym h ∙ has-high 64 (2 ^ 64 - 1) p (omega arith) l))) (lt-or-le p 64))
-      ∙ ap (λ (b : Bool). cond b (one p) (entry before p)) h ∙ sym (close-same [] (one p) tt);
+  at = λ p h. a .at p ∙ ap (λ (b : Bool). cond b (one p) (entry before p)) h ∙ sym (close-same [] (one p) tt);
 }
+
+-- ---- the classes of all persons by the first sets of a list
+
+-- one set more, of a u64
+pub classes-next : (sets before after : List ℕ) (i : ℕ) → i < length sets → getD sets i 0 < 2 ^ 64 → Joins (getD sets i 0 ∷ []) before after
+    → ClassesBy (2 ^ 64 - 1) (take i sets) before → ClassesBy (2 ^ 64 - 1) (take (i + 1) sets) after
+unfolding allOf
+classes-next sets before after i l b j by =
+    subst (λ (xs : List ℕ). ClassesBy (2 ^ 64 - 1) xs after) (sym (ap (λ (k : ℕ). take k sets) (add-one i) ∙ take-suc sets i 0 l))
+    (j .classes (2 ^ 64 - 1) (take i sets) (ap (λ (t : Bool). t && true) (within-subset s (2 ^ 64 - 1) (record { at = λ p h. everyone p (under p h) }))) by)
+  where
+    s : ℕ
+    s = getD sets i 0
+
+    under : (p : ℕ) → has s p ≡ true → p < 64
+    under p h = ⊎-elim (λ k. k) (λ k. absurd (true≢false (sym h ∙ has-high 64 s p b k))) (lt-or-le p 64)
+
+pub classes-end : (sets classes : List ℕ) (i : ℕ) → length sets ≤ i → ClassesBy (2 ^ 64 - 1) (take i sets) classes → (p : ℕ) → p < 64 → entry classes p ≡ closeOf sets (one p)
+classes-end sets classes i l by p k = by .at p (everyone p k) ∙ ap (λ (xs : List ℕ). closeOf xs (one p)) (take-all i sets l)
+
+-- ---- the pairs of edges
+
+-- a turn of the loop, which is at t and leaves r of m
+pub pairs-next : (pairs : List ℕ) (within m t r : ℕ) {a b last : List ℕ} → members m ≡ lowest m ∷ members r → t ≡ lowest m → Joins (joinable pairs within t ∷ []) a b
+    → Joins (map (joinable pairs within) (members r)) b last → Joins (map (joinable pairs within) (members m)) a last
+pairs-next pairs within m t r {a} {b} {last} e k j js =
+    subst (λ (xs : List ℕ). Joins (map (joinable pairs within) xs) a last) (sym (e ∙ ap (λ (x : ℕ). x ∷ members r) (sym k)))
+    (joins-next (joinable pairs within t ∷ []) (map (joinable pairs within) (members r)) a b last j js)
+
+pub pairs-end : (pairs : List ℕ) (within m : ℕ) (classes : List ℕ) → m ≡ 0 → Joins (map (joinable pairs within) (members m)) classes classes
+pairs-end pairs within m classes e = subst (λ (xs : List ℕ). Joins (map (joinable pairs within) xs) classes classes) (sym (members-none m e)) (joins-none classes)
+
+-- an edge whose pair lies within the set, and one whose pair does not
+pub pair-joined : (pairs : List ℕ) (within t : ℕ) {a b last : List ℕ} → subset (entry pairs t) within ≡ true → Joins (entry pairs t ∷ []) a b → last ≡ b → Joins (joinable pairs within t ∷ []) a last
+pair-joined pairs within t {a} e j k = subst (Joins (joinable pairs within t ∷ []) a) (sym k) (rw e j)
+
+pub pair-left : (pairs : List ℕ) (within t : ℕ) {a last : List ℕ} → subset (entry pairs t) within ≡ false → last ≡ a → Joins (joinable pairs within t ∷ []) a last
+pair-left pairs within t {a} e k = subst (Joins (joinable pairs within t ∷ []) a) (sym k) (joins-nobody (joinable pairs within t) a (rw e))

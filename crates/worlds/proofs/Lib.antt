@@ -1,3 +1,4 @@
+pub mod OverLaws
 pub mod MarkLaws
 pub mod CutsSeen
 pub mod MarksSeen
@@ -5,6 +6,5 @@ pub mod StateSeen
 pub mod ViewSeen
 pub mod FirstBlocks
 pub mod Partition
-pub mod OverLaws
 pub mod ClassLaws
 pub mod DiscretionLaws

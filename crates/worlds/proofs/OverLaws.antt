@@ -1,30 +1,24 @@
 -- The numbers of a set one by one, lowest first, and what a loop over them does to a table.
 use mathlib.Core.Path.{_≡_, refl, sym, ap, ap₂, _∙_, subst}
-use mathlib.Core.Bool.{Bool, true, false, not, cond, _&&_, _||_, true≢false, false≢true}
+use mathlib.Core.Bool.{Bool, true, false, not, cond, _&&_, _||_, and-self, and-true, and-false, or-true, or-false, false≢true}
 use mathlib.Core.Logic.{_⊎_, inl, inr, ⊎-elim}
 use mathlib.Core.List.{List, [], _∷_}
-use Prim.Native.Nat.{ℕ, zero, suc, _+_, _-_, _*_, _/_, _%_, _^_, _≤_, _<_, min}
-use native.Mathlib.Nat.{not-suc-le-zero, le-of-suc-le-suc, mod-lt, zero-lt-suc, zero-add, add-zero, add-suc, suc-add, min-zero, zero-min, lt-trans}
+use Prim.Native.Nat.{ℕ, zero, suc, _+_, _-_, _*_, _/_, _%_, _^_, _<_, min}
+use native.Mathlib.Nat.{mod-lt, zero-lt-suc, zero-add, add-zero, add-suc, suc-add, min-zero, zero-min, lt-trans}
 use native.Mathlib.Omega.{arith}
-use lib.ListN.{length, getD, set}
+use lib.ListN.{length, set}
+use lib.Seq.{getD-set-same, getD-set-other}
 use lib.Dec.{eqb, eqb·zero-suc, eqb·suc-suc}
 use lib.Arith.{lt-one, digits-div, digits-mod}
-use lib.Bits.{bitAnd, and-step, and-self, and-le-r}
+use lib.Bits.{bitAnd, and-step, and-le-r}
 use lib.Count.{trailingZeros, under}
 use borrow.Author.Tests.{eqb-true, eqb-false, eq-eqb, ne-eqb}
-use Rattle.records.specs.Sets.{odd, has, one, union, minus, meets, lowest, when, members, membersFrom, anyOf, unionOf}
+use Rattle.records.specs.Sets.{odd, has, one, union, minus, disjoint, meet, meets, lowest, when, members, membersFrom, anyOf, unionOf}
 use Rattle.records.proofs.SetLaws.{has-zero, has-suc, has-none, has-and, has-minus, has-one, has-union, ext, of-union, in-union-l, in-union-r}
+use Rattle.expressions.proofs.UnionLaws.{union-assoc, union-self}
 use Rattle.worlds.specs.Over.{entry}
 
 -- ---- m & (m - 1): all but the lowest
-
-and-true : (x : Bool) → (x && true) ≡ x
-and-true true = refl
-and-true false = refl
-
-and-same : (x : Bool) → (x && x) ≡ x
-and-same true = refl
-and-same false = refl
 
 pred-has : (k m q : ℕ) → m < 2 ^ k → (m ≡ 0 → ⊥) → (has m q && has (m - 1) q) ≡ (has m q && not (eqb (trailingZeros k m) q))
 unfolding trailingZeros
@@ -48,7 +42,7 @@ pred-has (suc k) m q h n = pick q (m % 2) refl (λ r z. pred-has k (m / 2) r (om
         ∙ sym (ap₂ _&&_ (has-suc m q) (ap (λ (x : ℕ). not (eqb (under x t) (suc q))) e ∙ ap not (eqb·suc-suc t q)))
     pick (suc q) (suc d) e ih =
         let half : (m - 1) / 2 ≡ m / 2 = omega arith in
-        ap₂ _&&_ (has-suc m q) (has-suc (m - 1) q ∙ ap (λ (x : ℕ). has x q) half) ∙ and-same (has (m / 2) q)
+        ap₂ _&&_ (has-suc m q) (has-suc (m - 1) q ∙ ap (λ (x : ℕ). has x q) half) ∙ and-self (has (m / 2) q)
         ∙ sym (ap₂ _&&_ (has-suc m q) (ap (λ (x : ℕ). not (eqb (under x t) (suc q))) e ∙ ap not (eqb·zero-suc q)) ∙ and-true (has (m / 2) q))
 
 pub and-pred : (m : ℕ) → m < 2 ^ 64 → (m ≡ 0 → ⊥) → bitAnd m (m - 1) ≡ minus m (one (lowest m))
@@ -66,7 +60,7 @@ drop-odd m e =
     let low : (m - 1) % 2 ≡ 0 = omega arith in
     and-step m (m - 1)
     ∙ ap₂ (λ (x y : ℕ). bitAnd (m / 2) x * 2 + min (m % 2) y) half low
-    ∙ ap₂ (λ (x y : ℕ). x * 2 + y) (and-self (m / 2)) (min-zero (m % 2))
+    ∙ ap₂ (λ (x y : ℕ). x * 2 + y) (lib.Bits.and-self (m / 2)) (min-zero (m % 2))
 
 drop-even : (m : ℕ) → m % 2 ≡ 0 → (m ≡ 0 → ⊥) → bitAnd m (m - 1) ≡ bitAnd (m / 2) (m / 2 - 1) * 2 + 0
 drop-even m e n =
@@ -158,15 +152,15 @@ unfolding anyOf
 member-has m r h l e i =
     has-members m i h ∙ ap (anyOf (λ (x : ℕ). eqb x i)) e ∙ ap (λ (b : Bool). eqb (lowest m) i || b) (sym (has-members r i (lt-trans l h)))
 
+-- the same for a loop that is at t
+pub turn-has : (m r t : ℕ) → m < 2 ^ 64 → (t ≡ lowest m) × (t < 64) → (members m ≡ lowest m ∷ members r) × (r < m) → (i : ℕ) → has m i ≡ (eqb t i || has r i)
+turn-has m r t h a b i = member-has m r h (b .1) (b .0) i ∙ ap (λ (x : ℕ). eqb x i || has r i) (sym (a .0))
+
 -- ---- unions over a set
 
 either : (x y : Bool) → (x || y) ≡ true → (x ≡ true) ⊎ (y ≡ true)
 either true y e = inl refl
 either false y e = inr e
-
-or-true : (x : Bool) → (x || true) ≡ true
-or-true true = refl
-or-true false = refl
 
 list-find : (f : ℕ → ℕ) (xs : List ℕ) (q : ℕ) → has (unionOf f xs) q ≡ true → (i : ℕ) × (anyOf (λ (x : ℕ). eqb x i) xs ≡ true) × (has (f i) q ≡ true)
 unfolding unionOf anyOf
@@ -195,3 +189,67 @@ union-has f m q h e =
 
 pub has-union-of : (f : ℕ → ℕ) (m i q : ℕ) → m < 2 ^ 64 → has m i ≡ true → has (f i) q ≡ true → has (unionOf f (members m)) q ≡ true
 has-union-of f m i q h e k = list-in f (members m) i q (sym (has-members m i h) ∙ e) k
+
+-- ---- a turn of a loop over m that is at t and leaves r
+
+-- the same change at each number, by what is left: a change that twice is once
+pub change-next : (g : ℕ → ℕ) → ((x : ℕ) → g (g x) ≡ g x) → (m r t v : ℕ) (table : List ℕ) → ((i : ℕ) → has m i ≡ (eqb t i || has r i)) → t < length table → v ≡ g (entry table t)
+    → (i : ℕ) → cond (has r i) (g (entry (set table t v) i)) (entry (set table t v) i) ≡ cond (has m i) (g (entry table i)) (entry table i)
+change-next g twice m r t v table h l k i = pick (eqb t i) refl
+  where
+    once : (b : Bool) (x : ℕ) → cond b (g (g x)) (g x) ≡ g x
+    once true x = twice x
+    once false x = refl
+
+    pick : (b : Bool) → eqb t i ≡ b → cond (has r i) (g (entry (set table t v) i)) (entry (set table t v) i) ≡ cond (has m i) (g (entry table i)) (entry table i)
+    pick true e =
+        ap (λ (x : ℕ). cond (has r i) (g x) x) (subst (λ (j : ℕ). entry (set table t v) j ≡ g (entry table j)) (eqb-true t i e) (getD-set-same table t v 0 l ∙ k))
+        ∙ once (has r i) (entry table i) ∙ sym (ap (λ (b : Bool). cond b (g (entry table i)) (entry table i)) (h i ∙ ap (λ (b : Bool). b || has r i) e))
+    pick false e =
+        ap (λ (x : ℕ). cond (has r i) (g x) x) (getD-set-other table t i v 0 (λ z. eqb-false t i e (sym z)))
+        ∙ sym (ap (λ (b : Bool). cond b (g (entry table i)) (entry table i)) (h i ∙ ap (λ (b : Bool). b || has r i) e))
+
+-- a set added twice is added once
+pub union-twice : (a b : ℕ) → union (union a b) b ≡ union a b
+union-twice a b = union-assoc a b b ∙ ap (union a) (union-self b)
+
+-- at the end nothing is left
+pub change-end : (g : ℕ → ℕ) (m i : ℕ) (table : List ℕ) → m ≡ 0 → cond (has m i) (g (entry table i)) (entry table i) ≡ entry table i
+change-end g m i table e = ap (λ (b : Bool). cond b (g (entry table i)) (entry table i)) (ap (λ (x : ℕ). has x i) e ∙ has-none i)
+
+-- the numbers that pass a test: t does, or does not
+pub found-in : (f : ℕ → Bool) (m r t found : ℕ) → ((i : ℕ) → has m i ≡ (eqb t i || has r i)) → f t ≡ true
+    → (i : ℕ) → (has (union found (one t)) i || (has r i && f i)) ≡ (has found i || (has m i && f i))
+found-in f m r t found h k i =
+    ap (λ (b : Bool). b || (has r i && f i)) (has-union found (one t) i ∙ ap (λ (b : Bool). has found i || b) (has-one t i)) ∙ pick (eqb t i) refl
+  where
+    all : (x y : Bool) → ((x || true) || y) ≡ (x || true)
+    all true y = refl
+    all false y = refl
+
+    pick : (b : Bool) → eqb t i ≡ b → ((has found i || eqb t i) || (has r i && f i)) ≡ (has found i || (has m i && f i))
+    pick true e =
+        ap (λ (b : Bool). (has found i || b) || (has r i && f i)) e ∙ all (has found i) (has r i && f i)
+        ∙ sym (ap₂ (λ (x y : Bool). has found i || (x && y)) (h i ∙ ap (λ (b : Bool). b || has r i) e) (ap f (sym (eqb-true t i e)) ∙ k))
+    pick false e =
+        ap (λ (b : Bool). (has found i || b) || (has r i && f i)) e ∙ ap (λ (b : Bool). b || (has r i && f i)) (or-false (has found i))
+        ∙ sym (ap (λ (b : Bool). has found i || (b && f i)) (h i ∙ ap (λ (b : Bool). b || has r i) e))
+
+pub found-out : (f : ℕ → Bool) (m r t found : ℕ) → ((i : ℕ) → has m i ≡ (eqb t i || has r i)) → f t ≡ false
+    → (i : ℕ) → (has found i || (has r i && f i)) ≡ (has found i || (has m i && f i))
+found-out f m r t found h k i = ap (λ (b : Bool). has found i || b) (pick (eqb t i) refl)
+  where
+    pick : (b : Bool) → eqb t i ≡ b → (has r i && f i) ≡ (has m i && f i)
+    pick true e =
+        let z = ap f (sym (eqb-true t i e)) ∙ k in
+        ap (λ (b : Bool). has r i && b) z ∙ and-false (has r i) ∙ sym (ap (λ (b : Bool). has m i && b) z ∙ and-false (has m i))
+    pick false e = sym (ap (λ (b : Bool). b && f i) (h i ∙ ap (λ (b : Bool). b || has r i) e))
+
+-- a & b != 0, and == 0
+pub and-meets : (a b : ℕ) → (bitAnd a b ≡ 0 → ⊥) → meets a b ≡ true
+unfolding meets disjoint meet
+and-meets a b n = ap not (ne-eqb (bitAnd a b) 0 n)
+
+pub and-apart : (a b : ℕ) → bitAnd a b ≡ 0 → meets a b ≡ false
+unfolding meets disjoint meet
+and-apart a b e = ap not (eq-eqb (bitAnd a b) 0 e)

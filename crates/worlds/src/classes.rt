@@ -3,6 +3,7 @@ use crate::over::gather;
 use crate::over::low;
 use crate::over::others;
 use crate::over::put;
+use crate::over::whole;
 use records::sets::bit;
 use records::sets::subset;
 ghost use mathlib.Core.Path.{_≡_};
@@ -17,6 +18,7 @@ ghost use Rattle.worlds.specs.Classes.{Alone, Joins, joinable};
 pub fn alone(classes: &mut [u64; 64], persons: u64)
     ensures { λ r. ⌜ Alone persons (now (classes .entry)) (now (classes .exit)) ⌝ }
 {
+    whole(*classes);
     let mut m = persons;
     while m != 0 {
         let p = low(m);

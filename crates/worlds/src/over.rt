@@ -4,7 +4,7 @@ ghost use mathlib.Core.Path.{_≡_};
 ghost use mathlib.Core.Bool.{_&&_, cond};
 ghost use mathlib.Core.List.{_∷_};
 ghost use Prim.Native.Nat.{ℕ, _<_};
-ghost use lib.ListN.{getD};
+ghost use lib.ListN.{getD, length};
 ghost use Rattle.records.specs.Sets.{has, union, meets, members, unionOf, lowest};
 ghost use Rattle.worlds.specs.Over.{entry, Marked, Given};
 
@@ -54,10 +54,21 @@ pub fn meeting(table: &[u64; 64], set: u64, other: u64) -> u64
     found
 }
 
+// A table has its 64 entries, which a reference to it does not tell the proof. The compiler drops the call with its copy.
+pub fn whole(table: [u64; 64])
+    ensures { λ r. ⌜ length table ≡ 64 ⌝ }
+{}
+
+// The same for bytes.
+pub fn whole_bytes(bytes: [u8; 64])
+    ensures { λ r. ⌜ length bytes ≡ 64 ⌝ }
+{}
+
 // The same byte at each number of a set.
 pub fn mark(bytes: &mut [u8; 64], set: u64, byte: u8)
     ensures { λ r. ⌜ Marked set byte (now (bytes .entry)) (now (bytes .exit)) ⌝ }
 {
+    whole_bytes(*bytes);
     let mut m = set;
     while m != 0 {
         let i = low(m);
@@ -70,6 +81,7 @@ pub fn mark(bytes: &mut [u8; 64], set: u64, byte: u8)
 pub fn put(table: &mut [u64; 64], set: u64, value: u64)
     ensures { λ r. ⌜ Marked set value (now (table .entry)) (now (table .exit)) ⌝ }
 {
+    whole(*table);
     let mut m = set;
     while m != 0 {
         let i = low(m);
@@ -82,6 +94,7 @@ pub fn put(table: &mut [u64; 64], set: u64, value: u64)
 pub fn give(table: &mut [u64; 64], set: u64, more: u64)
     ensures { λ r. ⌜ Given set more (now (table .entry)) (now (table .exit)) ⌝ }
 {
+    whole(*table);
     let mut m = set;
     while m != 0 {
         let i = low(m);
