@@ -4,16 +4,16 @@ use mathlib.Core.Bool.{Bool, true, false, _&&_, _||_, not, cond, true≢false, f
 use mathlib.Core.Logic.{_⊎_, inl, inr, ⊎-elim}
 use mathlib.Core.List.{List, [], _∷_, _++_, map}
 use Prim.Native.Nat.{ℕ, zero, suc, _+_, _-_, _/_, _%_, _^_, _≤_, _<_, zero-le, suc-le-suc}
-use native.Mathlib.Nat.{zero-add}
+use native.Mathlib.Nat.{zero-add, lt-trans}
 use native.Mathlib.Omega.{arith}
-use lib.Bits.{bitAnd}
-use lib.Count.{onesIn}
+use lib.Bits.{bitAnd, and-le-l}
+use lib.Count.{onesIn, ones}
 use lib.Dec.{eqb, ltb}
 use lib.ListN.{length, getD, set}
 use lib.Seq.{getD-set-same, getD-set-other}
-use borrow.Author.Tests.{eqb-true, eqb-false, eq-eqb, le-ltb}
-use Rattle.records.specs.Sets.{has, one, union, minus, only, subset, size, unionOf, allOf, anyOf, members, lowest, closeOf}
-use Rattle.records.proofs.SetLaws.{Within, has-none, has-suc, has-one, has-minus, within-refl, in-union-l, in-union-r, of-union, of-minus, minus-lt, empty, subset-true, within-subset, and-parts}
+use borrow.Author.Tests.{eqb-true, eqb-false, eq-eqb, lt-ltb, le-ltb}
+use Rattle.records.specs.Sets.{has, one, union, meet, minus, only, subset, size, unionOf, allOf, anyOf, members, lowest, closeOf}
+use Rattle.records.proofs.SetLaws.{Within, has-none, has-suc, has-one, has-meet, has-minus, ext, within-refl, along, in-union-l, in-union-r, of-union, of-minus, empty, subset-true, within-subset, and-parts, and-not, ones-size}
 use Rattle.records.proofs.Closing.{Closed, close-closed, close-within, close-least, close-same, in-one, one-within}
 use Rattle.records.proofs.Local.{which, clash}
 use Rattle.expressions.proofs.UnionLaws.{union-assoc, union-none}
@@ -21,6 +21,7 @@ use Rattle.worlds.specs.Over.{entry, Given}
 use Rattle.worlds.specs.Classes.{Alone, ClassesBy, Joins, joinable}
 use Rattle.worlds.specs.Discretion.{near, cliqueBy, looseBy, Heads, LooseParts}
 use Rattle.worlds.proofs.OverLaws.{members-next, members-none, has-members, union-has, has-union-of}
+use Rattle.worlds.proofs.ClassLaws.{closed-inside}
 use Rattle.worlds.proofs.FirstBlocks.{close-class}
 
 -- ---- a class of one person is never at discretion
@@ -48,6 +49,15 @@ one-tight : (lead : ℕ → ℕ) (p : ℕ) → looseBy lead (one p) ≡ false
 unfolding looseBy
 one-tight lead p = ap (λ (b : Bool). b && not (cliqueBy lead (one p))) (le-ltb 2 (size (one p)) (let h = size-one p in omega arith))
 
+-- more than two persons that are no clique, as the code tests it
+pub loose-many : (lead : ℕ → ℕ) (m : ℕ) (b : Bool) → m < 2 ^ 64 → 2 < ones m → b ≡ cliqueBy lead m → not b ≡ looseBy lead m
+unfolding looseBy
+loose-many lead m b f l e = ap not e ∙ sym (ap (λ (x : Bool). x && not (cliqueBy lead m)) (ap (ltb 2) (sym (ones-size m f)) ∙ lt-ltb 2 (ones m) l))
+
+pub loose-few : (lead : ℕ → ℕ) (m : ℕ) → m < 2 ^ 64 → ones m ≤ 2 → false ≡ looseBy lead m
+unfolding looseBy
+loose-few lead m f l = sym (ap (λ (x : Bool). x && not (cliqueBy lead m)) (ap (ltb 2) (sym (ones-size m f)) ∙ le-ltb 2 (ones m) l))
+
 -- whom no set holds is closed
 pub close-alone : (ss : List ℕ) (persons p : ℕ) → allOf (λ s. subset s persons) ss ≡ true → has persons p ≡ false → closeOf ss (one p) ≡ one p
 unfolding allOf
@@ -60,6 +70,23 @@ close-alone ss persons p e h = close-same ss (one p) (go ss e)
         (λ q x y. clash (subset-true s persons (t .0) .at q x) (ap (has persons) (sym (eqb-true p q (sym (has-one p q) ∙ y))) ∙ h), go ss (t .1))
 
 -- ---- a loop's turn: t of m, and r is left
+
+-- what is left of a set is no greater number
+minus-le : (a b : ℕ) → a < 2 ^ 64 → minus a b ≤ a
+minus-le a b h =
+    let both = meet-le a b in
+    subst (λ (x : ℕ). x ≤ a) (and-not 64 a (meet a b) h (omega arith) ∙ ext _ _ (λ p. has-minus a (meet a b) p ∙ ap (λ (x : Bool). has a p && not x) (has-meet a b p)
+    ∙ same (has a p) (has b p) ∙ sym (has-minus a b p))) (and-le-l a ((2 ^ 64 - 1) - meet a b))
+  where
+    same : (x y : Bool) → (x && not (x && y)) ≡ (x && not y)
+    same true y = refl
+    same false y = refl
+
+    meet-le : (a b : ℕ) → meet a b ≤ a
+    meet-le a b = (unfold meet in and-le-l a b)
+
+pub left-less : (m r class : ℕ) → m < 2 ^ 64 → r < m → minus r class < m
+left-less m r class b l = let h = minus-le r class (lt-trans l b) in omega arith
 
 -- to whom the edges lead
 near-next : (pairs : List ℕ) (m r t p : ℕ) → members m ≡ t ∷ members r → near pairs m p ≡ union (only (has (entry pairs t) p) (entry pairs t)) (near pairs r p)
@@ -125,8 +152,15 @@ found-all test persons classes m found parts z f = record {
       (r .0, r .1, f .sound (r .0) (r .1) .1 ∙ r .2);
 }
 
-module _ (test : ℕ → Bool) (persons : ℕ) (classes : List ℕ) (m r t found : ℕ) (parts : List ℕ) (turn : (i : ℕ) → has m i ≡ (eqb t i || has r i)) (small : r < 2 ^ 64)
-    (wide : entry classes t < 2 ^ 64) (f : Found test persons classes m found parts) where
+-- the same by other names
+pub found-as : {test : ℕ → Bool} {persons : ℕ} {classes : List ℕ} {m n found more : ℕ} {parts last : List ℕ} → m ≡ n → found ≡ more → parts ≡ last
+    → Found test persons classes n more last → Found test persons classes m found parts
+found-as {test} {persons} {classes} {m} {n} {found} {more} {parts} {last} a b c f =
+    subst (λ (x : ℕ). Found test persons classes x found parts) (sym a)
+    (subst (λ (x : ℕ). Found test persons classes n x parts) (sym b) (subst (λ (l : List ℕ). Found test persons classes n more l) (sym c) f))
+
+module _ (test : ℕ → Bool) (persons : ℕ) (classes : List ℕ) (m r t found : ℕ) (parts : List ℕ) (turn : (i : ℕ) → has m i ≡ (eqb t i || has r i)) (less : r < m)
+    (f : Found test persons classes m found parts) where
   -- whoever is no longer left was not before, is t, or is of its class
   gone : (p : ℕ) → has (minus r (entry classes t)) p ≡ false → (has m p ≡ false) ⊎ ((t ≡ p) ⊎ (has (entry classes t) p ≡ true))
   gone p e = pick (has (entry classes t) p) (eqb t p) (has r p) refl refl refl (sym (has-minus r (entry classes t) p) ∙ e)
@@ -155,7 +189,7 @@ module _ (test : ℕ → Bool) (persons : ℕ) (classes : List ℕ) (m r t found
   pub found-in : test (entry classes t) ≡ true → t < length parts
       → Found test persons classes (minus r (entry classes t)) (union found (one t)) (set parts t (entry classes t))
   found-in ok l = record {
-    few = minus-lt 64 r (entry classes t) small wide;
+    few = lt-trans (left-less m r (entry classes t) (f .few) less) (f .few);
     inside = left-inside;
     sound = λ p h. pick p (which (eqb t p)) h;
     complete = λ s p x y z. ⊎-elim
@@ -174,7 +208,7 @@ module _ (test : ℕ → Bool) (persons : ℕ) (classes : List ℕ) (m r t found
 
   pub found-out : test (entry classes t) ≡ false → Found test persons classes (minus r (entry classes t)) found parts
   found-out fails = record {
-    few = minus-lt 64 r (entry classes t) small wide;
+    few = lt-trans (left-less m r (entry classes t) (f .few) less) (f .few);
     inside = left-inside;
     sound = f .sound;
     complete = λ s p x y z. ⊎-elim (λ e. f .complete s p x e z) (λ w. clash z (ap test (sym (same s p w)) ∙ fails)) (gone p y);
@@ -200,22 +234,17 @@ pairs-joinable pairs persons (e ∷ es) w =
 
 -- everybody alone, then joined by the pairs
 pub pairs-classes : (pairs : List ℕ) (edges persons : ℕ) (before alone after : List ℕ) → persons < 2 ^ 64 → persons ≡ unionOf (entry pairs) (members edges)
-    → ((p : ℕ) → has persons p ≡ true → entry alone p ≡ one p) → Joins (map (joinable pairs persons) (members edges)) alone after
-    → ClassesBy persons (map (entry pairs) (members edges)) after
+    → Alone persons before alone → Joins (map (joinable pairs persons) (members edges)) alone after → ClassesBy persons (map (entry pairs) (members edges)) after
 unfolding allOf
 pairs-classes pairs edges persons before alone after b u a j =
-    let inside = pairs-inside pairs persons (members edges) (record { at = λ p h. ap (λ (x : ℕ). has x p) u ∙ h }) in
+    let inside = pairs-inside pairs persons (members edges) (along (sym u)) in
     let same = pairs-joinable pairs persons (members edges) inside in
     subst (λ (l : List ℕ). ClassesBy persons l after) same
-    (j .classes persons [] (ap (allOf (λ s. subset s persons)) same ∙ inside)
-    (record { few = b; inside = refl; at = λ p h. a p h ∙ sym (close-same [] (one p) tt) }))
-
-closed-inside : (ss : List ℕ) (m : ℕ) → allOf (λ s. subset s m) ss ≡ true → Closed ss m
-unfolding allOf
-closed-inside [] m e = tt
-closed-inside (s ∷ ss) m e =
-    let t = and-parts (subset s m) (allOf (λ s. subset s m) ss) e in
-    (λ p x y. subset-true s m (t .0), closed-inside ss m (t .1))
+    (j .classes persons [] (ap (allOf (λ s. subset s persons)) same ∙ inside) (record {
+      few = b;
+      inside = refl;
+      at = λ p h. a .at p ∙ ap (λ (b : Bool). cond b (one p) (entry before p)) h ∙ sym (close-same [] (one p) tt);
+    }))
 
 pub heads-parts : (pairs : List ℕ) (edges persons : ℕ) (lead classes : List ℕ) (heads : ℕ) (parts : List ℕ) → ((p : ℕ) → entry lead p ≡ near pairs edges p)
     → ClassesBy persons (map (entry pairs) (members edges)) classes → Heads (looseBy (entry lead)) persons classes heads parts → LooseParts pairs edges heads parts
