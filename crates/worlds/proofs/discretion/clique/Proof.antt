@@ -67,12 +67,12 @@ loop-again c =
     sym (c .before .before .subset .ensures ∙ ap (λ (x : ℕ). subset (a .set) (union x (entry (a .lead .now) (low .result)))) (c .before .before .before .before .bit .ensures)) ∙ not-false _ (c .before .if1 .left) in (
       lt-trans (c .others .ensures .1) (l .loop .inv .0),
       sym (all-next f (l .loop .m) (c .others .result) (lowest (l .loop .m)) (c .others .ensures .0)
-      ∙ ap (λ (b : Bool). b && allOf f (members (c .others .result))) (ap f (sym (low .ensures .0)) ∙ is))
-      ∙ l .loop .inv .1,
+          ∙ ap (λ (b : Bool). b && allOf f (members (c .others .result))) (ap f (sym (low .ensures .0)) ∙ is))
+          ∙ l .loop .inv .1,
     )
 
 returns-2 : tie.Need-returns-2 Inv-loop μ-loop
-returns-2 c = 
+returns-2 c =
     let l = c .before in
     let a = l .before .args in
     sym (all-none (λ q. subset (a .set) (union (one q) (entry (a .lead .now) q))) (l .loop .m) (c .loop-test .left)) ∙ l .loop .inv .1

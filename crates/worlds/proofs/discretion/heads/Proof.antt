@@ -1,25 +1,16 @@
 -- `discretion::heads`: what is found while some are left is the whole at the end.
-use mathlib.Core.Path.{_≡_, refl, sym, ap, _∙_, subst}
+use mathlib.Core.Path.{_≡_, sym, ap, _∙_, subst}
 use mathlib.Core.Logic.{⊎-elim}
-use Prim.Native.Nat.{ℕ, _<_, _^_}
-use native.Mathlib.Nat.{lt-trans}
+use Prim.Native.Nat.{ℕ, _<_}
 use native.Mathlib.Omega.{arith}
-use lib.ListN.{length, set, length-set}
-use Rattle.records.specs.Sets.{one, union, minus}
+use lib.ListN.{length, length-set}
+use Rattle.records.specs.Sets.{union, minus}
 use Rattle.worlds.specs.Over.{entry}
 use Rattle.worlds.specs.Discretion.{looseBy}
 use Rattle.worlds.proofs.OverLaws.{turn-has}
 use Rattle.worlds.proofs.DiscretionLaws.{Found, found-none, found-all, found-as, found-in, found-out, left-less}
 use Rattle.worlds.proofs.discretion.heads.Statement.{statement}
 use Rattle.worlds.proofs.discretion.heads.Tie as tie
-use Rattle.worlds.proofs.discretion.heads.Reads as reads
-use Rattle.worlds.proofs.discretion.heads.Lts as lts
-use Rattle.records.proofs.sets.bit.Reads as bit-reads
-use Rattle.records.proofs.sets.minus.Reads as minus-reads
-use Rattle.worlds.proofs.discretion.loose.Reads as loose-reads
-use Rattle.worlds.proofs.over.low.Reads as low-reads
-use Rattle.worlds.proofs.over.others.Reads as others-reads
-use Rattle.worlds.proofs.over.whole.Reads as whole-reads
 
 abbrev Inv-loop : tie.InvT-loop
 Inv-loop classes lead persons parts₀ found₀ m₀ parts found m = (length parts ≡ 64) × Found (looseBy (entry lead)) persons classes m found parts
@@ -27,61 +18,47 @@ Inv-loop classes lead persons parts₀ found₀ m₀ parts found m = (length par
 abbrev μ-loop : tie.MeasureT-loop
 μ-loop classes lead persons parts₀ found₀ m₀ parts found m = m
 
--- src/discretion.rt:62:5
 whole-requires : tie.Need-whole-requires Inv-loop μ-loop
 whole-requires c κs = tt
 
--- src/discretion.rt:65:5
 loop-holds : tie.Need-loop-holds Inv-loop μ-loop
 loop-holds c = (c .whole .ensures, found-none _ _ _ _ (c .before .before .fits .persons .fits))
 
--- src/discretion.rt:66:13
 low-requires : tie.Need-low-requires Inv-loop μ-loop
 low-requires c κs = c .loop-test .taken
 
--- src/discretion.rt:67:21
 mul-class : tie.Need-mul-class Inv-loop μ-loop
 mul-class c = omega (arith, c .low .ensures .1)
 
--- src/discretion.rt:67:21
 element-copy-out-class : tie.Need-element-copy-out-class Inv-loop μ-loop
 element-copy-out-class c = c .low .ensures .1
 
--- src/discretion.rt:68:12
 loose-requires : tie.Need-loose-requires Inv-loop μ-loop
 loose-requires c κs = tt
 
--- src/discretion.rt:69:13
 mul-parts : tie.Need-mul-parts Inv-loop μ-loop
 mul-parts c = omega (arith, c .before .before .before .low .ensures .1)
 
--- src/discretion.rt:69:13
 element-write-parts : tie.Need-element-write-parts Inv-loop μ-loop
 element-write-parts c = c .before .before .before .low .ensures .1
 
--- src/discretion.rt:70:33
 cast-bit : tie.Need-cast-bit Inv-loop μ-loop
 cast-bit c = omega (arith, c .before .before .before .low .ensures .1)
 
--- src/discretion.rt:70:29
 bit-requires : tie.Need-bit-requires Inv-loop μ-loop
 bit-requires c κs = c .before .before .before .low .ensures .1
 
--- src/discretion.rt:72:19
 others-requires : tie.Need-others-requires Inv-loop μ-loop
 others-requires c κs = c .before .before .before .before .loop-test .taken
 
--- src/discretion.rt:72:9
 minus-requires : tie.Need-minus-requires Inv-loop μ-loop
 minus-requires c κs = tt
 
--- src/discretion.rt:65:5
 loop-less : tie.Need-loop-less Inv-loop μ-loop
 loop-less c =
     let l = c .before .before .before .before .before .before .before in
     subst (λ (x : ℕ). x < l .loop .m) (sym (c .minus .ensures)) (left-less (l .loop .m) (c .before .others .result) _ (l .loop .inv .1 .few) (c .before .others .ensures .1))
 
--- src/discretion.rt:65:5
 loop-again : tie.Need-loop-again Inv-loop μ-loop
 unfolding union
 loop-again c =
@@ -97,18 +74,17 @@ loop-again c =
     (λ w. (
       ap length (w .2) ∙ length-set (l .loop .parts) (low .result) class ∙ l .loop .inv .0,
       found-as (c .minus .ensures) (w .3 ∙ ap (union (l .loop .found)) (w .1 .ensures)) (w .2)
-      (found-in (looseBy (entry (a .lead .now))) (a .persons) (a .classes .now) (l .loop .m) (o .result) (low .result) (l .loop .found) (l .loop .parts) turn (o .ensures .1) f
-      (sym (test .ensures) ∙ w .0 .taken) (omega (arith, low .ensures .1, l .loop .inv .0))),
+          (found-in (looseBy (entry (a .lead .now))) (a .persons) (a .classes .now) (l .loop .m) (o .result) (low .result) (l .loop .found) (l .loop .parts) turn (o .ensures .1) f
+          (sym (test .ensures) ∙ w .0 .taken) (omega (arith, low .ensures .1, l .loop .inv .0))),
     ))
     (λ w. (
       ap length (w .1) ∙ l .loop .inv .0,
       found-as (c .minus .ensures) (w .2) (w .1)
-      (found-out (looseBy (entry (a .lead .now))) (a .persons) (a .classes .now) (l .loop .m) (o .result) (low .result) (l .loop .found) (l .loop .parts) turn (o .ensures .1) f
-      (sym (test .ensures) ∙ w .0 .left)),
+          (found-out (looseBy (entry (a .lead .now))) (a .persons) (a .classes .now) (l .loop .m) (o .result) (low .result) (l .loop .found) (l .loop .parts) turn (o .ensures .1) f
+          (sym (test .ensures) ∙ w .0 .left)),
     ))
     (c .before .before .if1 .came)
 
--- src/discretion.rt:59:1
 returns : tie.Need-returns Inv-loop μ-loop
 returns c = found-all _ _ _ _ _ _ (c .loop-test .left) (c .before .loop .inv .1)
 

@@ -3,19 +3,13 @@ use borrow.Author.Needs.{needs}
 use Rattle.worlds.proofs.DiscretionLaws.{loose-many, loose-few}
 use Rattle.worlds.proofs.discretion.loose.Statement.{statement}
 use Rattle.worlds.proofs.discretion.loose.Tie as tie
-use Rattle.worlds.proofs.discretion.loose.Reads as reads
-use Rattle.worlds.proofs.discretion.loose.Lts as lts
-use Rattle.worlds.proofs.discretion.clique.Reads as clique-reads
 
--- src/discretion.rt:52:10
 clique-requires : tie.Need-clique-requires
 clique-requires c κs = search needs
 
--- src/discretion.rt:48:1
 returns : tie.Need-returns
 returns c = loose-many _ _ _ (c .before .before .fits .set .fits) (c .before .if1 .taken) (c .clique .ensures)
 
--- src/discretion.rt:48:1
 returns-2 : tie.Need-returns-2
 returns-2 c = loose-few _ _ (c .before .fits .set .fits) (c .if1 .left)
 

@@ -1,5 +1,5 @@
 -- `discretion::neighbours`: what the table holds, with what the edges left lead to, is all that the edges lead to.
-use mathlib.Core.Path.{_≡_, refl, sym, ap, _∙_}
+use mathlib.Core.Path.{_≡_, sym, ap, _∙_}
 use mathlib.Core.List.{_∷_}
 use Prim.Native.Nat.{ℕ}
 use native.Mathlib.Omega.{arith}
@@ -11,11 +11,6 @@ use Rattle.worlds.specs.Discretion.{near}
 use Rattle.worlds.proofs.DiscretionLaws.{near-more, near-end}
 use Rattle.worlds.proofs.discretion.neighbours.Statement.{statement}
 use Rattle.worlds.proofs.discretion.neighbours.Tie as tie
-use Rattle.worlds.proofs.discretion.neighbours.Reads as reads
-use Rattle.worlds.proofs.discretion.neighbours.Lts as lts
-use Rattle.worlds.proofs.over.give.Reads as give-reads
-use Rattle.worlds.proofs.over.low.Reads as low-reads
-use Rattle.worlds.proofs.over.others.Reads as others-reads
 
 abbrev Inv-loop : tie.InvT-loop
 Inv-loop pairs edges lead₀ m₀ lead m = (p : ℕ) → union (entry lead p) (near pairs m p) ≡ near pairs edges p
@@ -23,35 +18,27 @@ Inv-loop pairs edges lead₀ m₀ lead m = (p : ℕ) → union (entry lead p) (n
 abbrev μ-loop : tie.MeasureT-loop
 μ-loop pairs edges lead₀ m₀ lead m = m
 
--- src/discretion.rt:24:5
 loop-holds : tie.Need-loop-holds Inv-loop μ-loop
 loop-holds c = λ p. ap (λ (x : ℕ). union x (near (c .args .pairs .now) (c .args .edges) p)) (filled-at 64 p 0) ∙ none-union _
 
--- src/discretion.rt:25:26
 low-requires : tie.Need-low-requires Inv-loop μ-loop
 low-requires c κs = c .loop-test .taken
 
--- src/discretion.rt:25:20
 mul-pair : tie.Need-mul-pair Inv-loop μ-loop
 mul-pair c = omega (arith, c .low .ensures .1)
 
--- src/discretion.rt:25:20
 element-copy-out-pair : tie.Need-element-copy-out-pair Inv-loop μ-loop
 element-copy-out-pair c = c .low .ensures .1
 
--- src/discretion.rt:26:9
 give-requires : tie.Need-give-requires Inv-loop μ-loop
 give-requires c κs = tt
 
--- src/discretion.rt:27:9
 others-requires : tie.Need-others-requires Inv-loop μ-loop
 others-requires c κs = c .before .before .before .before .loop-test .taken
 
--- src/discretion.rt:24:5
 loop-less : tie.Need-loop-less Inv-loop μ-loop
 loop-less c = c .others .ensures .1
 
--- src/discretion.rt:24:5
 loop-again : tie.Need-loop-again Inv-loop μ-loop
 loop-again c = λ p.
     let l = c .before .before .before .before .before .before in
@@ -60,7 +47,6 @@ loop-again c = λ p.
     (c .others .ensures .0 ∙ ap (λ (t : ℕ). t ∷ members (c .others .result)) (sym (low .ensures .0)))
     (c .before .give .ensures .at p) ∙ l .loop .inv p
 
--- src/discretion.rt:19:1
 returns : tie.Need-returns Inv-loop μ-loop
 returns c = λ p. sym (near-end _ (c .before .loop .m) p _ (c .loop-test .left)) ∙ c .before .loop .inv p
 
