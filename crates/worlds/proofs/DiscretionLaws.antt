@@ -1,276 +1,278 @@
--- Step 2 on masks: to whom edges lead, which classes are at discretion, and that these are document 01's components and marks.
+-- Step 2 on masks is document 01's: the components by the frozen Base edges that are at discretion, and the marks that spread from them.
 use mathlib.Core.Path.{_≡_, refl, sym, ap, ap₂, _∙_, subst, fun-ext}
-use mathlib.Core.Bool.{Bool, true, false, _&&_, _||_, not, cond, true≢false, false≢true}
-use mathlib.Core.Logic.{_⊎_, inl, inr, ⊎-elim}
-use mathlib.Core.List.{List, [], _∷_, _++_, map}
-use Prim.Native.Nat.{ℕ, zero, suc, _+_, _-_, _/_, _%_, _^_, _≤_, _<_, zero-le, suc-le-suc}
-use native.Mathlib.Nat.{zero-add, lt-trans}
+use mathlib.Core.Bool.{Bool, true, false, _&&_, _||_, not, or-true, false≢true}
+use mathlib.Core.Logic.{_⊎_, ⊎-elim}
+use mathlib.Core.List.{List, [], _∷_, map}
+use Prim.Native.Nat.{ℕ, zero, suc, _^_, _<_}
 use native.Mathlib.Omega.{arith}
-use lib.Bits.{bitAnd, and-le-l}
-use lib.Count.{onesIn, ones}
 use lib.Dec.{eqb, ltb}
-use lib.ListN.{length, getD, set}
-use lib.Seq.{getD-set-same, getD-set-other}
-use borrow.Author.Tests.{eqb-true, eqb-false, eq-eqb, lt-ltb, le-ltb}
-use Rattle.records.specs.Sets.{has, one, union, meet, minus, only, subset, size, unionOf, allOf, anyOf, members, lowest, closeOf}
-use Rattle.records.proofs.SetLaws.{Within, has-none, has-suc, has-one, has-meet, has-minus, ext, within-refl, along, in-union-l, in-union-r, of-union, of-minus, empty, subset-true, within-subset, and-parts, and-not, ones-size}
-use Rattle.records.proofs.Closing.{Closed, close-closed, close-within, close-least, close-same, in-one, one-within}
+use lib.ListN.{getD}
+use borrow.Author.Tests.{eqb-true, eq-eqb, ltb-true, lt-ltb, not-true}
+use Rattle.records.specs.Sets.{has, one, union, meet, only, subset, size, numbers, below, unionBelow, allOf, anyOf, unionOf, members, closeOf}
+use Rattle.records.specs.Plan.{Plan}
+use Rattle.records.proofs.SetLaws.{Within, has-none, has-meet, has-high, antisym, in-union-l, subset-true, and-parts, lt-or-le}
+use Rattle.records.proofs.Closing.{Takes, Closed, close-within, close-least, in-one, one-within}
+use Rattle.records.proofs.BelowLaws.{union-find, in-below, of-only, closed-below}
+use Rattle.records.proofs.LoopLaws.{getD-below}
 use Rattle.records.proofs.Local.{which, clash}
-use Rattle.expressions.proofs.UnionLaws.{union-assoc, union-none}
-use Rattle.worlds.specs.Over.{entry, Given}
-use Rattle.worlds.specs.Classes.{Alone, ClassesBy, Joins, joinable}
-use Rattle.worlds.specs.Discretion.{near, cliqueBy, looseBy, Heads, LooseParts}
-use Rattle.worlds.proofs.OverLaws.{members-next, members-none, has-members, union-has, has-union-of}
-use Rattle.worlds.proofs.ClassLaws.{closed-inside}
-use Rattle.worlds.proofs.FirstBlocks.{close-class}
+use Rattle.expressions.proofs.ListLaws.{below-last}
+use Rattle.expressions.proofs.UnionLaws.{union-append, union-none}
+use Rattle.expressions.specs.Rules.{edgeCount, edge, pair, chained, rulePersons}
+use Rattle.expressions.specs.Nodes.{on}
+use Rattle.expressions.specs.Variables.{Influence}
+use Rattle.worlds.specs.Active as paper
+use Rattle.worlds.specs.World.{baseSet, baseSets, clique, loose, looseComponent, looseComponents, spread, discretionSeed, marksOf}
+use Rattle.worlds.specs.Over.{entry}
+use Rattle.worlds.specs.Discretion.{near, cliqueBy, looseBy, LooseParts}
+use Rattle.worlds.specs.Tables.{Stands, Tells}
+use Rattle.worlds.specs.Settled.{PartsAre}
+use Rattle.worlds.specs.declared.tables.Common.{Common}
+use Rattle.worlds.specs.declared.tables.Active.{Active}
+use Rattle.worlds.proofs.OverLaws.{has-members, union-has, has-union-of}
+use Rattle.worlds.proofs.FindLaws.{not-so, union-members, set-low, few-low}
+use Rattle.worlds.proofs.SpreadLaws.{spread-members}
+use Rattle.worlds.proofs.ClassLaws.{close-alike, closed-inside}
+use Rattle.worlds.proofs.LooseLaws.{one-tight, close-alone, pairs-inside}
 
--- ---- a class of one person is never at discretion
+-- ---- lists of sets, by number
 
-ones-none : (k : ℕ) → onesIn k 0 ≡ 0
-unfolding onesIn
-ones-none zero = refl
-ones-none (suc k) = zero-add (onesIn k 0) ∙ ones-none k
+-- a closed set takes in each set of the list; past its end there is nobody
+pub closed-at : (ss : List ℕ) (m i : ℕ) → Closed ss m → Takes (getD ss i 0) m
+closed-at [] m i c = λ p x y. clash x (has-none p)
+closed-at (s ∷ ss) m zero c = c .0
+closed-at (s ∷ ss) m (suc i) c = closed-at ss m i (c .1)
 
-ones-one : (k p : ℕ) → onesIn k (2 ^ p) ≤ 1
-unfolding onesIn
-ones-one zero p = zero-le
-ones-one (suc k) zero = let z = ones-none k in omega arith
-ones-one (suc k) (suc p) =
-    let half : 2 ^ suc p / 2 ≡ 2 ^ p = omega arith in
-    let low : 2 ^ suc p % 2 ≡ 0 = omega arith in
-    let h : onesIn k (2 ^ suc p / 2) ≤ 1 = subst (λ (x : ℕ). onesIn k x ≤ 1) (sym half) (ones-one k p) in
-    omega arith
-
-pub size-one : (p : ℕ) → size (one p) ≤ 1
-unfolding size one
-size-one p = ones-one 64 p
-
-one-tight : (lead : ℕ → ℕ) (p : ℕ) → looseBy lead (one p) ≡ false
-unfolding looseBy
-one-tight lead p = ap (λ (b : Bool). b && not (cliqueBy lead (one p))) (le-ltb 2 (size (one p)) (let h = size-one p in omega arith))
-
--- more than two persons that are no clique, as the code tests it
-pub loose-many : (lead : ℕ → ℕ) (m : ℕ) (b : Bool) → m < 2 ^ 64 → 2 < ones m → b ≡ cliqueBy lead m → not b ≡ looseBy lead m
-unfolding looseBy
-loose-many lead m b f l e = ap not e ∙ sym (ap (λ (x : Bool). x && not (cliqueBy lead m)) (ap (ltb 2) (sym (ones-size m f)) ∙ lt-ltb 2 (ones m) l))
-
-pub loose-few : (lead : ℕ → ℕ) (m : ℕ) → m < 2 ^ 64 → ones m ≤ 2 → false ≡ looseBy lead m
-unfolding looseBy
-loose-few lead m f l = sym (ap (λ (x : Bool). x && not (cliqueBy lead m)) (ap (ltb 2) (sym (ones-size m f)) ∙ le-ltb 2 (ones m) l))
-
--- whom no set holds is closed
-pub close-alone : (ss : List ℕ) (persons p : ℕ) → allOf (λ s. subset s persons) ss ≡ true → has persons p ≡ false → closeOf ss (one p) ≡ one p
-unfolding allOf
-close-alone ss persons p e h = close-same ss (one p) (go ss e)
+-- of the list of a set's numbers: each of the set
+pub closed-members : (f : ℕ → ℕ) (es m e : ℕ) → es < 2 ^ 64 → Closed (map f (members es)) m → has es e ≡ true → Takes (f e) m
+unfolding anyOf
+closed-members f es m e b c h = from (members es) c (sym (has-members es e b) ∙ h)
   where
-    go : (ss : List ℕ) → allOf (λ s. subset s persons) ss ≡ true → Closed ss (one p)
-    go [] e = tt
-    go (s ∷ ss) e =
-        let t = and-parts (subset s persons) (allOf (λ s. subset s persons) ss) e in
-        (λ q x y. clash (subset-true s persons (t .0) .at q x) (ap (has persons) (sym (eqb-true p q (sym (has-one p q) ∙ y))) ∙ h), go ss (t .1))
+    from : (xs : List ℕ) → Closed (map f xs) m → anyOf (λ (x : ℕ). eqb x e) xs ≡ true → Takes (f e) m
+    from [] c h = absurd (false≢true h)
+    from (x ∷ xs) c h = ⊎-elim
+        (λ z. subst (λ (y : ℕ). Takes (f y) m) (eqb-true x e z) (c .0))
+        (λ z. from xs (c .1) (ap (λ (b : Bool). b || anyOf (λ (x : ℕ). eqb x e) xs) (sym z) ∙ h)) (which (eqb x e))
 
--- ---- a loop's turn: t of m, and r is left
-
--- what is left of a set is no greater number
-minus-le : (a b : ℕ) → a < 2 ^ 64 → minus a b ≤ a
-minus-le a b h =
-    let both = meet-le a b in
-    subst (λ (x : ℕ). x ≤ a) (and-not 64 a (meet a b) h (omega arith) ∙ ext _ _ (λ p. has-minus a (meet a b) p ∙ ap (λ (x : Bool). has a p && not x) (has-meet a b p)
-    ∙ same (has a p) (has b p) ∙ sym (has-minus a b p))) (and-le-l a ((2 ^ 64 - 1) - meet a b))
+pub members-closed : (f : ℕ → ℕ) (es m : ℕ) → es < 2 ^ 64 → ((e : ℕ) → has es e ≡ true → Takes (f e) m) → Closed (map f (members es)) m
+unfolding anyOf
+members-closed f es m b h = from (members es) (λ e z. h e (has-members es e b ∙ z))
   where
-    same : (x y : Bool) → (x && not (x && y)) ≡ (x && not y)
-    same true y = refl
-    same false y = refl
+    from : (xs : List ℕ) → ((e : ℕ) → anyOf (λ (x : ℕ). eqb x e) xs ≡ true → Takes (f e) m) → Closed (map f xs) m
+    from [] h = tt
+    from (x ∷ xs) h = (h x (ap (λ (b : Bool). b || anyOf (λ (y : ℕ). eqb y x) xs) (eq-eqb x x refl)), from xs (λ e z. h e (ap (λ (b : Bool). eqb x e || b) z ∙ or-true (eqb x e))))
 
-    meet-le : (a b : ℕ) → meet a b ≤ a
-    meet-le a b = (unfold meet in and-le-l a b)
+-- a set that comes in only where a test holds
+pub takes-only : (b : Bool) (s m : ℕ) → (b ≡ true → Takes s m) → Takes (only b s) m
+takes-only b s m h p x y =
+    let w = of-only b s p x in
+    record { at = λ q z. h (w .0) p (w .1) y .at q (of-only b s q z .1) }
 
-pub left-less : (m r class : ℕ) → m < 2 ^ 64 → r < m → minus r class < m
-left-less m r class b l = let h = minus-le r class (lt-trans l b) in omega arith
+-- a union over a list made by number
+pub union-below : (F : ℕ → ℕ) (n : ℕ) (f : ℕ → ℕ) → unionOf F (below n f) ≡ unionBelow n (λ i. F (f i))
+unfolding below numbers unionOf unionBelow
+union-below F zero f = refl
+union-below F (suc n) f = ap (unionOf F) (below-last n f) ∙ union-append F (below n f) (f n ∷ []) ∙ ap₂ union (union-below F n f) (union-none (F (f n)))
 
--- to whom the edges lead
-near-next : (pairs : List ℕ) (m r t p : ℕ) → members m ≡ t ∷ members r → near pairs m p ≡ union (only (has (entry pairs t) p) (entry pairs t)) (near pairs r p)
-unfolding near unionOf
-near-next pairs m r t p e = ap (unionOf (λ e. only (has (entry pairs e) p) (entry pairs e))) e
+-- ---- the frozen Base edges
 
-pub near-more : (pairs lead more : List ℕ) (m r t p : ℕ) → members m ≡ t ∷ members r → entry more p ≡ cond (has (entry pairs t) p) (union (entry lead p) (entry pairs t)) (entry lead p)
-    → union (entry more p) (near pairs r p) ≡ union (entry lead p) (near pairs m p)
-near-more pairs lead more m r t p e g =
-    ap (λ (x : ℕ). union x (near pairs r p)) (g ∙ joined (has (entry pairs t) p) (entry lead p) (entry pairs t))
-    ∙ union-assoc (entry lead p) (only (has (entry pairs t) p) (entry pairs t)) (near pairs r p)
-    ∙ ap (union (entry lead p)) (sym (near-next pairs m r t p e))
-  where
-    joined : (b : Bool) (x y : ℕ) → cond b (union x y) x ≡ union x (only b y)
-    joined true x y = refl
-    joined false x y = sym (union-none x)
+module _ (P : Plan) (I : Influence) (k : Common) (t : List (List ℕ)) (a : paper.Active) (f : Active) (S : Stands P I k t) (T : Tells P a f) where
+  abbrev pairs : List ℕ
+  pairs = getD t 0 []
 
-pub near-end : (pairs : List ℕ) (m p x : ℕ) → m ≡ 0 → union x (near pairs m p) ≡ x
-unfolding near unionOf
-near-end pairs m p x e = ap (λ (l : List ℕ). union x (unionOf (λ e. only (has (entry pairs e) p) (entry pairs e)) l)) (members-none m e) ∙ union-none x
+  abbrev edges : ℕ
+  edges = meet (f .frozen) (k .base)
 
--- a test of each
-pub all-next : (f : ℕ → Bool) (m r t : ℕ) → members m ≡ t ∷ members r → allOf f (members m) ≡ (f t && allOf f (members r))
-unfolding allOf
-all-next f m r t e = ap (allOf f) e
+  abbrev sets : List ℕ
+  sets = map (entry pairs) (members edges)
 
-pub all-fails : (f : ℕ → Bool) (m t : ℕ) → m < 2 ^ 64 → (m ≡ 0 → ⊥) → t ≡ lowest m → f t ≡ false → allOf f (members m) ≡ false
-unfolding allOf
-all-fails f m t b n e k = ap (allOf f) (members-next m b n) ∙ ap (λ (x : Bool). x && allOf f (members (bitAnd m (m - 1)))) (ap f (sym e) ∙ k)
+  -- frozen, and no Combination edge
+  abbrev free : ℕ → Bool
+  free e = on (a .frozen) e && not (edge P e .combination)
 
-pub all-none : (f : ℕ → Bool) (m : ℕ) → m ≡ 0 → allOf f (members m) ≡ true
-unfolding allOf
-all-none f m e = ap (allOf f) (members-none m e)
+  edge-has : (e : ℕ) → has edges e ≡ (on (a .frozen) e && (ltb e (edgeCount P) && (not (edge P e .combination) && not (chained P))))
+  edge-has e = has-meet (f .frozen) (k .base) e ∙ ap₂ _&&_ (T .frozen e) (S .base e)
 
--- ---- the classes that pass a test
+  record Base (e : ℕ) : Type 0 where
+    low : e < edgeCount P
+    stands : free e ≡ true
+    unchained : chained P ≡ false
 
--- everybody in a class has it
-abbrev pub Shared : ℕ → List ℕ → Type 0
-Shared persons classes = (p q : ℕ) → has persons p ≡ true → has (entry classes p) q ≡ true → (has persons q ≡ true) × (entry classes q ≡ entry classes p)
+  edge-base : (e : ℕ) → has edges e ≡ true → Base e
+  edge-base e h =
+      let x = and-parts (on (a .frozen) e) (ltb e (edgeCount P) && (not (edge P e .combination) && not (chained P))) (sym (edge-has e) ∙ h) in
+      let y = and-parts (ltb e (edgeCount P)) (not (edge P e .combination) && not (chained P)) (x .1) in
+      let z = and-parts (not (edge P e .combination)) (not (chained P)) (y .1) in
+      record { low = ltb-true e (edgeCount P) (y .0); stands = ap₂ _&&_ (x .0) (z .0); unchained = not-true (chained P) (z .1) }
 
--- those found while m are left
-pub record Found (test : ℕ → Bool) (persons : ℕ) (classes : List ℕ) (m found : ℕ) (parts : List ℕ) : Type 0 where
-  pub few : m < 2 ^ 64
-  pub inside : Within m persons
-  pub sound : (p : ℕ) → has found p ≡ true → (has persons p ≡ true) × (entry parts p ≡ entry classes p) × (test (entry classes p) ≡ true)
-  pub complete : Shared persons classes
-      → (p : ℕ) → has persons p ≡ true → has m p ≡ false → test (entry classes p) ≡ true → (h : ℕ) × (has found h ≡ true) × (entry classes h ≡ entry classes p)
+  base-edge : chained P ≡ false → (e : ℕ) → free e ≡ true → has edges e ≡ true
+  base-edge c e h =
+      let x = and-parts (on (a .frozen) e) (not (edge P e .combination)) h in
+      edge-has e ∙ ap₂ _&&_ (x .0) (ap₂ _&&_ (lt-ltb e (edgeCount P) (T .edgesBelow e (x .0))) (ap₂ _&&_ (x .1) (ap not c)))
 
-pub found-none : (test : ℕ → Bool) (persons : ℕ) (classes parts : List ℕ) → persons < 2 ^ 64 → Found test persons classes persons 0 parts
-found-none test persons classes parts b = record {
-  few = b;
-  inside = within-refl persons;
-  sound = λ p h. clash h (has-none p);
-  complete = λ s p x y. clash x y;
-}
+  edges-low : edges < 2 ^ 64
+  edges-low = few-low (edgeCount P) edges (S .sound .edgeLimit) (λ e h. edge-base e h .low)
 
-pub found-all : (test : ℕ → Bool) (persons : ℕ) (classes : List ℕ) (m found : ℕ) (parts : List ℕ) → m ≡ 0 → Found test persons classes m found parts
-    → Heads test persons classes found parts
-found-all test persons classes m found parts z f = record {
-  sound = f .sound;
-  complete = λ s p x y.
-      let r = f .complete s p x (ap (λ (k : ℕ). has k p) z ∙ has-none p) y in
-      (r .0, r .1, f .sound (r .0) (r .1) .1 ∙ r .2);
-}
+  -- the sets of both lists, where there is no base chain
+  base-is : chained P ≡ false → (i : ℕ) → baseSet P a i ≡ only (has edges i) (entry pairs i)
+  unfolding baseSet
+  base-is c i = ⊎-elim
+      (λ h. let b = edge-base i h in ap (λ (x : Bool). only x (pair P i)) (b .stands) ∙ sym (S .pairs i (b .low)) ∙ ap (λ (x : Bool). only x (entry pairs i)) (sym h))
+      (λ h. ap (λ (x : Bool). only x (pair P i)) (not-so (free i) (λ e. clash (base-edge c i e) h)) ∙ ap (λ (x : Bool). only x (entry pairs i)) (sym h))
+      (which (has edges i))
 
--- the same by other names
-pub found-as : {test : ℕ → Bool} {persons : ℕ} {classes : List ℕ} {m n found more : ℕ} {parts last : List ℕ} → m ≡ n → found ≡ more → parts ≡ last
-    → Found test persons classes n more last → Found test persons classes m found parts
-found-as {test} {persons} {classes} {m} {n} {found} {more} {parts} {last} a b c f =
-    subst (λ (x : ℕ). Found test persons classes x found parts) (sym a)
-    (subst (λ (x : ℕ). Found test persons classes n x parts) (sym b) (subst (λ (l : List ℕ). Found test persons classes n more l) (sym c) f))
-
-module _ (test : ℕ → Bool) (persons : ℕ) (classes : List ℕ) (m r t found : ℕ) (parts : List ℕ) (turn : (i : ℕ) → has m i ≡ (eqb t i || has r i)) (less : r < m)
-    (f : Found test persons classes m found parts) where
-  -- whoever is no longer left was not before, is t, or is of its class
-  gone : (p : ℕ) → has (minus r (entry classes t)) p ≡ false → (has m p ≡ false) ⊎ ((t ≡ p) ⊎ (has (entry classes t) p ≡ true))
-  gone p e = pick (has (entry classes t) p) (eqb t p) (has r p) refl refl refl (sym (has-minus r (entry classes t) p) ∙ e)
-    where
-      pick : (x y z : Bool) → has (entry classes t) p ≡ x → eqb t p ≡ y → has r p ≡ z → (has r p && not (has (entry classes t) p)) ≡ false
-          → (has m p ≡ false) ⊎ ((t ≡ p) ⊎ (has (entry classes t) p ≡ true))
-      pick true y z a b c d = inr (inr a)
-      pick false true z a b c d = inr (inl (eqb-true t p b))
-      pick false false true a b c d = absurd (true≢false (sym (ap₂ (λ (u v : Bool). u && not v) c a) ∙ d))
-      pick false false false a b c d = inl (turn p ∙ ap₂ _||_ b c)
-
-  here : has persons t ≡ true
-  here = f .inside .at t (turn t ∙ ap (λ (b : Bool). b || has r t) (eq-eqb t t refl))
-
-  left-inside : Within (minus r (entry classes t)) persons
-  left-inside = record { at = λ p h. f .inside .at p (turn p ∙ after (eqb t p) (of-minus r (entry classes t) p h .0)) }
-    where
-      after : (x : Bool) {y : Bool} → y ≡ true → (x || y) ≡ true
-      after true e = refl
-      after false e = e
-
-  -- the class of whoever is gone just now
-  same : Shared persons classes → (p : ℕ) → (t ≡ p) ⊎ (has (entry classes t) p ≡ true) → entry classes t ≡ entry classes p
-  same s p w = ⊎-elim (λ e. ap (entry classes) e) (λ h. sym (s t p here h .1)) w
-
-  pub found-in : test (entry classes t) ≡ true → t < length parts
-      → Found test persons classes (minus r (entry classes t)) (union found (one t)) (set parts t (entry classes t))
-  found-in ok l = record {
-    few = lt-trans (left-less m r (entry classes t) (f .few) less) (f .few);
-    inside = left-inside;
-    sound = λ p h. pick p (which (eqb t p)) h;
-    complete = λ s p x y z. ⊎-elim
-        (λ e. let w = f .complete s p x e z in (w .0, in-union-l found (one t) .at (w .0) (w .1), w .2))
-        (λ w. (t, in-union-r found (one t) .at t (in-one t), same s p w)) (gone p y);
-  }
-    where
-      pick : (p : ℕ) → (eqb t p ≡ true) ⊎ (eqb t p ≡ false) → has (union found (one t)) p ≡ true
-          → (has persons p ≡ true) × (entry (set parts t (entry classes t)) p ≡ entry classes p) × (test (entry classes p) ≡ true)
-      pick p (inl e) h =
-          subst (λ (p : ℕ). (has persons p ≡ true) × (entry (set parts t (entry classes t)) p ≡ entry classes p) × (test (entry classes p) ≡ true)) (eqb-true t p e)
-          (here, getD-set-same parts t (entry classes t) 0 l, ok)
-      pick p (inr e) h =
-          let w = f .sound p (⊎-elim (λ x. x) (λ x. clash (sym (has-one t p) ∙ x) e) (of-union found (one t) p h)) in
-          (w .0, getD-set-other parts t p (entry classes t) 0 (λ z. eqb-false t p e (sym z)) ∙ w .1, w .2)
-
-  pub found-out : test (entry classes t) ≡ false → Found test persons classes (minus r (entry classes t)) found parts
-  found-out fails = record {
-    few = lt-trans (left-less m r (entry classes t) (f .few) less) (f .few);
-    inside = left-inside;
-    sound = f .sound;
-    complete = λ s p x y z. ⊎-elim (λ e. f .complete s p x e z) (λ w. clash z (ap test (sym (same s p w)) ∙ fails)) (gone p y);
+  -- their persons are on the roster
+  edges-on : Within (unionOf (entry pairs) (members edges)) (k .roster)
+  unfolding rulePersons
+  edges-on = record {
+    at = λ q h.
+        let w = union-has (entry pairs) edges q edges-low h in
+        let l = edge-base (w .0) (w .1) .low in
+        subset-true (rulePersons P) (k .roster) (S .named) .at q
+        (in-union-l (unionBelow (edgeCount P) (pair P)) _ .at q (in-below (edgeCount P) (pair P) (w .0) l .at q (ap (λ (m : ℕ). has m q) (sym (S .pairs (w .0) l)) ∙ w .2)));
   }
 
--- ---- the components by the pairs of some edges
+  -- ---- the components by them
 
--- the pairs lie within their union
-pairs-inside : (pairs : List ℕ) (persons : ℕ) (es : List ℕ) → Within (unionOf (entry pairs) es) persons → allOf (λ s. subset s persons) (map (entry pairs) es) ≡ true
-unfolding unionOf allOf
-pairs-inside pairs persons [] w = refl
-pairs-inside pairs persons (e ∷ es) w =
-    let u = unionOf (entry pairs) es in
-    ap₂ _&&_ (within-subset (entry pairs e) persons (record { at = λ p h. w .at p (in-union-l (entry pairs e) u .at p h) }))
-    (pairs-inside pairs persons es (record { at = λ p h. w .at p (in-union-r (entry pairs e) u .at p h) }))
+  abbrev own : ℕ → ℕ
+  own p = closeOf sets (one p)
 
-pairs-joinable : (pairs : List ℕ) (persons : ℕ) (es : List ℕ) → allOf (λ s. subset s persons) (map (entry pairs) es) ≡ true → map (joinable pairs persons) es ≡ map (entry pairs) es
-unfolding allOf
-pairs-joinable pairs persons [] w = refl
-pairs-joinable pairs persons (e ∷ es) w =
-    let t = and-parts (subset (entry pairs e) persons) (allOf (λ s. subset s persons) (map (entry pairs) es)) w in
-    ap₂ _∷_ (ap (λ (b : Bool). only b (entry pairs e)) (t .0)) (pairs-joinable pairs persons es (t .1))
+  abbrev ownLoose : ℕ → Bool
+  ownLoose p = looseBy (near pairs edges) (own p)
 
--- everybody alone, then joined by the pairs
-pub pairs-classes : (pairs : List ℕ) (edges persons : ℕ) (before alone after : List ℕ) → persons < 2 ^ 64 → persons ≡ unionOf (entry pairs) (members edges)
-    → Alone persons before alone → Joins (map (joinable pairs persons) (members edges)) alone after → ClassesBy persons (map (entry pairs) (members edges)) after
-unfolding allOf
-pairs-classes pairs edges persons before alone after b u a j =
-    let inside = pairs-inside pairs persons (members edges) (along (sym u)) in
-    let same = pairs-joinable pairs persons (members edges) inside in
-    subst (λ (l : List ℕ). ClassesBy persons l after) same
-    (j .classes persons [] (ap (allOf (λ s. subset s persons)) same ∙ inside) (record {
-      few = b;
-      inside = refl;
-      at = λ p h. a .at p ∙ ap (λ (b : Bool). cond b (one p) (entry before p)) h ∙ sym (close-same [] (one p) tt);
-    }))
+  -- a component at discretion is on the roster
+  sets-on : allOf (λ s. subset s (k .roster)) sets ≡ true
+  sets-on = pairs-inside pairs (k .roster) (members edges) edges-on
 
-pub heads-parts : (pairs : List ℕ) (edges persons : ℕ) (lead classes : List ℕ) (heads : ℕ) (parts : List ℕ) → ((p : ℕ) → entry lead p ≡ near pairs edges p)
-    → ClassesBy persons (map (entry pairs) (members edges)) classes → Heads (looseBy (entry lead)) persons classes heads parts → LooseParts pairs edges heads parts
-heads-parts pairs edges persons lead classes heads parts n by hs = record {
-  sound = λ p h.
-      let s = hs .sound p h in
-      let is = s .1 ∙ by .at p (s .0) in
-      (is, test (entry parts p) ∙ ap (looseBy (entry lead)) (s .1) ∙ s .2);
-  complete = λ p h. pick p h (which (has persons p));
-}
-  where
-    sets : List ℕ
-    sets = map (entry pairs) (members edges)
+  loose-on : (p : ℕ) → ownLoose p ≡ true → has (k .roster) p ≡ true
+  loose-on p h = ⊎-elim (λ e. e) (λ e. clash h (ap (looseBy (near pairs edges)) (close-alone sets (k .roster) p sets-on e) ∙ one-tight (near pairs edges) p)) (which (has (k .roster) p))
 
-    test : (m : ℕ) → looseBy (near pairs edges) m ≡ looseBy (entry lead) m
-    test m = ap (λ (f : ℕ → ℕ). looseBy f m) (sym (fun-ext n))
+  own-on : (p : ℕ) → ownLoose p ≡ true → Within (own p) (k .roster)
+  own-on p h = close-least sets (one p) (k .roster) (one-within p (k .roster) (loose-on p h)) (closed-inside sets (k .roster) sets-on)
 
-    shared : Shared persons classes
-    shared p q x y =
-        let k = ap (λ (m : ℕ). has m q) (sym (by .at p x)) ∙ y in
-        let z = close-least sets (one p) persons (one-within p persons x) (closed-inside sets persons (by .inside)) .at q k in
-        (z, by .at q z ∙ close-class sets p q k ∙ sym (by .at p x))
+  -- with a base chain there is none
+  chained-tight : chained P ≡ true → (p : ℕ) → ownLoose p ≡ false
+  chained-tight c p =
+      ap (looseBy (near pairs edges)) (close-alone sets 0 p (pairs-inside pairs 0 (members edges) (record {
+        at = λ q h. let w = union-has (entry pairs) edges q edges-low h in clash c (edge-base (w .0) (w .1) .unchained);
+      })) (has-none p)) ∙ one-tight (near pairs edges) p
 
-    pick : (p : ℕ) → looseBy (near pairs edges) (closeOf sets (one p)) ≡ true → (has persons p ≡ true) ⊎ (has persons p ≡ false)
-        → (h : ℕ) × (has heads h ≡ true) × (entry parts h ≡ closeOf sets (one p))
-    pick p h (inl e) =
-        let w = hs .complete shared p e (ap (looseBy (entry lead)) (by .at p e) ∙ sym (test (closeOf sets (one p))) ∙ h) in
-        (w .0, w .1, w .2 ∙ by .at p e)
-    pick p h (inr e) = clash h (ap (looseBy (near pairs edges)) (close-alone sets persons p (by .inside) e) ∙ one-tight (near pairs edges) p)
+  closes : chained P ≡ false → (m : ℕ) → closeOf (baseSets P a) m ≡ closeOf sets m
+  unfolding baseSets
+  closes c = close-alike (baseSets P a) sets
+      (λ m z. members-closed (entry pairs) edges m edges-low (λ e h.
+      let same = getD-below (edgeCount P) (baseSet P a) 0 e (edge-base e h .low) ∙ base-is c e ∙ ap (λ (b : Bool). only b (entry pairs e)) h in
+      subst (λ (s : ℕ). Takes s m) same (closed-at (baseSets P a) m e z)))
+      (λ m z. closed-below (edgeCount P) (baseSet P a) m (λ i.
+      subst (λ (s : ℕ). Takes s m) (sym (base-is c i)) (takes-only (has edges i) (entry pairs i) m (λ h. closed-members (entry pairs) edges m i edges-low z h))))
+
+  leads : chained P ≡ false → (q : ℕ) → unionOf (λ s. only (has s q) s) (baseSets P a) ≡ near pairs edges q
+  unfolding baseSets near
+  leads c q = union-below joined (edgeCount P) (baseSet P a) ∙ antisym (unionBelow (edgeCount P) (λ i. joined (baseSet P a i))) (near pairs edges q) (record { at = there }) (record { at = back })
+    where
+      joined : ℕ → ℕ
+      joined s = only (has s q) s
+
+      there : (r : ℕ) → has (unionBelow (edgeCount P) (λ i. joined (baseSet P a i))) r ≡ true → has (near pairs edges q) r ≡ true
+      there r h =
+          let w = union-find (edgeCount P) (λ i. joined (baseSet P a i)) r h in
+          let z = sym (ap (λ (s : ℕ). has (joined s) r) (base-is c (w .0))) ∙ w .2 in
+          let s = only (has edges (w .0)) (entry pairs (w .0)) in
+          let o = of-only (has edges (w .0)) (entry pairs (w .0)) r (of-only (has s q) s r z .1) in
+          has-union-of (λ e. joined (entry pairs e)) edges (w .0) r edges-low (o .0) (sym (ap (λ (b : Bool). has (joined (only b (entry pairs (w .0)))) r) (o .0)) ∙ z)
+
+      back : (r : ℕ) → has (near pairs edges q) r ≡ true → has (unionBelow (edgeCount P) (λ i. joined (baseSet P a i))) r ≡ true
+      back r h =
+          let w = union-has (λ e. joined (entry pairs e)) edges r edges-low h in
+          in-below (edgeCount P) (λ i. joined (baseSet P a i)) (w .0) (edge-base (w .0) (w .1) .low) .at r
+          (ap (λ (s : ℕ). has (joined s) r) (base-is c (w .0) ∙ ap (λ (b : Bool). only b (entry pairs (w .0))) (w .1)) ∙ w .2)
+
+  loose-is : chained P ≡ false → (m : ℕ) → loose P (baseSets P a) m ≡ looseBy (near pairs edges) m
+  unfolding loose looseBy clique cliqueBy
+  loose-is c m =
+      ap (λ (b : Bool). not b && (ltb 2 (size m) && not (clique (baseSets P a) m))) c
+      ∙ ap (λ (g : ℕ → ℕ). ltb 2 (size m) && not (allOf (λ q. subset m (union (one q) (g q))) (members m))) (fun-ext (leads c))
+
+  component-is : (p : ℕ) → looseComponent P (k .roster) (baseSets P a) p ≡ only (ownLoose p) (own p)
+  unfolding looseComponent loose
+  component-is p = ⊎-elim chain free (which (chained P))
+    where
+      theirs : ℕ
+      theirs = closeOf (baseSets P a) (one p)
+
+      none : (x : Bool) → (x && false) ≡ false
+      none true = refl
+      none false = refl
+
+      known : (x y : Bool) → (y ≡ true → x ≡ true) → (x && y) ≡ y
+      known true y h = refl
+      known false true h = h refl
+      known false false h = refl
+
+      chain : chained P ≡ true → only (has (k .roster) p && loose P (baseSets P a) theirs) theirs ≡ only (ownLoose p) (own p)
+      chain c =
+          ap (λ (b : Bool). only (has (k .roster) p && (not b && (ltb 2 (size theirs) && not (clique (baseSets P a) theirs)))) theirs) c
+          ∙ ap (λ (b : Bool). only b theirs) (none (has (k .roster) p)) ∙ ap (λ (b : Bool). only b (own p)) (sym (chained-tight c p))
+
+      free : chained P ≡ false → only (has (k .roster) p && loose P (baseSets P a) theirs) theirs ≡ only (ownLoose p) (own p)
+      free c =
+          ap₂ (λ (b : Bool) (m : ℕ). only (has (k .roster) p && b) m) (loose-is c theirs ∙ ap (looseBy (near pairs edges)) (closes c (one p))) (closes c (one p))
+          ∙ ap (λ (b : Bool). only b (own p)) (known (has (k .roster) p) (ownLoose p) (loose-on p))
+
+  -- ---- what the code found of them
+
+  module _ (heads : ℕ) (parts : List ℕ) (L : LooseParts pairs edges heads parts) where
+    head-loose : (h : ℕ) → has heads h ≡ true → ownLoose h ≡ true
+    head-loose h e = ap (looseBy (near pairs edges)) (sym (L .sound h e .0)) ∙ L .sound h e .1
+
+    head-low : (h : ℕ) → has heads h ≡ true → h < 64
+    head-low h e = ⊎-elim (λ l. l) (λ l. clash (loose-on h (head-loose h e)) (has-high 64 (k .roster) h (S .roster) l)) (lt-or-le h 64)
+
+    -- THE COMPONENTS AT DISCRETION
+    pub parts-are : PartsAre P (k .roster) a heads parts
+    parts-are = record {
+      sound = λ h e. (
+        λ z. clash (close-within sets (one h) .at h (in-one h)) (ap (λ (m : ℕ). has m h) (sym (L .sound h e .0) ∙ z) ∙ has-none h),
+        (h, head-low h e, component-is h ∙ ap (λ (b : Bool). only b (own h)) (head-loose h e) ∙ sym (L .sound h e .0)),
+      );
+      complete = λ p l n. ⊎-elim
+          (λ e. let w = L .complete p e in (w .0, w .1, w .2 ∙ sym (component-is p ∙ ap (λ (b : Bool). only b (own p)) e)))
+          (λ e. absurd (n (component-is p ∙ ap (λ (b : Bool). only b (own p)) e))) (which (ownLoose p));
+    }
+
+    seed-is : unionOf (entry parts) (members heads) ≡ discretionSeed P (k .roster) a
+    unfolding discretionSeed looseComponents
+    seed-is =
+        antisym (unionOf (entry parts) (members heads)) (unionBelow 64 component) (record { at = there }) (record { at = back })
+        ∙ sym (union-below (λ m. m) 64 component)
+      where
+        component : ℕ → ℕ
+        component = looseComponent P (k .roster) (baseSets P a)
+
+        low : heads < 2 ^ 64
+        low = few-low 64 heads (omega arith) head-low
+
+        there : (q : ℕ) → has (unionOf (entry parts) (members heads)) q ≡ true → has (unionBelow 64 component) q ≡ true
+        there q h =
+            let w = union-has (entry parts) heads q low h in
+            let c = parts-are .sound (w .0) (w .1) .1 in
+            in-below 64 component (c .0) (c .1) .at q (ap (λ (m : ℕ). has m q) (c .2) ∙ w .2)
+
+        back : (q : ℕ) → has (unionBelow 64 component) q ≡ true → has (unionOf (entry parts) (members heads)) q ≡ true
+        back q h =
+            let w = union-find 64 component q h in
+            let c = parts-are .complete (w .0) (w .1) (λ z. clash (w .2) (ap (λ (m : ℕ). has m q) z ∙ has-none q)) in
+            has-union-of (entry parts) heads (c .0) q low (c .1) (ap (λ (m : ℕ). has m q) (c .2) ∙ w .2)
+
+    seed-on : (q : ℕ) → has (unionOf (entry parts) (members heads)) q ≡ true → has (k .roster) q ≡ true
+    seed-on q h =
+        let w = union-has (entry parts) heads q (few-low 64 heads (omega arith) head-low) h in
+        own-on (w .0) (head-loose (w .0) (w .1)) .at q (ap (λ (m : ℕ). has m q) (sym (L .sound (w .0) (w .1) .0)) ∙ w .2)
+
+    -- THE MARKS OF DISCRETION
+    pub discretion-is : unionOf (entry (getD t 15 [])) (members (unionOf (entry parts) (members heads))) ≡ marksOf P (k .roster) I a .discretion
+    unfolding marksOf
+    discretion-is =
+        let seed = unionOf (entry parts) (members heads) in
+        let low : seed < 2 ^ 64 = set-low 64 seed (λ p l. not-so (has seed p) (λ e. clash (seed-on p e) (has-high 64 (k .roster) p (S .roster) l))) in
+        union-members (entry (getD t 15 [])) (λ p. spread P I (one p)) seed low (λ p h. S .spreads p (seed-on p h))
+        ∙ sym (spread-members P I seed low) ∙ ap (spread P I) seed-is

@@ -7,4 +7,7 @@ pub mod ViewSeen
 pub mod FirstBlocks
 pub mod Partition
 pub mod ClassLaws
+pub mod SpreadLaws
+pub mod FindLaws
+pub mod LooseLaws
 pub mod DiscretionLaws

@@ -8,7 +8,7 @@ use Rattle.records.specs.Sets.{union, minus}
 use Rattle.worlds.specs.Over.{entry}
 use Rattle.worlds.specs.Discretion.{looseBy}
 use Rattle.worlds.proofs.OverLaws.{turn-has}
-use Rattle.worlds.proofs.DiscretionLaws.{Found, found-none, found-all, found-as, found-in, found-out, left-less}
+use Rattle.worlds.proofs.LooseLaws.{Found, found-none, found-all, found-as, found-in, found-out, left-less}
 use Rattle.worlds.proofs.discretion.heads.Statement.{statement}
 use Rattle.worlds.proofs.discretion.heads.Tie as tie
 

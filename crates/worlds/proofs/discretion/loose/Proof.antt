@@ -1,6 +1,6 @@
 -- `discretion::loose`: the ones counted are the persons of the set.
 use borrow.Author.Needs.{needs}
-use Rattle.worlds.proofs.DiscretionLaws.{loose-many, loose-few}
+use Rattle.worlds.proofs.LooseLaws.{loose-many, loose-few}
 use Rattle.worlds.proofs.discretion.loose.Statement.{statement}
 use Rattle.worlds.proofs.discretion.loose.Tie as tie
 

@@ -1,6 +1,6 @@
 -- `discretion::loose_parts`: the table has the classes by the pairs, and the heads of those that are loose are asked for.
 use native.Mathlib.Omega.{arith}
-use Rattle.worlds.proofs.DiscretionLaws.{pairs-classes, heads-parts}
+use Rattle.worlds.proofs.LooseLaws.{pairs-classes, heads-parts}
 use borrow.Author.Needs.{needs}
 use Rattle.worlds.proofs.discretion.loose_parts.Statement.{statement}
 use Rattle.worlds.proofs.discretion.loose_parts.Tie as tie

@@ -8,7 +8,7 @@ use Rattle.expressions.proofs.UnionLaws.{none-union}
 use Rattle.expressions.proofs.ListLaws.{filled-at}
 use Rattle.worlds.specs.Over.{entry}
 use Rattle.worlds.specs.Discretion.{near}
-use Rattle.worlds.proofs.DiscretionLaws.{near-more, near-end}
+use Rattle.worlds.proofs.LooseLaws.{near-more, near-end}
 use Rattle.worlds.proofs.discretion.neighbours.Statement.{statement}
 use Rattle.worlds.proofs.discretion.neighbours.Tie as tie
 
