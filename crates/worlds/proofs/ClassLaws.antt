@@ -37,7 +37,7 @@ closed-parts (s ∷ ss) ts m c =
     ((c .0, r .0), r .1)
 
 -- sets that lie within a set
-closed-inside : (ss : List ℕ) (m : ℕ) → allOf (λ s. subset s m) ss ≡ true → Closed ss m
+pub closed-inside : (ss : List ℕ) (m : ℕ) → allOf (λ s. subset s m) ss ≡ true → Closed ss m
 unfolding allOf
 closed-inside [] m e = tt
 closed-inside (s ∷ ss) m e =

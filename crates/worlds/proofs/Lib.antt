@@ -14,3 +14,5 @@ pub mod ApplyLaws
 pub mod ClashLaws
 pub mod CutsMade
 pub mod NoteLaws
+pub mod LooseLaws
+pub mod DiscretionLaws

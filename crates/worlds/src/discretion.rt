@@ -5,6 +5,7 @@ use crate::over::gather;
 use crate::over::give;
 use crate::over::low;
 use crate::over::others;
+use crate::over::whole;
 use records::sets::bit;
 use records::sets::minus;
 use records::sets::subset;
@@ -58,6 +59,7 @@ fn loose(lead: &[u64; 64], set: u64) -> bool
 fn heads(classes: &[u64; 64], lead: &[u64; 64], persons: u64, parts: &mut [u64; 64]) -> u64
     ensures { λ r. ⌜ Heads (looseBy (entry (now (lead .entry)))) persons (now (classes .entry)) r (now (parts .exit)) ⌝ }
 {
+    whole(*parts);
     let mut found: u64 = 0;
     let mut m = persons;
     while m != 0 {
