@@ -5,3 +5,4 @@ pub mod StateSeen
 pub mod ViewSeen
 pub mod FirstBlocks
 pub mod Partition
+pub mod AttachLaws
