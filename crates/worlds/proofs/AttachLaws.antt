@@ -1,19 +1,36 @@
 -- Step 7 as the code goes: which attachments are not skipped, whom they move, and the blocks that are left.
 use mathlib.Core.Path.{_≡_, refl, sym, ap, ap₂, _∙_, subst}
-use mathlib.Core.Bool.{Bool, true, false, not, cond, _&&_, _||_, true≢false, false≢true}
+use mathlib.Core.Bool.{Bool, true, false, not, cond, _&&_, _||_, and-true, and-false, or-false, true≢false, false≢true}
 use mathlib.Core.Logic.{_⊎_, inl, inr, ⊎-elim}
 use mathlib.Core.List.{List, [], _∷_}
-use Prim.Native.Nat.{ℕ, zero, suc, _^_, _≤_, _<_}
+use Prim.Native.Nat.{ℕ, zero, suc, _+_, _/_, _%_, _^_, _≤_, _<_, zero-le}
+use native.Mathlib.Nat.{not-suc-le-zero, le-of-suc-le-suc, add-zero, zero-add}
+use native.Mathlib.Omega.{arith}
+use lib.Arith.{lt-one}
 use lib.ListN.{length, getD, set}
 use lib.Seq.{getD-set-same, getD-set-other}
-use lib.Dec.{eqb}
-use borrow.Author.Tests.{eqb-true, eqb-false, eq-eqb, ne-eqb}
-use Rattle.records.specs.Sets.{has, one, union, meet, minus, meets, subset, lowest, members, unionOf}
-use Rattle.records.proofs.SetLaws.{Within, ext, has-none, has-minus, antisym, in-union-l, in-union-r, of-union, in-minus, of-minus, subset-true}
+use lib.Dec.{eqb, ltb}
+use borrow.Author.Tests.{eqb-true, eqb-false, eq-eqb, ne-eqb, lt-ltb, le-ltb}
+use Rattle.records.specs.Sets.{odd, has, one, union, meet, minus, disjoint, meets, subset, lowest, when, members, membersFrom, allOf, unionOf, foldBelow}
+use Rattle.records.specs.Plan.{Plan}
+use Rattle.records.proofs.SetLaws.{Within, ext, empty, apart, meeting, has-zero, has-suc, has-none, has-one, has-union, has-minus, antisym, in-union-l, in-union-r, of-union, in-minus, of-minus, subset-true, and-parts, lt-or-le}
+use Rattle.records.proofs.Closing.{in-one}
+use Rattle.records.proofs.BelowLaws.{fold-keeps}
+use Rattle.records.proofs.MemberLaws.{members-same}
+use Rattle.expressions.specs.Rules.{attachmentCount, attachment, rulePersons}
+use Rattle.expressions.specs.Nodes.{on}
+use Rattle.expressions.specs.Variables.{Influence}
+use Rattle.expressions.proofs.UnionLaws.{none-union, union-none, union-go}
+use Rattle.worlds.specs.Active.{Active}
+use Rattle.worlds.specs.World.{State, Marks, marked, blockOf, keptCuts, firstState, move, attach, lastState, afterMarks, worldOf}
 use Rattle.worlds.specs.Over.{entry}
-use Rattle.worlds.specs.Blocks.{Parted}
-use Rattle.worlds.proofs.OverLaws.{has-union-of}
-use Rattle.worlds.proofs.Partition.{not-set}
+use Rattle.worlds.specs.Tables.{row, Stands, Tells}
+use Rattle.worlds.specs.Blocks.{Parted, startOf}
+use Rattle.worlds.specs.declared.tables.Common.{Common}
+use Rattle.worlds.specs.declared.tables.Active as masks
+use Rattle.worlds.proofs.OverLaws.{union-has, has-union-of}
+use Rattle.worlds.proofs.FirstBlocks.{Blocks, out-of-blocks, first-blocks}
+use Rattle.worlds.proofs.Partition.{not-set, cut-on, attach-blocks}
 
 -- ---- a table changed at each number of a set, by the number
 
@@ -109,3 +126,292 @@ module _ (live anchor block movers : ℕ) (before : List ℕ) (B : Parted live b
           sym (stays p e (λ q h k.
           let b = subset-true movers block here .at q k in
           true≢false (sym (ap (λ (x : ℕ). has x p) (whole ∙ sym (mine q b)) ∙ shared p q h) ∙ e)))
+
+-- ---- a run over the numbers below n, over those alone that change something
+
+-- one application after another
+unfoldable pub over : {A : Type 0} → (ℕ → A → A) → List ℕ → A → A
+over f [] s = s
+over f (i ∷ is) s = over f is (f i s)
+
+pub over-first : {A : Type 0} (f : ℕ → A → A) (xs : List ℕ) (i : ℕ) (ys : List ℕ) (s : A) → xs ≡ i ∷ ys → over f xs s ≡ over f ys (f i s)
+unfolding over
+over-first f xs i ys s e = ap (λ (zs : List ℕ). over f zs s) e
+
+pub over-none : {A : Type 0} (f : ℕ → A → A) (xs : List ℕ) (s : A) → xs ≡ [] → over f xs s ≡ s
+unfolding over
+over-none f xs s e = ap (λ (zs : List ℕ). over f zs s) e
+
+-- the first of the numbers first
+fold-first : {A : Type 0} (n : ℕ) (g : ℕ → A → A) (s : A) → foldBelow (suc n) g s ≡ foldBelow n (λ j. g (suc j)) (g 0 s)
+unfolding foldBelow
+fold-first zero g s = refl
+fold-first (suc n) g s = ap (g (suc n)) (fold-first n g s)
+
+module _ {A : Type 0} (Q : A → Type 0) (f : ℕ → A → A) (keeps : (i : ℕ) (s : A) → Q s → Q (f i s)) where
+  fold-still : (n : ℕ) (g : ℕ → A → A) → ((j : ℕ) (s : A) → Q s → g j s ≡ s) → (s : A) → Q s → foldBelow n g s ≡ s
+  unfolding foldBelow
+  fold-still zero g still s q = refl
+  fold-still (suc n) g still s q = ap (g n) (fold-still n g still s q) ∙ still n s q
+
+  fold-from : (k n p m : ℕ) (g : ℕ → A → A) → m < 2 ^ k → ((j : ℕ) (s : A) → g j s ≡ f (p + j) s) → ((j : ℕ) → has m j ≡ true → j < n)
+      → ((j : ℕ) → has m j ≡ false → (s : A) → Q s → g j s ≡ s) → (s : A) → Q s → foldBelow n g s ≡ over f (membersFrom k p m) s
+  unfolding membersFrom over foldBelow
+  fold-from zero n p m g h is low still s q = fold-still n g (λ j. still j (ap (λ (x : ℕ). has x j) (lt-one h) ∙ has-none j)) s q
+  fold-from (suc k) zero p m g h is low still s q =
+      pick (m % 2) refl (fold-from k zero (suc p) (m / 2) (λ j. g (suc j)) (omega arith) (λ j t. is (suc j) t ∙ ap (λ (x : ℕ). f x t) (shift j))
+      (λ j e. absurd (not-suc-le-zero (low (suc j) (has-suc m j ∙ e)))) (λ j e. still (suc j) (has-suc m j ∙ e)) s q)
+    where
+      shift : (j : ℕ) → p + suc j ≡ suc p + j
+      shift j = omega arith
+
+      pick : (d : ℕ) → m % 2 ≡ d → s ≡ over f (membersFrom k (suc p) (m / 2)) s → s ≡ over f (when (m % 2) p (membersFrom k (suc p) (m / 2))) s
+      pick zero e r = r ∙ ap (λ (d : ℕ). over f (when d p (membersFrom k (suc p) (m / 2))) s) (sym e)
+      pick (suc d) e r = absurd (not-suc-le-zero (low 0 (has-zero m ∙ ap odd e)))
+  fold-from (suc k) (suc n) p m g h is low still s q =
+      fold-first n g s ∙ pick (m % 2) refl (fold-from k n (suc p) (m / 2) (λ j. g (suc j)) (omega arith) (λ j t. is (suc j) t ∙ ap (λ (x : ℕ). f x t) (shift j))
+      (λ j e. le-of-suc-le-suc (low (suc j) (has-suc m j ∙ e))) (λ j e. still (suc j) (has-suc m j ∙ e)))
+    where
+      rest : List ℕ
+      rest = membersFrom k (suc p) (m / 2)
+
+      shift : (j : ℕ) → p + suc j ≡ suc p + j
+      shift j = omega arith
+
+      pick : (d : ℕ) → m % 2 ≡ d → ((t : A) → Q t → foldBelow n (λ j. g (suc j)) t ≡ over f rest t) → foldBelow n (λ j. g (suc j)) (g 0 s) ≡ over f (when (m % 2) p rest) s
+      pick zero e r =
+          ap (foldBelow n (λ j. g (suc j))) (still 0 (has-zero m ∙ ap odd e) s q) ∙ r s q ∙ ap (λ (d : ℕ). over f (when d p rest) s) (sym e)
+      pick (suc d) e r =
+          ap (foldBelow n (λ j. g (suc j))) (is 0 s ∙ ap (λ (x : ℕ). f x s) (add-zero p)) ∙ r (f p s) (keeps p s q) ∙ ap (λ (d : ℕ). over f (when d p rest) s) (sym e)
+
+  -- A RUN over the numbers below n is one over the set m of them, if the others change nothing
+  pub run-over : (n m : ℕ) → m < 2 ^ 64 → ((j : ℕ) → has m j ≡ true → j < n) → ((j : ℕ) → has m j ≡ false → (s : A) → Q s → f j s ≡ s)
+      → (s : A) → Q s → foldBelow n f s ≡ over f (members m) s
+  unfolding members
+  run-over n m h low still s q = fold-from 64 n 0 m f h (λ j t. ap (λ (x : ℕ). f x t) (sym (zero-add j))) low still s q
+
+-- ---- what an attachment does, by who is live
+
+-- it is not skipped
+abbrev pub goes : Plan → ℕ → Active → ℕ → Bool
+goes P live a i = on (a .attachments) i && has live (attachment P i .anchor)
+
+abbrev pub moversOf : Plan → ℕ → ℕ → ℕ
+moversOf P marks i = minus (attachment P i .members) marks
+
+abbrev pub moving : Plan → ℕ → ℕ → State → State
+moving P marks i s = move i (union (blockOf s (attachment P i .anchor)) (moversOf P marks i)) (moversOf P marks i) s
+
+-- whoever is live is in a block, and nobody else
+pub in-block : (live : ℕ) (s : State) → Blocks live s → (p : ℕ) → not (eqb (blockOf s p) 0) ≡ has live p
+in-block live s B p = pick (has live p) refl
+  where
+    pick : (b : Bool) → has live p ≡ b → not (eqb (blockOf s p) 0) ≡ has live p
+    pick true e = ap not (ne-eqb (blockOf s p) 0 (λ z. true≢false (sym (B .self p e) ∙ ap (λ (x : ℕ). has x p) z ∙ has-none p))) ∙ sym e
+    pick false e = ap not (eq-eqb (blockOf s p) 0 (out-of-blocks live s B p e)) ∙ sym e
+
+pub attach-goes : (P : Plan) (live marks : ℕ) (a : Active) (i : ℕ) (s : State) → Blocks live s
+    → attach P marks a i s ≡ cond (goes P live a i) (moving P marks i s) s
+unfolding attach
+attach-goes P live marks a i s B =
+    ap (λ (b : Bool). cond (on (a .attachments) i && b) (moving P marks i s) s) (in-block live s B (attachment P i .anchor))
+
+-- the blocks of the code's table are those of the state
+pub parted : (live : ℕ) (s : State) (blocks : List ℕ) → Blocks live s → ((p : ℕ) → entry blocks p ≡ blockOf s p) → Parted live blocks
+parted live s blocks B e = record {
+  self = λ p h. at p p ∙ B .self p h;
+  owner = λ p q h. B .owner p q (sym (at p q) ∙ h);
+  alive = λ p q h. B .alive p q (sym (at p q) ∙ h);
+  agreed = λ p q h. e q ∙ B .agreed p q (sym (at p q) ∙ h) ∙ sym (e p);
+}
+  where
+    at : (p q : ℕ) → has (entry blocks p) q ≡ has (blockOf s p) q
+    at p q = ap (λ (x : ℕ). has x q) (e p)
+
+-- ---- all of them
+
+ltb-suc : (i n : ℕ) → ltb i (suc n) ≡ (ltb i n || eqb n i)
+ltb-suc i n = ⊎-elim below above (lt-or-le i n)
+  where
+    below : i < n → ltb i (suc n) ≡ (ltb i n || eqb n i)
+    below l = lt-ltb i (suc n) (omega arith) ∙ sym (ap (λ (b : Bool). b || eqb n i) (lt-ltb i n l))
+
+    same : n ≤ i → (b : Bool) → eqb n i ≡ b → ltb i (suc n) ≡ b
+    same l true e = let z = eqb-true n i e in lt-ltb i (suc n) (omega arith)
+    same l false e = let z = eqb-false n i e in le-ltb i (suc n) (⊎-elim (λ h. h) (λ h. absurd (z (omega arith))) (lt-or-le n i))
+
+    above : n ≤ i → ltb i (suc n) ≡ (ltb i n || eqb n i)
+    above l = same l (eqb n i) refl ∙ sym (ap (λ (b : Bool). b || eqb n i) (le-ltb i n l))
+
+-- one number more, where the test at it is gn
+one-more : (x l g gn e : Bool) → (e ≡ true → g ≡ gn) → ((x || (l && g)) || (gn && e)) ≡ (x || ((l || e) && g))
+one-more true l g gn e h = refl
+one-more false true true gn e h = refl
+one-more false true false gn true h = ap (λ (b : Bool). b && true) (sym (h refl))
+one-more false true false gn false h = and-false gn
+one-more false false g gn true h = and-true gn ∙ sym (h refl)
+one-more false false g gn false h = and-false gn
+
+minus-union : (a b c : ℕ) → minus (union a b) c ≡ union (minus a c) (minus b c)
+minus-union a b c = ext (minus (union a b) c) (union (minus a c) (minus b c)) (λ p.
+    has-minus (union a b) c p ∙ ap (λ (x : Bool). x && not (has c p)) (has-union a b p) ∙ spread (has a p) (has b p) (not (has c p))
+    ∙ sym (has-union (minus a c) (minus b c) p ∙ ap₂ _||_ (has-minus a c p) (has-minus b c p)))
+  where
+    spread : (x y z : Bool) → ((x || y) && z) ≡ ((x && z) || (y && z))
+    spread true y true = refl
+    spread true y false = sym (and-false y)
+    spread false y z = refl
+
+pub union-minus : (g : ℕ → ℕ) (c : ℕ) (xs : List ℕ) → unionOf (λ i. minus (g i) c) xs ≡ minus (unionOf g xs) c
+unfolding unionOf
+union-minus g c [] = sym (empty (minus 0 c) (λ p h. true≢false (sym (of-minus 0 c p h .0) ∙ has-none p)))
+union-minus g c (x ∷ xs) = ap (union (minus (g x) c)) (union-minus g c xs) ∙ sym (minus-union (g x) (unionOf g xs) c)
+
+-- unions over a set of what agrees there
+pub union-same : (f g : ℕ → ℕ) (m : ℕ) → m < 2 ^ 64 → ((i : ℕ) → has m i ≡ true → f i ≡ g i) → unionOf f (members m) ≡ unionOf g (members m)
+union-same f g m h e = antisym (unionOf f (members m)) (unionOf g (members m)) (part f g e) (part g f (λ i k. sym (e i k)))
+  where
+    part : (f g : ℕ → ℕ) → ((i : ℕ) → has m i ≡ true → f i ≡ g i) → Within (unionOf f (members m)) (unionOf g (members m))
+    part f g e = record {
+      at = λ q k.
+          let r = union-has f m q h k in
+          has-union-of g m (r .0) q h (r .1) (ap (λ (x : ℕ). has x q) (sym (e (r .0) (r .1))) ∙ r .2);
+    }
+
+all-true : (xs : List ℕ) → allOf (λ (q : ℕ). true) xs ≡ true
+unfolding allOf
+all-true [] = refl
+all-true (x ∷ xs) = all-true xs
+
+module _ (P : Plan) (roster : ℕ) (named : subset (rulePersons P) roster ≡ true) (fits : roster < 2 ^ 64) (a : Active) (m : Marks) where
+  abbrev live : ℕ
+  live = minus roster (marked m)
+
+  abbrev step : ℕ → State → State
+  step = attach P (marked m) a
+
+  -- which of the attachments below n are not skipped
+  pub fold-moved : (n : ℕ) (s : State) → Blocks (minus roster (marked m)) s → (i : ℕ)
+      → has (foldBelow n (attach P (marked m) a) s .moved) i ≡ (has (s .moved) i || (ltb i n && goes P (minus roster (marked m)) a i))
+  unfolding foldBelow move
+  fold-moved zero s B i = sym (ap (λ (b : Bool). has (s .moved) i || (b && goes P live a i)) (le-ltb i 0 zero-le) ∙ or-false (has (s .moved) i))
+  fold-moved (suc n) s B i =
+      ap (λ (u : State). has (u .moved) i) (attach-goes P live (marked m) a n t (fold-keeps (Blocks live) step (attach-blocks P roster named fits a m) n s B))
+      ∙ by (goes P live a n) (fold-moved n s B i) ∙ one-more (has (s .moved) i) (ltb i n) (goes P live a i) (goes P live a n) (eqb n i) (λ e. ap (goes P live a) (sym (eqb-true n i e)))
+      ∙ ap (λ (b : Bool). has (s .moved) i || (b && goes P live a i)) (sym (ltb-suc i n))
+    where
+      t : State
+      t = foldBelow n step s
+
+      by : (b : Bool) → has (t .moved) i ≡ (has (s .moved) i || (ltb i n && goes P live a i))
+          → has (cond b (moving P (marked m) n t) t .moved) i ≡ ((has (s .moved) i || (ltb i n && goes P live a i)) || (b && eqb n i))
+      by true before = has-union (t .moved) (one n) i ∙ ap₂ _||_ before (has-one n i)
+      by false before = before ∙ sym (or-false (has (s .moved) i || (ltb i n && goes P live a i)))
+
+  -- whom a run over attachments that are not skipped attaches
+  over-attached : (xs : List ℕ) (s : State) → Blocks live s → allOf (goes P live a) xs ≡ true
+      → over step xs s .attached ≡ union (s .attached) (unionOf (moversOf P (marked m)) xs)
+  unfolding over unionOf allOf move
+  over-attached [] s B all = sym (union-none (s .attached))
+  over-attached (x ∷ xs) s B all =
+      let both = and-parts (goes P live a x) (allOf (goes P live a) xs) all in
+      let now : attach P (marked m) a x s ≡ moving P (marked m) x s =
+      attach-goes P live (marked m) a x s B ∙ ap (λ (b : Bool). cond b (moving P (marked m) x s) s) (both .0) in
+      over-attached xs (step x s) (attach-blocks P roster named fits a m x s B) (both .1)
+      ∙ ap (λ (u : State). union (u .attached) (unionOf (moversOf P (marked m)) xs)) now ∙ union-go (moversOf P (marked m)) (s .attached) x xs
+
+-- ---- the world's attachments
+
+-- one person meets a set
+pub one-meets : (x b : ℕ) → meets (one x) b ≡ has b x
+unfolding meets
+one-meets x b = pick (has b x) refl
+  where
+    pick : (c : Bool) → has b x ≡ c → not (disjoint (one x) b) ≡ has b x
+    pick true e = ap not (meeting (one x) b x (in-one x) e) ∙ sym e
+    pick false e = ap not (apart (one x) b (λ p h k. true≢false (sym k ∙ ap (has b) (sym (eqb-true x p (sym (has-one x p) ∙ h))) ∙ e))) ∙ sym e
+
+module _ (P : Plan) (I : Influence) (k : Common) (t : List (List ℕ)) (a : Active) (S : Stands P I k t)
+    (below : (i : ℕ) → on (a .attachments) i ≡ true → i < attachmentCount P) where
+  abbrev marks : ℕ
+  marks = marked (worldOf P (k .roster) I a .marks)
+
+  abbrev placed : ℕ
+  placed = minus (k .roster) (marked (worldOf P (k .roster) I a .marks))
+
+  abbrev start : State
+  start = startOf P (k .roster) I a
+
+  pub start-blocks : Blocks (minus (k .roster) (marked (worldOf P (k .roster) I a .marks))) (startOf P (k .roster) I a)
+  unfolding worldOf afterMarks startOf
+  start-blocks = first-blocks P (k .roster) marks a (keptCuts P a) (S .roster) (cut-on P (k .roster) (S .named))
+
+  state-is : worldOf P (k .roster) I a .state ≡ foldBelow (attachmentCount P) (attach P marks a) start
+  unfolding worldOf afterMarks lastState startOf
+  state-is = refl
+
+  start-moved : start .moved ≡ 0
+  unfolding startOf firstState
+  start-moved = refl
+
+  start-attached : start .attached ≡ 0
+  unfolding startOf firstState
+  start-attached = refl
+
+  goes-below : (i : ℕ) → goes P placed a i ≡ true → i < attachmentCount P
+  goes-below i e = below i (and-parts (on (a .attachments) i) (has placed (attachment P i .anchor)) e .0)
+
+  -- WHICH ATTACHMENTS ARE NOT SKIPPED: the active ones whose anchor is on the roster and not marked
+  pub moved-is : (i : ℕ) → has (worldOf P (k .roster) I a .state .moved) i ≡ goes P (minus (k .roster) (marked (worldOf P (k .roster) I a .marks))) a i
+  moved-is i =
+      ap (λ (s : State). has (s .moved) i) state-is
+      ∙ fold-moved P (k .roster) (S .named) (S .roster) a (worldOf P (k .roster) I a .marks) (attachmentCount P) start start-blocks i
+      ∙ ap (λ (b : Bool). b || (ltb i (attachmentCount P) && goes P placed a i)) (ap (λ (x : ℕ). has x i) start-moved ∙ has-none i)
+      ∙ pick (goes P placed a i) refl
+    where
+      pick : (b : Bool) → goes P placed a i ≡ b → (ltb i (attachmentCount P) && goes P placed a i) ≡ goes P placed a i
+      pick true e = ap (λ (b : Bool). b && goes P placed a i) (lt-ltb i (attachmentCount P) (goes-below i e))
+      pick false e = ap (λ (b : Bool). ltb i (attachmentCount P) && b) e ∙ and-false (ltb i (attachmentCount P)) ∙ sym e
+
+  module _ (moved : ℕ) (fits : moved < 2 ^ 64) (is : moved ≡ worldOf P (k .roster) I a .state .moved) where
+    pub moved-goes : (i : ℕ) → has moved i ≡ goes P (minus (k .roster) (marked (worldOf P (k .roster) I a .marks))) a i
+    moved-goes i = ap (λ (x : ℕ). has x i) is ∙ moved-is i
+
+    -- THE STATE is what these attachments make of the start, one after another
+    pub state-run : worldOf P (k .roster) I a .state ≡ over (attach P (marked (worldOf P (k .roster) I a .marks)) a) (members moved) (startOf P (k .roster) I a)
+    state-run =
+        state-is
+        ∙ run-over (Blocks placed) (attach P marks a) (attach-blocks P (k .roster) (S .named) (S .roster) a (worldOf P (k .roster) I a .marks)) (attachmentCount P) moved fits
+        (λ j e. goes-below j (sym (moved-goes j) ∙ e))
+        (λ j e s B. attach-goes P placed marks a j s B ∙ ap (λ (b : Bool). cond b (moving P marks j s) s) (sym (moved-goes j) ∙ e)) start start-blocks
+
+    -- WHO IS ATTACHED
+    pub attached-is : worldOf P (k .roster) I a .state .attached ≡ minus (unionOf (λ i. attachment P i .members) (members moved)) (marked (worldOf P (k .roster) I a .marks))
+    attached-is =
+        ap (λ (s : State). s .attached) state-run
+        ∙ over-attached P (k .roster) (S .named) (S .roster) a (worldOf P (k .roster) I a .marks) (members moved) start start-blocks
+        (members-same moved (goes P placed a) (λ q. true) (λ q e. sym (moved-goes q) ∙ e) ∙ all-true (members moved))
+        ∙ ap (λ (x : ℕ). union x (unionOf (moversOf P marks) (members moved))) start-attached ∙ none-union (unionOf (moversOf P marks) (members moved))
+        ∙ union-minus (λ i. attachment P i .members) marks (members moved)
+
+    -- the same by the row of the movers
+    pub attached-rows : minus (unionOf (row t 11) (members moved)) (marked (worldOf P (k .roster) I a .marks)) ≡ worldOf P (k .roster) I a .state .attached
+    attached-rows =
+        ap (λ (x : ℕ). minus x marks) (union-same (row t 11) (λ i. attachment P i .members) moved fits (λ i e. S .movers i (goes-below i (sym (moved-goes i) ∙ e))))
+        ∙ sym attached-is
+
+-- the set that goes by the rows of the anchors is the one of the world
+pub moved-rows : (P : Plan) (I : Influence) (k : Common) (t : List (List ℕ)) (a : Active) (f : masks.Active) → Stands P I k t → Tells P a f → (moved : ℕ)
+    → ((i : ℕ) → has moved i ≡ (has (f .attachments) i && meets (row t 12 i) (minus (k .roster) (marked (worldOf P (k .roster) I a .marks)))))
+    → moved ≡ worldOf P (k .roster) I a .state .moved
+moved-rows P I k t a f S T moved e = ext moved (worldOf P (k .roster) I a .state .moved) (λ i.
+    e i ∙ ap (λ (b : Bool). b && meets (row t 12 i) live) (T .attachments i) ∙ pick i (on (a .attachments) i) refl ∙ sym (moved-is P I k t a S (T .attachmentsBelow) i))
+  where
+    live : ℕ
+    live = minus (k .roster) (marked (worldOf P (k .roster) I a .marks))
+
+    pick : (i : ℕ) (b : Bool) → on (a .attachments) i ≡ b → (on (a .attachments) i && meets (row t 12 i) live) ≡ goes P live a i
+    pick i true e =
+        ap (λ (b : Bool). on (a .attachments) i && b)
+        (ap (λ (x : ℕ). meets x live) (S .anchors i (T .attachmentsBelow i e)) ∙ one-meets (attachment P i .anchor) live)
+    pick i false e = ap (λ (b : Bool). b && meets (row t 12 i) live) e ∙ sym (ap (λ (b : Bool). b && has live (attachment P i .anchor)) e)
