@@ -13,7 +13,7 @@ use lib.Dec.{eqb, ltb}
 use borrow.Author.Tests.{eqb-true, eqb-false, eq-eqb, ne-eqb, lt-ltb, le-ltb}
 use Rattle.records.specs.Sets.{odd, has, one, union, meet, minus, disjoint, meets, subset, lowest, when, members, membersFrom, allOf, unionOf, foldBelow}
 use Rattle.records.specs.Plan.{Plan}
-use Rattle.records.proofs.SetLaws.{Within, ext, empty, apart, meeting, has-zero, has-suc, has-none, has-one, has-union, has-minus, antisym, in-union-l, in-union-r, of-union, in-minus, of-minus, subset-true, and-parts, lt-or-le}
+use Rattle.records.proofs.SetLaws.{Within, within-refl, thru, ext, empty, in-meet, of-meet, within-subset, one-lt, trailing-member, apart, meeting, has-zero, has-suc, has-none, has-one, has-union, has-minus, antisym, in-union-l, in-union-r, of-union, in-minus, of-minus, subset-true, and-parts, lt-or-le}
 use Rattle.records.proofs.Closing.{in-one}
 use Rattle.records.proofs.BelowLaws.{fold-keeps}
 use Rattle.records.proofs.MemberLaws.{members-same}
@@ -25,12 +25,12 @@ use Rattle.worlds.specs.Active.{Active}
 use Rattle.worlds.specs.World.{State, Marks, marked, blockOf, keptCuts, firstState, move, attach, lastState, afterMarks, worldOf}
 use Rattle.worlds.specs.Over.{entry}
 use Rattle.worlds.specs.Tables.{row, Stands, Tells}
-use Rattle.worlds.specs.Blocks.{Parted, startOf}
+use Rattle.worlds.specs.Blocks.{Parted, MovedTo, startOf}
 use Rattle.worlds.specs.declared.tables.Common.{Common}
 use Rattle.worlds.specs.declared.tables.Active as masks
-use Rattle.worlds.proofs.OverLaws.{union-has, has-union-of}
+use Rattle.worlds.proofs.OverLaws.{members-none, union-has, has-union-of}
 use Rattle.worlds.proofs.FirstBlocks.{Blocks, out-of-blocks, first-blocks}
-use Rattle.worlds.proofs.Partition.{not-set, cut-on, attach-blocks}
+use Rattle.worlds.proofs.Partition.{not-set, moved-block, cut-on, live-below, movers-live, attach-blocks}
 
 -- ---- a table changed at each number of a set, by the number
 
@@ -415,3 +415,122 @@ moved-rows P I k t a f S T moved e = ext moved (worldOf P (k .roster) I a .state
         ap (λ (b : Bool). on (a .attachments) i && b)
         (ap (λ (x : ℕ). meets x live) (S .anchors i (T .attachmentsBelow i e)) ∙ one-meets (attachment P i .anchor) live)
     pick i false e = ap (λ (b : Bool). b && meets (row t 12 i) live) e ∙ sym (ap (λ (b : Bool). b && has live (attachment P i .anchor)) e)
+
+-- ---- a loop over them
+
+-- what is given of the step
+pub record Attaching (P : Plan) (I : Influence) (k : Common) (a : Active) (t : List (List ℕ)) (moved placed : ℕ) (first : List ℕ) : Type 0 where
+  pub stands : Stands P I k t
+  pub is : moved ≡ worldOf P (k .roster) I a .state .moved
+  pub below : (i : ℕ) → on (a .attachments) i ≡ true → i < attachmentCount P
+  pub unmarked : placed ≡ minus (k .roster) (marked (worldOf P (k .roster) I a .marks))
+  pub begun : (p : ℕ) → entry first p ≡ blockOf (startOf P (k .roster) I a) p
+
+-- the blocks are those of a state from which the attachments left, m, lead to the world's
+pub record Reached (P : Plan) (I : Influence) (k : Common) (a : Active) (moved m : ℕ) (blocks : List ℕ) : Type 0 where
+  pub state : State
+  pub parts : Blocks (minus (k .roster) (marked (worldOf P (k .roster) I a .marks))) state
+  pub entries : (p : ℕ) → entry blocks p ≡ blockOf state p
+  pub inside : Within m moved
+  pub left : over (attach P (marked (worldOf P (k .roster) I a .marks)) a) (members m) state ≡ worldOf P (k .roster) I a .state
+
+-- one person of a set
+pub meet-one : (x b : ℕ) → has b x ≡ true → meet (one x) b ≡ one x
+meet-one x b e =
+    antisym (meet (one x) b) (one x) (record { at = λ p h. of-meet (one x) b p h .0 })
+    (record { at = λ p h. in-meet (one x) b p h (ap (has b) (sym (eqb-true x p (sym (has-one x p) ∙ h))) ∙ e) })
+
+one-some : (x : ℕ) → one x ≡ 0 → ⊥
+one-some x e = true≢false (sym (in-one x) ∙ ap (λ (m : ℕ). has m x) e ∙ has-none x)
+
+pub lowest-one : (x : ℕ) → x < 64 → lowest (one x) ≡ x
+unfolding lowest
+lowest-one x l = sym (eqb-true x (lowest (one x)) (sym (has-one x (lowest (one x))) ∙ trailing-member 64 (one x) (one-lt 64 x l) (one-some x)))
+
+module _ (P : Plan) (I : Influence) (k : Common) (a : Active) (t : List (List ℕ)) (moved placed : ℕ) (first : List ℕ) (fits : moved < 2 ^ 64)
+    (T : Attaching P I k a t moved placed first) where
+  abbrev marksOf : ℕ
+  marksOf = marked (worldOf P (k .roster) I a .marks)
+
+  abbrev live2 : ℕ
+  live2 = minus (k .roster) (marked (worldOf P (k .roster) I a .marks))
+
+  pub reached-start : Reached P I k a moved moved first
+  reached-start = record {
+    state = startOf P (k .roster) I a;
+    parts = start-blocks P I k t a (T .stands) (T .below);
+    entries = T .begun;
+    inside = within-refl moved;
+    left = sym (state-run P I k t a (T .stands) (T .below) moved fits (T .is));
+  }
+
+  pub reached-end : (m : ℕ) (blocks : List ℕ) → m ≡ 0 → Reached P I k a moved m blocks → (p : ℕ) → entry blocks p ≡ blockOf (worldOf P (k .roster) I a .state) p
+  reached-end m blocks e R p = R .entries p ∙ ap (λ (s : State). blockOf s p) (sym (over-none (attach P marksOf a) (members m) (R .state) (members-none m e)) ∙ R .left)
+
+  module _ (m i : ℕ) (blocks : List ℕ) (R : Reached P I k a moved m blocks) (here : has m i ≡ true) where
+    goes-here : (on (a .attachments) i ≡ true) × (has live2 (attachment P i .anchor) ≡ true)
+    goes-here =
+        and-parts (on (a .attachments) i) (has live2 (attachment P i .anchor))
+        (sym (moved-goes P I k t a (T .stands) (T .below) moved fits (T .is) i) ∙ R .inside .at i here)
+
+    anchor-is : meet (row t 12 i) placed ≡ one (attachment P i .anchor)
+    anchor-is =
+        ap₂ meet (T .stands .anchors i (T .below i (goes-here .0))) (T .unmarked) ∙ meet-one (attachment P i .anchor) live2 (goes-here .1)
+
+    -- the anchor is placed
+    pub anchor-some : meet (row t 12 i) placed ≡ 0 → ⊥
+    anchor-some e = one-some (attachment P i .anchor) (sym anchor-is ∙ e)
+
+    anchor-low : lowest (meet (row t 12 i) placed) ≡ attachment P i .anchor
+    anchor-low = ap lowest anchor-is ∙ lowest-one (attachment P i .anchor) (⊎-elim (λ l. l)
+        (λ l. absurd (true≢false (sym (goes-here .1) ∙ live-below P (k .roster) (T .stands .named) (T .stands .roster) a (worldOf P (k .roster) I a .marks) (attachment P i .anchor) l)))
+        (lt-or-le (attachment P i .anchor) 64))
+
+    movers-in : Within (moversOf P marksOf i) live2
+    movers-in = movers-live P (k .roster) (T .stands .named) (T .stands .roster) a (worldOf P (k .roster) I a .marks) i
+
+    movers-is : meet (row t 11 i) placed ≡ moversOf P marksOf i
+    movers-is =
+        ap₂ meet (T .stands .movers i (T .below i (goes-here .0))) (T .unmarked)
+        ∙ antisym (meet (attachment P i .members) live2) (moversOf P marksOf i)
+        (record {
+          at = λ q h.
+              let b = of-meet (attachment P i .members) live2 q h in
+              in-minus (attachment P i .members) marksOf q (b .0) (of-minus (k .roster) marksOf q (b .1) .1);
+        })
+        (record { at = λ q h. in-meet (attachment P i .members) live2 q (of-minus (attachment P i .members) marksOf q h .0) (movers-in .at q h) })
+
+    -- ONE ATTACHMENT, lowest first
+    pub reached-next : (r x : ℕ) (after : List ℕ) → Within r m → members m ≡ i ∷ members r → x ≡ lowest (meet (row t 12 i) placed)
+        → MovedTo (entry blocks x) (meet (row t 11 i) placed) blocks after → Reached P I k a moved r after
+    reached-next r x after less e at M = record {
+      state = attach P marksOf a i (R .state);
+      parts = attach-blocks P (k .roster) (T .stands .named) (T .stands .roster) a (worldOf P (k .roster) I a .marks) i (R .state) (R .parts);
+      entries = λ p. M .at live2 x (parted live2 (R .state) blocks (R .parts) (R .entries)) refl inside p ∙ said p ∙ sym (then p);
+      inside = thru less (R .inside);
+      left = sym (over-first (attach P marksOf a) (members m) i (members r) (R .state) e) ∙ R .left;
+    }
+      where
+        s : State
+        s = R .state
+
+        inside : subset (meet (row t 11 i) placed) live2 ≡ true
+        inside = ap (λ (y : ℕ). subset y live2) movers-is ∙ within-subset (moversOf P marksOf i) live2 movers-in
+
+        block : entry blocks x ≡ blockOf s (attachment P i .anchor)
+        block = R .entries x ∙ ap (blockOf s) (at ∙ anchor-low)
+
+        -- as the code has it, and as the attachment does
+        made : ℕ → ℕ → ℕ → ℕ → ℕ
+        made b y old p = cond (has (union b y) p) (union b y) (minus old y)
+
+        said : (p : ℕ) → made (entry blocks x) (meet (row t 11 i) placed) (entry blocks p) p ≡ made (blockOf s (attachment P i .anchor)) (moversOf P marksOf i) (blockOf s p) p
+        said p = ap₂ (λ (b y : ℕ). made b y (entry blocks p) p) block movers-is
+            ∙ ap (λ (old : ℕ). made (blockOf s (attachment P i .anchor)) (moversOf P marksOf i) old p) (R .entries p)
+
+        then : (p : ℕ) → blockOf (attach P marksOf a i s) p ≡ made (blockOf s (attachment P i .anchor)) (moversOf P marksOf i) (blockOf s p) p
+        then p =
+            ap (λ (u : State). blockOf u p)
+            (attach-goes P live2 marksOf a i s (R .parts) ∙ ap (λ (b : Bool). cond b (moving P marksOf i s) s) (ap₂ _&&_ (goes-here .0) (goes-here .1)))
+            ∙ moved-block live2 (live-below P (k .roster) (T .stands .named) (T .stands .roster) a (worldOf P (k .roster) I a .marks)) i (attachment P i .anchor) (moversOf P marksOf i)
+            movers-in s (R .parts) p
