@@ -1,6 +1,6 @@
 -- Step 7 as the code goes: which attachments are not skipped, whom they move, and the blocks that are left.
 use mathlib.Core.Path.{_≡_, refl, sym, ap, ap₂, _∙_, subst}
-use mathlib.Core.Bool.{Bool, true, false, not, cond, _&&_, _||_, and-true, and-false, or-false, true≢false, false≢true}
+use mathlib.Core.Bool.{Bool, true, false, not, cond, _&&_, _||_, and-true, and-false, or-true, or-false, true≢false, false≢true}
 use mathlib.Core.Logic.{_⊎_, inl, inr, ⊎-elim}
 use mathlib.Core.List.{List, [], _∷_}
 use Prim.Native.Nat.{ℕ, zero, suc, _+_, _/_, _%_, _^_, _≤_, _<_, zero-le}
@@ -28,7 +28,7 @@ use Rattle.worlds.specs.Tables.{row, Stands, Tells}
 use Rattle.worlds.specs.Blocks.{Parted, MovedTo, startOf}
 use Rattle.worlds.specs.declared.tables.Common.{Common}
 use Rattle.worlds.specs.declared.tables.Active as masks
-use Rattle.worlds.proofs.OverLaws.{members-none, union-has, has-union-of}
+use Rattle.worlds.proofs.OverLaws.{members-none, member-has, union-has, has-union-of}
 use Rattle.worlds.proofs.FirstBlocks.{Blocks, out-of-blocks, first-blocks}
 use Rattle.worlds.proofs.Partition.{not-set, moved-block, cut-on, live-below, movers-live, attach-blocks}
 
@@ -417,6 +417,17 @@ moved-rows P I k t a f S T moved e = ext moved (worldOf P (k .roster) I a .state
     pick i false e = ap (λ (b : Bool). b && meets (row t 12 i) live) e ∙ sym (ap (λ (b : Bool). b && has live (attachment P i .anchor)) e)
 
 -- ---- a loop over them
+
+-- a turn at the lowest of m leaves r: the lowest is of m, and so are those of r
+module _ (m r i : ℕ) (fits : m < 2 ^ 64) (less : r < m) (listed : members m ≡ lowest m ∷ members r) (is : i ≡ lowest m) where
+  pub low-in : has m i ≡ true
+  low-in = member-has m r fits less listed i ∙ ap (λ (b : Bool). b || has r i) (eq-eqb (lowest m) i (sym is))
+
+  pub rest-in : Within r m
+  rest-in = record { at = λ j h. member-has m r fits less listed j ∙ ap (λ (b : Bool). eqb (lowest m) j || b) h ∙ or-true (eqb (lowest m) j) }
+
+  pub listed-at : members m ≡ i ∷ members r
+  listed-at = listed ∙ ap (λ (x : ℕ). x ∷ members r) (sym is)
 
 -- what is given of the step
 pub record Attaching (P : Plan) (I : Influence) (k : Common) (a : Active) (t : List (List ℕ)) (moved placed : ℕ) (first : List ℕ) : Type 0 where

@@ -7,11 +7,6 @@ use Rattle.worlds.specs.Blocks.{MovedTo}
 use Rattle.worlds.proofs.AttachLaws.{moved-apart, moved-already}
 use Rattle.worlds.proofs.world.move_to.Statement.{statement}
 use Rattle.worlds.proofs.world.move_to.Tie as tie
-use Rattle.worlds.proofs.world.move_to.Reads as reads
-use Rattle.worlds.proofs.world.move_to.Lts as lts
-use Rattle.records.proofs.sets.subset.Reads as subset-reads
-use Rattle.worlds.proofs.over.gather.Reads as gather-reads
-use Rattle.worlds.proofs.world.regroup.Reads as regroup-reads
 
 subset-requires : tie.Need-subset-requires
 subset-requires c κs = tt

@@ -15,13 +15,6 @@ use Rattle.worlds.proofs.OverLaws.{member-has}
 use Rattle.worlds.proofs.AttachLaws.{regrouped, regrouped-twice, change-at, change-done}
 use Rattle.worlds.proofs.world.regroup.Statement.{statement}
 use Rattle.worlds.proofs.world.regroup.Tie as tie
-use Rattle.worlds.proofs.world.regroup.Reads as reads
-use Rattle.worlds.proofs.world.regroup.Lts as lts
-use Rattle.records.proofs.sets.contains.Reads as contains-reads
-use Rattle.records.proofs.sets.minus.Reads as minus-reads
-use Rattle.worlds.proofs.over.low.Reads as low-reads
-use Rattle.worlds.proofs.over.others.Reads as others-reads
-use Rattle.worlds.proofs.over.whole.Reads as whole-reads
 
 abbrev Inv-loop : tie.InvT-loop
 Inv-loop blocks₀ persons target movers m₀ blocks m =
@@ -32,63 +25,48 @@ Inv-loop blocks₀ persons target movers m₀ blocks m =
 abbrev μ-loop : tie.MeasureT-loop
 μ-loop blocks₀ persons target movers m₀ blocks m = m
 
--- src/world.rt:28:5
 whole-requires : tie.Need-whole-requires Inv-loop μ-loop
 whole-requires c κs = tt
 
--- src/world.rt:30:5
 loop-holds : tie.Need-loop-holds Inv-loop μ-loop
 loop-holds c = (c .before .before .fits .persons .fits, c .whole .ensures, λ p. refl)
 
--- src/world.rt:31:13
 low-requires : tie.Need-low-requires Inv-loop μ-loop
 low-requires c κs = c .loop-test .taken
 
--- src/world.rt:32:29
 cast-contains : tie.Need-cast-contains Inv-loop μ-loop
 cast-contains c = omega (arith, c .low .ensures .1)
 
--- src/world.rt:32:12
 contains-requires : tie.Need-contains-requires Inv-loop μ-loop
 contains-requires c κs = tt
 
--- src/world.rt:33:13
 mul-blocks : tie.Need-mul-blocks Inv-loop μ-loop
 mul-blocks c = omega (arith, c .before .before .low .ensures .1)
 
--- src/world.rt:33:13
 element-write-blocks : tie.Need-element-write-blocks Inv-loop μ-loop
 element-write-blocks c = c .before .before .low .ensures .1
 
--- src/world.rt:35:31
 mul-minus : tie.Need-mul-minus Inv-loop μ-loop
 mul-minus c = omega (arith, c .before .before .low .ensures .1)
 
--- src/world.rt:35:31
 element-copy-out-minus : tie.Need-element-copy-out-minus Inv-loop μ-loop
 element-copy-out-minus c = c .before .before .low .ensures .1
 
--- src/world.rt:35:25
 minus-requires : tie.Need-minus-requires Inv-loop μ-loop
 minus-requires c κs = tt
 
--- src/world.rt:35:13
 mul-blocks-2 : tie.Need-mul-blocks-2 Inv-loop μ-loop
 mul-blocks-2 c = omega (arith, c .before .before .before .before .low .ensures .1)
 
--- src/world.rt:35:13
 element-write-blocks-2 : tie.Need-element-write-blocks-2 Inv-loop μ-loop
 element-write-blocks-2 c = c .before .before .before .before .low .ensures .1
 
--- src/world.rt:37:9
 others-requires : tie.Need-others-requires Inv-loop μ-loop
 others-requires c κs = c .before .before .before .loop-test .taken
 
--- src/world.rt:30:5
 loop-less : tie.Need-loop-less Inv-loop μ-loop
 loop-less c = c .others .ensures .1
 
--- src/world.rt:30:5
 -- after the branch the block of the lowest person left is the one asked for
 turned : (c : tie.Joined1 Inv-loop μ-loop) →
     let l = c .before .before .before .before in
