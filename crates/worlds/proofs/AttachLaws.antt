@@ -1,13 +1,13 @@
 -- Step 7 as the code goes: which attachments are not skipped, whom they move, and the blocks that are left.
 use mathlib.Core.Path.{_≡_, refl, sym, ap, ap₂, _∙_, subst}
-use mathlib.Core.Bool.{Bool, true, false, not, cond, _&&_, _||_, and-true, and-false, or-true, or-false, true≢false, false≢true}
-use mathlib.Core.Logic.{_⊎_, inl, inr, ⊎-elim}
+use mathlib.Core.Bool.{Bool, true, false, not, cond, _&&_, _||_, and-true, and-false, or-true, or-false, true≢false}
+use mathlib.Core.Logic.{⊎-elim}
 use mathlib.Core.List.{List, [], _∷_}
 use Prim.Native.Nat.{ℕ, zero, suc, _+_, _/_, _%_, _^_, _≤_, _<_, zero-le}
 use native.Mathlib.Nat.{not-suc-le-zero, le-of-suc-le-suc, add-zero, zero-add}
 use native.Mathlib.Omega.{arith}
 use lib.Arith.{lt-one}
-use lib.ListN.{length, getD, set}
+use lib.ListN.{length, set}
 use lib.Seq.{getD-set-same, getD-set-other}
 use lib.Dec.{eqb, ltb}
 use borrow.Author.Tests.{eqb-true, eqb-false, eq-eqb, ne-eqb, lt-ltb, le-ltb}
@@ -67,10 +67,6 @@ change-at g twice m r t v table h l k i = pick (eqb t i) refl
         ap (λ (x : ℕ). cond (has r i) (g i x) x) (subst (λ (j : ℕ). entry (set table t v) j ≡ g j (entry table j)) (eqb-true t i e) (getD-set-same table t v 0 l ∙ k))
         ∙ once (has r i) (entry table i) ∙ sym (left true e)
     pick false e = ap (λ (x : ℕ). cond (has r i) (g i x) x) (getD-set-other table t i v 0 (λ z. eqb-false t i e (sym z))) ∙ sym (left false e)
-
--- nothing is left
-pub change-done : (g : ℕ → ℕ → ℕ) (m i : ℕ) (table : List ℕ) → m ≡ 0 → cond (has m i) (g i (entry table i)) (entry table i) ≡ entry table i
-change-done g m i table e = ap (λ (b : Bool). cond b (g i (entry table i)) (entry table i)) (ap (λ (x : ℕ). has x i) e ∙ has-none i)
 
 -- ---- the movers come into the anchor's block
 
@@ -284,8 +280,8 @@ all-true [] = refl
 all-true (x ∷ xs) = all-true xs
 
 module _ (P : Plan) (roster : ℕ) (named : subset (rulePersons P) roster ≡ true) (fits : roster < 2 ^ 64) (a : Active) (m : Marks) where
-  abbrev live : ℕ
-  live = minus roster (marked m)
+  abbrev unmarked : ℕ
+  unmarked = minus roster (marked m)
 
   abbrev step : ℕ → State → State
   step = attach P (marked m) a
@@ -294,33 +290,40 @@ module _ (P : Plan) (roster : ℕ) (named : subset (rulePersons P) roster ≡ tr
   pub fold-moved : (n : ℕ) (s : State) → Blocks (minus roster (marked m)) s → (i : ℕ)
       → has (foldBelow n (attach P (marked m) a) s .moved) i ≡ (has (s .moved) i || (ltb i n && goes P (minus roster (marked m)) a i))
   unfolding foldBelow move
-  fold-moved zero s B i = sym (ap (λ (b : Bool). has (s .moved) i || (b && goes P live a i)) (le-ltb i 0 zero-le) ∙ or-false (has (s .moved) i))
+  fold-moved zero s B i = sym (ap (λ (b : Bool). has (s .moved) i || (b && goes P unmarked a i)) (le-ltb i 0 zero-le) ∙ or-false (has (s .moved) i))
   fold-moved (suc n) s B i =
-      ap (λ (u : State). has (u .moved) i) (attach-goes P live (marked m) a n t (fold-keeps (Blocks live) step (attach-blocks P roster named fits a m) n s B))
-      ∙ by (goes P live a n) (fold-moved n s B i) ∙ one-more (has (s .moved) i) (ltb i n) (goes P live a i) (goes P live a n) (eqb n i) (λ e. ap (goes P live a) (sym (eqb-true n i e)))
-      ∙ ap (λ (b : Bool). has (s .moved) i || (b && goes P live a i)) (sym (ltb-suc i n))
+      ap (λ (u : State). has (u .moved) i) (attach-goes P unmarked (marked m) a n t (fold-keeps (Blocks unmarked) step (attach-blocks P roster named fits a m) n s B))
+      ∙ by (goes P unmarked a n) (fold-moved n s B i) ∙ one-more (has (s .moved) i) (ltb i n) (goes P unmarked a i) (goes P unmarked a n) (eqb n i) (λ e. ap (goes P unmarked a) (sym (eqb-true n i e)))
+      ∙ ap (λ (b : Bool). has (s .moved) i || (b && goes P unmarked a i)) (sym (ltb-suc i n))
     where
       t : State
       t = foldBelow n step s
 
-      by : (b : Bool) → has (t .moved) i ≡ (has (s .moved) i || (ltb i n && goes P live a i))
-          → has (cond b (moving P (marked m) n t) t .moved) i ≡ ((has (s .moved) i || (ltb i n && goes P live a i)) || (b && eqb n i))
+      by : (b : Bool) → has (t .moved) i ≡ (has (s .moved) i || (ltb i n && goes P unmarked a i))
+          → has (cond b (moving P (marked m) n t) t .moved) i ≡ ((has (s .moved) i || (ltb i n && goes P unmarked a i)) || (b && eqb n i))
       by true before = has-union (t .moved) (one n) i ∙ ap₂ _||_ before (has-one n i)
-      by false before = before ∙ sym (or-false (has (s .moved) i || (ltb i n && goes P live a i)))
+      by false before = before ∙ sym (or-false (has (s .moved) i || (ltb i n && goes P unmarked a i)))
 
   -- whom a run over attachments that are not skipped attaches
-  over-attached : (xs : List ℕ) (s : State) → Blocks live s → allOf (goes P live a) xs ≡ true
+  over-attached : (xs : List ℕ) (s : State) → Blocks unmarked s → allOf (goes P unmarked a) xs ≡ true
       → over step xs s .attached ≡ union (s .attached) (unionOf (moversOf P (marked m)) xs)
   unfolding over unionOf allOf move
   over-attached [] s B all = sym (union-none (s .attached))
   over-attached (x ∷ xs) s B all =
-      let both = and-parts (goes P live a x) (allOf (goes P live a) xs) all in
+      let both = and-parts (goes P unmarked a x) (allOf (goes P unmarked a) xs) all in
       let now : attach P (marked m) a x s ≡ moving P (marked m) x s =
-      attach-goes P live (marked m) a x s B ∙ ap (λ (b : Bool). cond b (moving P (marked m) x s) s) (both .0) in
+      attach-goes P unmarked (marked m) a x s B ∙ ap (λ (b : Bool). cond b (moving P (marked m) x s) s) (both .0) in
       over-attached xs (step x s) (attach-blocks P roster named fits a m x s B) (both .1)
       ∙ ap (λ (u : State). union (u .attached) (unionOf (moversOf P (marked m)) xs)) now ∙ union-go (moversOf P (marked m)) (s .attached) x xs
 
 -- ---- the world's attachments
+
+-- the marked persons of a world, and those of the roster that are not
+abbrev pub marksIn : Plan → ℕ → Influence → Active → ℕ
+marksIn P roster I a = marked (worldOf P roster I a .marks)
+
+abbrev pub liveIn : Plan → ℕ → Influence → Active → ℕ
+liveIn P roster I a = minus roster (marksIn P roster I a)
 
 -- one person meets a set
 pub one-meets : (x b : ℕ) → meets (one x) b ≡ has b x
@@ -334,15 +337,15 @@ one-meets x b = pick (has b x) refl
 module _ (P : Plan) (I : Influence) (k : Common) (t : List (List ℕ)) (a : Active) (S : Stands P I k t)
     (below : (i : ℕ) → on (a .attachments) i ≡ true → i < attachmentCount P) where
   abbrev marks : ℕ
-  marks = marked (worldOf P (k .roster) I a .marks)
+  marks = marksIn P (k .roster) I a
 
   abbrev placed : ℕ
-  placed = minus (k .roster) (marked (worldOf P (k .roster) I a .marks))
+  placed = liveIn P (k .roster) I a
 
   abbrev start : State
   start = startOf P (k .roster) I a
 
-  pub start-blocks : Blocks (minus (k .roster) (marked (worldOf P (k .roster) I a .marks))) (startOf P (k .roster) I a)
+  pub start-blocks : Blocks (liveIn P (k .roster) I a) (startOf P (k .roster) I a)
   unfolding worldOf afterMarks startOf
   start-blocks = first-blocks P (k .roster) marks a (keptCuts P a) (S .roster) (cut-on P (k .roster) (S .named))
 
@@ -362,7 +365,7 @@ module _ (P : Plan) (I : Influence) (k : Common) (t : List (List ℕ)) (a : Acti
   goes-below i e = below i (and-parts (on (a .attachments) i) (has placed (attachment P i .anchor)) e .0)
 
   -- WHICH ATTACHMENTS ARE NOT SKIPPED: the active ones whose anchor is on the roster and not marked
-  pub moved-is : (i : ℕ) → has (worldOf P (k .roster) I a .state .moved) i ≡ goes P (minus (k .roster) (marked (worldOf P (k .roster) I a .marks))) a i
+  pub moved-is : (i : ℕ) → has (worldOf P (k .roster) I a .state .moved) i ≡ goes P (liveIn P (k .roster) I a) a i
   moved-is i =
       ap (λ (s : State). has (s .moved) i) state-is
       ∙ fold-moved P (k .roster) (S .named) (S .roster) a (worldOf P (k .roster) I a .marks) (attachmentCount P) start start-blocks i
@@ -374,11 +377,11 @@ module _ (P : Plan) (I : Influence) (k : Common) (t : List (List ℕ)) (a : Acti
       pick false e = ap (λ (b : Bool). ltb i (attachmentCount P) && b) e ∙ and-false (ltb i (attachmentCount P)) ∙ sym e
 
   module _ (moved : ℕ) (fits : moved < 2 ^ 64) (is : moved ≡ worldOf P (k .roster) I a .state .moved) where
-    pub moved-goes : (i : ℕ) → has moved i ≡ goes P (minus (k .roster) (marked (worldOf P (k .roster) I a .marks))) a i
+    pub moved-goes : (i : ℕ) → has moved i ≡ goes P (liveIn P (k .roster) I a) a i
     moved-goes i = ap (λ (x : ℕ). has x i) is ∙ moved-is i
 
     -- THE STATE is what these attachments make of the start, one after another
-    pub state-run : worldOf P (k .roster) I a .state ≡ over (attach P (marked (worldOf P (k .roster) I a .marks)) a) (members moved) (startOf P (k .roster) I a)
+    pub state-run : worldOf P (k .roster) I a .state ≡ over (attach P (marksIn P (k .roster) I a) a) (members moved) (startOf P (k .roster) I a)
     state-run =
         state-is
         ∙ run-over (Blocks placed) (attach P marks a) (attach-blocks P (k .roster) (S .named) (S .roster) a (worldOf P (k .roster) I a .marks)) (attachmentCount P) moved fits
@@ -386,7 +389,7 @@ module _ (P : Plan) (I : Influence) (k : Common) (t : List (List ℕ)) (a : Acti
         (λ j e s B. attach-goes P placed marks a j s B ∙ ap (λ (b : Bool). cond b (moving P marks j s) s) (sym (moved-goes j) ∙ e)) start start-blocks
 
     -- WHO IS ATTACHED
-    pub attached-is : worldOf P (k .roster) I a .state .attached ≡ minus (unionOf (λ i. attachment P i .members) (members moved)) (marked (worldOf P (k .roster) I a .marks))
+    pub attached-is : worldOf P (k .roster) I a .state .attached ≡ minus (unionOf (λ i. attachment P i .members) (members moved)) (marksIn P (k .roster) I a)
     attached-is =
         ap (λ (s : State). s .attached) state-run
         ∙ over-attached P (k .roster) (S .named) (S .roster) a (worldOf P (k .roster) I a .marks) (members moved) start start-blocks
@@ -395,26 +398,36 @@ module _ (P : Plan) (I : Influence) (k : Common) (t : List (List ℕ)) (a : Acti
         ∙ union-minus (λ i. attachment P i .members) marks (members moved)
 
     -- the same by the row of the movers
-    pub attached-rows : minus (unionOf (row t 11) (members moved)) (marked (worldOf P (k .roster) I a .marks)) ≡ worldOf P (k .roster) I a .state .attached
+    pub attached-rows : minus (unionOf (row t 11) (members moved)) (marksIn P (k .roster) I a) ≡ worldOf P (k .roster) I a .state .attached
     attached-rows =
         ap (λ (x : ℕ). minus x marks) (union-same (row t 11) (λ i. attachment P i .members) moved fits (λ i e. S .movers i (goes-below i (sym (moved-goes i) ∙ e))))
         ∙ sym attached-is
 
 -- the set that goes by the rows of the anchors is the one of the world
 pub moved-rows : (P : Plan) (I : Influence) (k : Common) (t : List (List ℕ)) (a : Active) (f : masks.Active) → Stands P I k t → Tells P a f → (moved : ℕ)
-    → ((i : ℕ) → has moved i ≡ (has (f .attachments) i && meets (row t 12 i) (minus (k .roster) (marked (worldOf P (k .roster) I a .marks)))))
+    → ((i : ℕ) → has moved i ≡ (has (f .attachments) i && meets (row t 12 i) (liveIn P (k .roster) I a)))
     → moved ≡ worldOf P (k .roster) I a .state .moved
 moved-rows P I k t a f S T moved e = ext moved (worldOf P (k .roster) I a .state .moved) (λ i.
     e i ∙ ap (λ (b : Bool). b && meets (row t 12 i) live) (T .attachments i) ∙ pick i (on (a .attachments) i) refl ∙ sym (moved-is P I k t a S (T .attachmentsBelow) i))
   where
     live : ℕ
-    live = minus (k .roster) (marked (worldOf P (k .roster) I a .marks))
+    live = liveIn P (k .roster) I a
 
     pick : (i : ℕ) (b : Bool) → on (a .attachments) i ≡ b → (on (a .attachments) i && meets (row t 12 i) live) ≡ goes P live a i
     pick i true e =
         ap (λ (b : Bool). on (a .attachments) i && b)
         (ap (λ (x : ℕ). meets x live) (S .anchors i (T .attachmentsBelow i e)) ∙ one-meets (attachment P i .anchor) live)
     pick i false e = ap (λ (b : Bool). b && meets (row t 12 i) live) e ∙ sym (ap (λ (b : Bool). b && has live (attachment P i .anchor)) e)
+
+-- both from what the code settles: the marks, and the set by the rows
+module _ (P : Plan) (I : Influence) (k : Common) (t : List (List ℕ)) (a : Active) (f : masks.Active) (S : Stands P I k t) (T : Tells P a f) (marked-by moved : ℕ)
+    (same : marked-by ≡ marksIn P (k .roster) I a)
+    (met : (i : ℕ) → has moved i ≡ (has (f .attachments) i && meets (row t 12 i) (minus (k .roster) marked-by))) where
+  pub settled-moved : moved ≡ worldOf P (k .roster) I a .state .moved
+  settled-moved = moved-rows P I k t a f S T moved (λ i. met i ∙ ap (λ (x : ℕ). has (f .attachments) i && meets (row t 12 i) (minus (k .roster) x)) same)
+
+  pub settled-attached : moved < 2 ^ 64 → minus (unionOf (row t 11) (members moved)) marked-by ≡ worldOf P (k .roster) I a .state .attached
+  settled-attached fits = ap (minus (unionOf (row t 11) (members moved))) same ∙ attached-rows P I k t a S (T .attachmentsBelow) moved fits settled-moved
 
 -- ---- a loop over them
 
@@ -434,16 +447,16 @@ pub record Attaching (P : Plan) (I : Influence) (k : Common) (a : Active) (t : L
   pub stands : Stands P I k t
   pub is : moved ≡ worldOf P (k .roster) I a .state .moved
   pub below : (i : ℕ) → on (a .attachments) i ≡ true → i < attachmentCount P
-  pub unmarked : placed ≡ minus (k .roster) (marked (worldOf P (k .roster) I a .marks))
+  pub unmarked : placed ≡ liveIn P (k .roster) I a
   pub begun : (p : ℕ) → entry first p ≡ blockOf (startOf P (k .roster) I a) p
 
 -- the blocks are those of a state from which the attachments left, m, lead to the world's
 pub record Reached (P : Plan) (I : Influence) (k : Common) (a : Active) (moved m : ℕ) (blocks : List ℕ) : Type 0 where
   pub state : State
-  pub parts : Blocks (minus (k .roster) (marked (worldOf P (k .roster) I a .marks))) state
+  pub parts : Blocks (liveIn P (k .roster) I a) state
   pub entries : (p : ℕ) → entry blocks p ≡ blockOf state p
   pub inside : Within m moved
-  pub left : over (attach P (marked (worldOf P (k .roster) I a .marks)) a) (members m) state ≡ worldOf P (k .roster) I a .state
+  pub left : over (attach P (marksIn P (k .roster) I a) a) (members m) state ≡ worldOf P (k .roster) I a .state
 
 -- one person of a set
 pub meet-one : (x b : ℕ) → has b x ≡ true → meet (one x) b ≡ one x
@@ -460,11 +473,11 @@ lowest-one x l = sym (eqb-true x (lowest (one x)) (sym (has-one x (lowest (one x
 
 module _ (P : Plan) (I : Influence) (k : Common) (a : Active) (t : List (List ℕ)) (moved placed : ℕ) (first : List ℕ) (fits : moved < 2 ^ 64)
     (T : Attaching P I k a t moved placed first) where
-  abbrev marksOf : ℕ
-  marksOf = marked (worldOf P (k .roster) I a .marks)
+  abbrev unplaced : ℕ
+  unplaced = marksIn P (k .roster) I a
 
-  abbrev live2 : ℕ
-  live2 = minus (k .roster) (marked (worldOf P (k .roster) I a .marks))
+  abbrev live : ℕ
+  live = liveIn P (k .roster) I a
 
   pub reached-start : Reached P I k a moved moved first
   reached-start = record {
@@ -476,17 +489,17 @@ module _ (P : Plan) (I : Influence) (k : Common) (a : Active) (t : List (List �
   }
 
   pub reached-end : (m : ℕ) (blocks : List ℕ) → m ≡ 0 → Reached P I k a moved m blocks → (p : ℕ) → entry blocks p ≡ blockOf (worldOf P (k .roster) I a .state) p
-  reached-end m blocks e R p = R .entries p ∙ ap (λ (s : State). blockOf s p) (sym (over-none (attach P marksOf a) (members m) (R .state) (members-none m e)) ∙ R .left)
+  reached-end m blocks e R p = R .entries p ∙ ap (λ (s : State). blockOf s p) (sym (over-none (attach P unplaced a) (members m) (R .state) (members-none m e)) ∙ R .left)
 
   module _ (m i : ℕ) (blocks : List ℕ) (R : Reached P I k a moved m blocks) (here : has m i ≡ true) where
-    goes-here : (on (a .attachments) i ≡ true) × (has live2 (attachment P i .anchor) ≡ true)
+    goes-here : (on (a .attachments) i ≡ true) × (has live (attachment P i .anchor) ≡ true)
     goes-here =
-        and-parts (on (a .attachments) i) (has live2 (attachment P i .anchor))
+        and-parts (on (a .attachments) i) (has live (attachment P i .anchor))
         (sym (moved-goes P I k t a (T .stands) (T .below) moved fits (T .is) i) ∙ R .inside .at i here)
 
     anchor-is : meet (row t 12 i) placed ≡ one (attachment P i .anchor)
     anchor-is =
-        ap₂ meet (T .stands .anchors i (T .below i (goes-here .0))) (T .unmarked) ∙ meet-one (attachment P i .anchor) live2 (goes-here .1)
+        ap₂ meet (T .stands .anchors i (T .below i (goes-here .0))) (T .unmarked) ∙ meet-one (attachment P i .anchor) live (goes-here .1)
 
     -- the anchor is placed
     pub anchor-some : meet (row t 12 i) placed ≡ 0 → ⊥
@@ -497,36 +510,36 @@ module _ (P : Plan) (I : Influence) (k : Common) (a : Active) (t : List (List �
         (λ l. absurd (true≢false (sym (goes-here .1) ∙ live-below P (k .roster) (T .stands .named) (T .stands .roster) a (worldOf P (k .roster) I a .marks) (attachment P i .anchor) l)))
         (lt-or-le (attachment P i .anchor) 64))
 
-    movers-in : Within (moversOf P marksOf i) live2
+    movers-in : Within (moversOf P unplaced i) live
     movers-in = movers-live P (k .roster) (T .stands .named) (T .stands .roster) a (worldOf P (k .roster) I a .marks) i
 
-    movers-is : meet (row t 11 i) placed ≡ moversOf P marksOf i
+    movers-is : meet (row t 11 i) placed ≡ moversOf P unplaced i
     movers-is =
         ap₂ meet (T .stands .movers i (T .below i (goes-here .0))) (T .unmarked)
-        ∙ antisym (meet (attachment P i .members) live2) (moversOf P marksOf i)
+        ∙ antisym (meet (attachment P i .members) live) (moversOf P unplaced i)
         (record {
           at = λ q h.
-              let b = of-meet (attachment P i .members) live2 q h in
-              in-minus (attachment P i .members) marksOf q (b .0) (of-minus (k .roster) marksOf q (b .1) .1);
+              let b = of-meet (attachment P i .members) live q h in
+              in-minus (attachment P i .members) unplaced q (b .0) (of-minus (k .roster) unplaced q (b .1) .1);
         })
-        (record { at = λ q h. in-meet (attachment P i .members) live2 q (of-minus (attachment P i .members) marksOf q h .0) (movers-in .at q h) })
+        (record { at = λ q h. in-meet (attachment P i .members) live q (of-minus (attachment P i .members) unplaced q h .0) (movers-in .at q h) })
 
     -- ONE ATTACHMENT, lowest first
     pub reached-next : (r x : ℕ) (after : List ℕ) → Within r m → members m ≡ i ∷ members r → x ≡ lowest (meet (row t 12 i) placed)
         → MovedTo (entry blocks x) (meet (row t 11 i) placed) blocks after → Reached P I k a moved r after
     reached-next r x after less e at M = record {
-      state = attach P marksOf a i (R .state);
+      state = attach P unplaced a i (R .state);
       parts = attach-blocks P (k .roster) (T .stands .named) (T .stands .roster) a (worldOf P (k .roster) I a .marks) i (R .state) (R .parts);
-      entries = λ p. M .at live2 x (parted live2 (R .state) blocks (R .parts) (R .entries)) refl inside p ∙ said p ∙ sym (then p);
+      entries = λ p. M .at live x (parted live (R .state) blocks (R .parts) (R .entries)) refl inside p ∙ said p ∙ sym (then p);
       inside = thru less (R .inside);
-      left = sym (over-first (attach P marksOf a) (members m) i (members r) (R .state) e) ∙ R .left;
+      left = sym (over-first (attach P unplaced a) (members m) i (members r) (R .state) e) ∙ R .left;
     }
       where
         s : State
         s = R .state
 
-        inside : subset (meet (row t 11 i) placed) live2 ≡ true
-        inside = ap (λ (y : ℕ). subset y live2) movers-is ∙ within-subset (moversOf P marksOf i) live2 movers-in
+        inside : subset (meet (row t 11 i) placed) live ≡ true
+        inside = ap (λ (y : ℕ). subset y live) movers-is ∙ within-subset (moversOf P unplaced i) live movers-in
 
         block : entry blocks x ≡ blockOf s (attachment P i .anchor)
         block = R .entries x ∙ ap (blockOf s) (at ∙ anchor-low)
@@ -535,13 +548,13 @@ module _ (P : Plan) (I : Influence) (k : Common) (a : Active) (t : List (List �
         made : ℕ → ℕ → ℕ → ℕ → ℕ
         made b y old p = cond (has (union b y) p) (union b y) (minus old y)
 
-        said : (p : ℕ) → made (entry blocks x) (meet (row t 11 i) placed) (entry blocks p) p ≡ made (blockOf s (attachment P i .anchor)) (moversOf P marksOf i) (blockOf s p) p
+        said : (p : ℕ) → made (entry blocks x) (meet (row t 11 i) placed) (entry blocks p) p ≡ made (blockOf s (attachment P i .anchor)) (moversOf P unplaced i) (blockOf s p) p
         said p = ap₂ (λ (b y : ℕ). made b y (entry blocks p) p) block movers-is
-            ∙ ap (λ (old : ℕ). made (blockOf s (attachment P i .anchor)) (moversOf P marksOf i) old p) (R .entries p)
+            ∙ ap (λ (old : ℕ). made (blockOf s (attachment P i .anchor)) (moversOf P unplaced i) old p) (R .entries p)
 
-        then : (p : ℕ) → blockOf (attach P marksOf a i s) p ≡ made (blockOf s (attachment P i .anchor)) (moversOf P marksOf i) (blockOf s p) p
+        then : (p : ℕ) → blockOf (attach P unplaced a i s) p ≡ made (blockOf s (attachment P i .anchor)) (moversOf P unplaced i) (blockOf s p) p
         then p =
             ap (λ (u : State). blockOf u p)
-            (attach-goes P live2 marksOf a i s (R .parts) ∙ ap (λ (b : Bool). cond b (moving P marksOf i s) s) (ap₂ _&&_ (goes-here .0) (goes-here .1)))
-            ∙ moved-block live2 (live-below P (k .roster) (T .stands .named) (T .stands .roster) a (worldOf P (k .roster) I a .marks)) i (attachment P i .anchor) (moversOf P marksOf i)
+            (attach-goes P live unplaced a i s (R .parts) ∙ ap (λ (b : Bool). cond b (moving P unplaced i s) s) (ap₂ _&&_ (goes-here .0) (goes-here .1)))
+            ∙ moved-block live (live-below P (k .roster) (T .stands .named) (T .stands .roster) a (worldOf P (k .roster) I a .marks)) i (attachment P i .anchor) (moversOf P unplaced i)
             movers-in s (R .parts) p

@@ -3,9 +3,9 @@ use mathlib.Core.Path.{_≡_, refl, sym, ap, _∙_}
 use mathlib.Core.Bool.{Bool, true, false, _&&_, not, cond, true≢false}
 use mathlib.Core.Logic.{_⊎_, inl, inr, ⊎-elim}
 use Prim.Native.Nat.{ℕ, _≤_, _<_, _^_}
-use lib.ListN.{getD, List·getD-eq-default}
+use lib.ListN.{List·getD-eq-default}
 use lib.Dec.{eqb}
-use Rattle.records.specs.Sets.{has, one, union, minus, disjoint, subset, below, unionBelow}
+use Rattle.records.specs.Sets.{has, one, union, minus, disjoint, subset, unionBelow}
 use Rattle.records.specs.Plan.{Plan, Cut, Attachment}
 use Rattle.records.proofs.SetLaws.{Within, has-none, has-high, thru, in-union-l, in-union-r, of-union, in-minus, of-minus, empty, subset-true, disjoint-false, lt-or-le}
 use Rattle.records.proofs.BelowLaws.{in-below, getD-below-all, fold-keeps}

@@ -1,18 +1,16 @@
 -- `world::regroup`: with the change made for the persons left, each block is the one asked for.
 use mathlib.Core.Path.{_≡_, refl, sym, ap, _∙_}
-use mathlib.Core.Bool.{Bool, _||_, cond}
+use mathlib.Core.Bool.{Bool, cond}
 use mathlib.Core.Logic.{⊎-elim}
+use mathlib.Core.List.{List}
 use Prim.Native.Nat.{ℕ, _<_, _^_}
 use native.Mathlib.Nat.{lt-trans}
 use native.Mathlib.Omega.{arith}
-use lib.Dec.{eqb}
-use mathlib.Core.List.{List}
 use lib.ListN.{length, set, length-set}
 use Rattle.records.specs.Sets.{has, minus}
 use Rattle.worlds.specs.Over.{entry}
-use Rattle.worlds.specs.Blocks.{Regrouped}
-use Rattle.worlds.proofs.OverLaws.{member-has}
-use Rattle.worlds.proofs.AttachLaws.{regrouped, regrouped-twice, change-at, change-done}
+use Rattle.worlds.proofs.OverLaws.{turn-has, change-end}
+use Rattle.worlds.proofs.AttachLaws.{regrouped, regrouped-twice, change-at}
 use Rattle.worlds.proofs.world.regroup.Statement.{statement}
 use Rattle.worlds.proofs.world.regroup.Tie as tie
 
@@ -91,7 +89,7 @@ loop-again c =
     let r = c .others .result in
     let w = turned (c .before) in
     let next = change-at (regrouped (a .target) (a .movers)) (regrouped-twice (a .target) (a .movers)) (l .loop .m) r t (w .0) (l .loop .blocks)
-    (λ j. member-has _ _ (l .loop .inv .0) (c .others .ensures .1) (c .others .ensures .0) j ∙ ap (λ (t : ℕ). eqb t j || has r j) (sym (lies .0)))
+    (turn-has _ _ _ (l .loop .inv .0) lies (c .others .ensures))
     (omega (arith, lies .1, l .loop .inv .1)) (w .2) in (
       lt-trans (c .others .ensures .1) (l .loop .inv .0),
       ap length (w .1) ∙ simp length-set (l .loop .inv .1),
@@ -102,7 +100,7 @@ returns : tie.Need-returns Inv-loop μ-loop
 returns c =
     let l = c .before in
     let a = l .before .before .before .args in
-    record { at = λ p. sym (change-done (regrouped (a .target) (a .movers)) (l .loop .m) p (l .loop .blocks) (c .loop-test .left)) ∙ l .loop .inv .2 p }
+    record { at = λ p. sym (change-end (regrouped (a .target) (a .movers) p) (l .loop .m) p (l .loop .blocks) (c .loop-test .left)) ∙ l .loop .inv .2 p }
 
 pub regroup-spec : {M : Type 1} → statement M
 regroup-spec =

@@ -1,17 +1,14 @@
 -- `world::World::attach`: the blocks are those of a state from which the attachments left lead to the world's.
 use mathlib.Core.Path.{_≡_, refl, sym, ap, _∙_, subst}
-use mathlib.Core.Bool.{Bool, _||_}
 use mathlib.Core.Logic.{⊎-elim}
 use mathlib.Core.List.{List}
 use Prim.Native.Nat.{ℕ, _<_, _^_}
 use native.Mathlib.Nat.{lt-trans}
 use native.Mathlib.Omega.{arith}
-use lib.Dec.{eqb}
-use Rattle.records.specs.Sets.{has, meet}
+use Rattle.records.specs.Sets.{meet}
 use Rattle.records.specs.Plan.{Plan}
 use Rattle.expressions.specs.Variables.{Influence}
 use Rattle.worlds.specs.Active.{Active}
-use Rattle.worlds.specs.Blocks.{Attached}
 use Rattle.worlds.specs.declared.tables.Common.{Common}
 use Rattle.worlds.specs.declared.world.World.{World}
 use Rattle.worlds.proofs.AttachLaws.{low-in, rest-in, listed-at, Attaching, Reached, reached-start, reached-next, reached-end, anchor-some}
