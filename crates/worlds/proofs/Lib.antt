@@ -16,3 +16,4 @@ pub mod CutsMade
 pub mod NoteLaws
 pub mod LooseLaws
 pub mod DiscretionLaws
+pub mod AttachLaws

@@ -6,6 +6,7 @@ use crate::over::low;
 use crate::over::mark;
 use crate::over::others;
 use crate::over::put;
+use crate::over::whole;
 use crate::tables::ANCHORS;
 use crate::tables::Active;
 use crate::tables::Common;
@@ -59,6 +60,7 @@ fn cut_blocks(blocks: &mut [u64; 64], members: &[u64; 64], applied: u64, placed:
 fn regroup(blocks: &mut [u64; 64], persons: u64, target: u64, movers: u64)
     ensures { λ r. ⌜ Regrouped persons target movers (now (blocks .entry)) (now (blocks .exit)) ⌝ }
 {
+    whole(*blocks);
     let mut m = persons;
     while m != 0 {
         let p = low(m);
