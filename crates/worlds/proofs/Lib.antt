@@ -1,3 +1,5 @@
+pub mod OverLaws
+pub mod ClassLaws
 pub mod MarkLaws
 pub mod CutsSeen
 pub mod MarksSeen
@@ -5,3 +7,5 @@ pub mod StateSeen
 pub mod ViewSeen
 pub mod FirstBlocks
 pub mod Partition
+pub mod CutBlocks
+pub mod PlaceLaws

@@ -16,7 +16,7 @@ use Rattle.worlds.specs.Active.{Active}
 use Rattle.worlds.specs.World.{State, Marks, marked, blockOf, keptCuts, firstState, move, attach, lastState, marksOf, afterMarks, worldOf}
 use Rattle.worlds.proofs.FirstBlocks.{Blocks, out-of-blocks, applied, first-blocks}
 
-not-set : (b : Bool) → (b ≡ true → ⊥) → b ≡ false
+pub not-set : (b : Bool) → (b ≡ true → ⊥) → b ≡ false
 not-set true h = absurd (h refl)
 not-set false h = refl
 
@@ -110,7 +110,7 @@ module _ (P : Plan) (roster : ℕ) (on-roster : subset (rulePersons P) roster �
   unfolding rulePersons edges cuts spans others
   persons = subset-true (rulePersons P) roster on-roster
 
-  cut-on : (c : ℕ) → Within (cut P c .members) roster
+  pub cut-on : (c : ℕ) → Within (cut P c .members) roster
   unfolding cuts cut
   cut-on c = ⊎-elim named past (lt-or-le c (cutCount P))
     where
