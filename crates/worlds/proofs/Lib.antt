@@ -9,3 +9,4 @@ pub mod FirstBlocks
 pub mod Partition
 pub mod CutBlocks
 pub mod PlaceLaws
+pub mod EvaluatedPartition
