@@ -12,15 +12,15 @@ use lib.ListN.{getD}
 use borrow.Author.Tests.{eqb-true, eq-eqb}
 use Rattle.records.specs.Sets.{has, one, union, meet, minus, only, subset, members, numbers, below, closeOf, allOf, anyOf, unionOf}
 use Rattle.records.specs.Plan.{Plan}
-use Rattle.records.proofs.SetLaws.{Within, has-none, has-union, has-meet, has-minus, antisym, in-meet, of-meet, in-minus, of-minus, subset-true, within-subset, and-parts}
+use Rattle.records.proofs.SetLaws.{Within, has-none, has-union, has-meet, has-minus, antisym, in-meet, of-meet, in-minus, of-minus, within-subset, and-parts}
 use Rattle.records.proofs.Closing.{Takes, Closed, close-same}
 use Rattle.records.proofs.BelowLaws.{of-only, closed-below}
-use Rattle.expressions.specs.Rules.{edgeCount, cutCount, cut, pair}
+use Rattle.expressions.specs.Rules.{edgeCount, cut, pair}
 use Rattle.expressions.specs.Nodes.{on}
 use Rattle.expressions.specs.Variables.{Influence}
 use Rattle.worlds.specs.Active.{Active}
 use Rattle.worlds.specs.World as paper
-use Rattle.worlds.specs.World.{blockOf, marked, marksOf, appliedTo, cutMembers, restSets, keptCuts, worldOf, afterMarks}
+use Rattle.worlds.specs.World.{blockOf, marked, marksOf, cutMembers, restSets, keptCuts, worldOf, afterMarks}
 use Rattle.worlds.specs.View.{View, roleOf, citations, view}
 use Rattle.worlds.specs.Over.{entry, Marked}
 use Rattle.worlds.specs.Classes.{ClassesBy, Joins, joinable}

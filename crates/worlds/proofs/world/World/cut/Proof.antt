@@ -1,7 +1,6 @@
 -- `World::cut`: marks of overlap and roles by what `mark` does, blocks by the laws of step 6.
-use mathlib.Core.Path.{_≡_, ap, _∙_}
+use mathlib.Core.Path.{ap, _∙_}
 use mathlib.Core.Bool.{cond}
-use Prim.Native.Nat.{ℕ}
 use borrow.Author.Needs.{needs}
 use Rattle.records.specs.Sets.{has, one}
 use Rattle.worlds.proofs.PlaceLaws.{first-placed}
@@ -9,25 +8,25 @@ use Rattle.worlds.proofs.world.World.cut.Statement.{statement}
 use Rattle.worlds.proofs.world.World.cut.Tie as tie
 
 mark-requires : tie.Need-mark-requires
-mark-requires c κs = search needs
+mark-requires c κs = tt
 
 mark-requires-2 : tie.Need-mark-requires-2
-mark-requires-2 c κs = search needs
+mark-requires-2 c κs = tt
 
 alone-requires : tie.Need-alone-requires
-alone-requires c κs = search needs
+alone-requires c κs = tt
 
 index-1-cut-blocks : tie.Need-index-1-cut-blocks
 index-1-cut-blocks c = search needs
 
 cut-blocks-requires : tie.Need-cut-blocks-requires
-cut-blocks-requires c κs = search needs
+cut-blocks-requires c κs = tt
 
 index-1-join-pairs : tie.Need-index-1-join-pairs
 index-1-join-pairs c = search needs
 
 join-pairs-requires : tie.Need-join-pairs-requires
-join-pairs-requires c κs = search needs
+join-pairs-requires c κs = tt
 
 returns : tie.Need-returns
 returns c =
