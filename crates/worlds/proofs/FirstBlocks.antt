@@ -128,7 +128,7 @@ module _ (P : Plan) (roster marks : ℕ) (a : Active) (kept : List Bool) (fits :
   first-by p l c x y =
       ap₂ (λ (u v : Bool). only u (cond v (minus (appliedTo P (applied P a kept) p) marks) (closeOf sets (one p)))) (sym (has-minus roster marks p) ∙ x) y
 
-  pub rest-closed : Closed sets rest
+  rest-closed : Closed sets rest
   unfolding restSets
   rest-closed = closed-below (edgeCount P) (λ i. only (on (a .frozen) i && subset (pair P i) rest) (pair P i)) rest (λ i p h k. record {
     at = λ q e.
