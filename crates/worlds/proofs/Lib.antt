@@ -1,4 +1,5 @@
 pub mod OverLaws
+pub mod ClassLaws
 pub mod MarkLaws
 pub mod CutsSeen
 pub mod MarksSeen
@@ -17,3 +18,6 @@ pub mod NoteLaws
 pub mod LooseLaws
 pub mod DiscretionLaws
 pub mod AttachLaws
+pub mod CutBlocks
+pub mod PlaceLaws
+pub mod EvaluatedPartition
