@@ -7,7 +7,6 @@ pub mod StateSeen
 pub mod ViewSeen
 pub mod FirstBlocks
 pub mod Partition
-pub mod ClassLaws
 pub mod SpreadLaws
 pub mod FindLaws
 pub mod CutLaws

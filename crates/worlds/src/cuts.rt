@@ -5,6 +5,8 @@ use crate::over::meeting;
 use crate::over::others;
 use crate::over::whole;
 use crate::tables::Active;
+use crate::tables::BLOCKINGS;
+use crate::tables::CLASHES;
 use crate::tables::CLASHING;
 use crate::tables::CROSSING;
 use crate::tables::DECIDED;
@@ -12,6 +14,7 @@ use crate::tables::DROPPERS;
 use crate::tables::EARLIER;
 use crate::tables::LOWER_TWINS;
 use crate::tables::MEMBERS;
+use crate::tables::Noted;
 use crate::tables::OPEN;
 use crate::tables::SAID;
 use crate::tables::SPREAD;
@@ -20,6 +23,8 @@ use crate::tables::Tables;
 use records::sets::minus;
 ghost use mathlib.Core.Path.{_≡_};
 ghost use Prim.Native.Nat.{ℕ, _<_};
+ghost use mathlib.Core.List.{[]};
+ghost use lib.ListN.{length, getD};
 ghost use mathlib.Core.Bool.{_&&_, not};
 ghost use Rattle.records.specs.Sets.{has, meet, union, minus as without, unionOf, meets, members};
 ghost use Rattle.worlds.specs.Tables.{row};
@@ -90,25 +95,33 @@ pub fn note_clashes(t: &Tables, cuts: u64, noted: &mut [u64; 64])
     }
 }
 
+// A reference to the notes does not tell the proof how long they are. The compiler drops the call with its copy.
+pub fn whole_notes(noted: Noted)
+    ensures { λ r. ⌜ length noted ≡ 3 ⌝ }
+{}
+
 pub struct CutsDone {
     pub overlap: u64,
     pub applied: u64,
 }
 
 // Steps 3 to 5: the applied cuts, and the marks of those that overlap; adds what blocks which cut, and which cuts overlap.
-pub fn settle_cuts(
-    t: &Tables,
-    active: Active,
-    blockings: &mut [u64; 64],
-    clashes: &mut [u64; 64],
-) -> CutsDone
-    ensures { λ r. ⌜ CutsSettled (now (t .entry)) active r (now (blockings .entry)) (now (blockings .exit)) (now (clashes .entry)) (now (clashes .exit)) ⌝ }
+pub fn settle_cuts(t: &Tables, active: Active, noted: &mut Noted) -> CutsDone
+    ensures cuts { λ r. ⌜ CutsSettled (now (t .entry)) active r (getD (now (noted .entry)) 1 []) (getD (now (noted .exit)) 1 []) (getD (now (noted .entry)) 2 []) (getD (now (noted .exit)) 2 []) ⌝ }
+    ensures parts { λ r. ⌜ getD (now (noted .exit)) 0 [] ≡ getD (now (noted .entry)) 0 [] ⌝ }
 {
+    whole_notes(*noted);
     let left = kept(t, active.cuts);
     let clash = overlapping(t, left);
-    note_clashes(t, lowest_twins(t, clash), clashes);
+    note_clashes(t, lowest_twins(t, clash), &mut noted[CLASHES]);
     let standing = minus(left, clash);
-    let out = blocked(t, standing, active.frozen, active.decisions, blockings);
+    let out = blocked(
+        t,
+        standing,
+        active.frozen,
+        active.decisions,
+        &mut noted[BLOCKINGS],
+    );
     let united = gather(&t[MEMBERS], clash);
     CutsDone {
         overlap: gather(&t[SPREAD], united),

@@ -1,5 +1,6 @@
 // What a world settles by sets of rules and persons, before anybody's block.
 use crate::cuts::settle_cuts;
+use crate::cuts::whole_notes;
 use crate::discretion::loose_parts;
 use crate::over::gather;
 use crate::over::meeting;
@@ -8,29 +9,28 @@ use crate::tables::Active;
 use crate::tables::BARS;
 use crate::tables::Common;
 use crate::tables::MOVERS;
+use crate::tables::Noted;
 use crate::tables::PAIRS;
+use crate::tables::PARTS;
 use crate::tables::SPREAD;
 use crate::tables::STATUSES;
 use crate::tables::Settled;
 use crate::tables::Tables;
 use records::sets::minus;
+ghost use mathlib.Core.List.{[]};
+ghost use lib.ListN.{getD};
 ghost use Rattle.worlds.specs.Settled.{Settles};
 
-// All that a world says by sets: marks, cuts, attachments, bars, statuses. `parts` takes the components at discretion at their lowest persons;
-// blockings and clashes are added to.
-pub fn settle(
-    t: &Tables,
-    common: Common,
-    active: Active,
-    parts: &mut [u64; 64],
-    blockings: &mut [u64; 64],
-    clashes: &mut [u64; 64],
-) -> Settled
-    ensures { λ r. ⌜ Settles (now (t .entry)) common active r (now (parts .exit)) (now (blockings .entry)) (now (blockings .exit)) (now (clashes .entry)) (now (clashes .exit)) ⌝ }
+// All that a world says by sets: marks, cuts, attachments, bars, statuses. The notes take its components at discretion, and what blocks and
+// clashes is added to them.
+pub fn settle(t: &Tables, common: Common, active: Active, noted: &mut Noted) -> Settled
+    ensures { λ r. ⌜ Settles (now (t .entry)) common active r (getD (now (noted .exit)) 0 []) (getD (now (noted .entry)) 1 []) (getD (now (noted .exit)) 1 []) (getD (now (noted .entry)) 2 []) (getD (now (noted .exit)) 2 []) ⌝ }
 {
-    let heads = loose_parts(&t[PAIRS], active.frozen & common.base, parts);
-    let discretion = gather(&t[SPREAD], gather(parts, heads));
-    let cuts = settle_cuts(t, active, blockings, clashes);
+    whole_notes(*noted);
+    let heads = loose_parts(&t[PAIRS], active.frozen & common.base, &mut noted[PARTS]);
+    let loose = gather(&noted[PARTS], heads);
+    let discretion = gather(&t[SPREAD], loose);
+    let cuts = settle_cuts(t, active, noted);
     let marks = discretion | cuts.overlap;
     let moved = meeting(&t[ANCHORS], active.attachments, minus(common.roster, marks));
     let attached = minus(gather(&t[MOVERS], moved), marks);

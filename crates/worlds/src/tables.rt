@@ -47,6 +47,16 @@ pub const BAR_CITATIONS: usize = 19;
 
 pub const STATUS_CITATIONS: usize = 20;
 
+// What worlds note beside: the components at discretion of the last one, at their lowest persons; at each cut the edges that ever blocked it, and
+// the cuts that it ever clashed with.
+pub type Noted = [[u64; 64]; 3];
+
+pub const PARTS: usize = 0;
+
+pub const BLOCKINGS: usize = 1;
+
+pub const CLASHES: usize = 2;
+
 // `base`: the Base edges that can mark discretion, none where there is a chain citation; the others: all rules of a kind.
 pub struct Common {
     pub roster: u64,
