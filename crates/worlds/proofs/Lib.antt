@@ -1,3 +1,5 @@
+pub mod OverLaws
+pub mod ValueLaws
 pub mod MarkLaws
 pub mod CutsSeen
 pub mod MarksSeen
