@@ -1,5 +1,6 @@
 pub mod OverLaws
 pub mod ValueLaws
+pub mod ActiveLaws
 pub mod MarkLaws
 pub mod CutsSeen
 pub mod MarksSeen
