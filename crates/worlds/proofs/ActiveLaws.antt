@@ -1,5 +1,5 @@
 -- Activity of rules from the values of nodes, and what of it is the same in two worlds.
-use mathlib.Core.Path.{_≡_, refl, sym, ap, ap₂, _∙_, subst}
+use mathlib.Core.Path.{_≡_, refl, sym, ap, ap₂, _∙_}
 use mathlib.Core.Bool.{Bool, true, false, _&&_, _||_, not, and-assoc, and-true, and-false, or-false, false≢true}
 use mathlib.Core.Logic.{⊎-elim}
 use mathlib.Core.List.{List, []}
@@ -9,7 +9,7 @@ use lib.ListN.{length, getD, take}
 use lib.Seq.{getD-take, length-take-le}
 use lib.Dec.{ltb}
 use borrow.Author.Tests.{ltb-true, lt-ltb}
-use Rattle.records.specs.Sets.{has, union, minus, meets, disjoint, below, anyOf, unionOf}
+use Rattle.records.specs.Sets.{has, union, minus, meets, below, anyOf}
 use Rattle.records.specs.Plan.{Plan}
 use Rattle.records.specs.Sound.{All, Sound, SoundNodes, SoundEdge, SoundCut, SoundAttachment, SoundBar, SoundStatus}
 use Rattle.records.proofs.SetLaws.{has-union, has-minus, has-none, lt-or-le, meeting}
@@ -26,7 +26,7 @@ use Rattle.worlds.specs.Active.{active, flags}
 use Rattle.worlds.specs.Over.{entry}
 use Rattle.worlds.specs.Tables.{row, Tells}
 use Rattle.worlds.specs.Valued.{NodesStand, OpenNodes, Valued, Revalued}
-use Rattle.worlds.specs.Conditions.{Conditioned, Split, Known, ActiveBy}
+use Rattle.worlds.specs.Conditions.{Split, Known, ActiveBy}
 use Rattle.worlds.specs.declared.tables.Active.{Active}
 use Rattle.worlds.proofs.ValueLaws.{any-near}
 use Rattle.worlds.proofs.CutsSeen.{freezes-follow}
@@ -43,13 +43,14 @@ split-tells n f g known asked holding s h e i = has-union known holding i ∙ ap
         ap₂ (λ (x y : Bool). x || (y && g i)) (o .0) a ∙ e i (o .1) ∙ sym (getD-below n f false i (o .1))
     pick false a = ap (λ (y : Bool). has known i || (y && g i)) a ∙ or-false (has known i) ∙ s .rest i a
 
-module _ (P : Plan) (sound : Sound P) (facts : ℕ) (vs : List Bool) (hold : Valued P facts vs) where
+module _ (P : Plan) (facts : ℕ) (vs : List Bool) (hold : Valued P facts vs) where
   here : (row node : ℕ) → row ≡ node → node < length (P .nodes) → on vs row ≡ on (values P facts) node
   here row node e l = ap (on vs) e ∙ hold .at node l
 
   against : (row is : List ℕ) → row ≡ is → All (λ i. i < length (P .nodes)) is → anyOf (on vs) row ≡ anyOf (on (values P facts)) is
   against row is e a = ap (anyOf (on vs)) e ∙ any-near (on vs) (on (values P facts)) (length (P .nodes)) (hold .at) is a
 
+module _ (P : Plan) (sound : Sound P) where
   edge-sound : (i : ℕ) → i < edgeCount P → SoundEdge P (edge P i)
   unfolding edge
   edge-sound i l = all-at (SoundEdge P) (P .edges) _ i (sound .edges) l
@@ -94,16 +95,16 @@ module _ (conditions defeaters : List (List ℕ)) (known asked : Active) (decisi
       frozen = split-tells (edgeCount P) _ (λ i. on vs (row conditions 0 i) && not (anyOf (on vs) (take (row conditions 5 i) (getD defeaters i []))))
           (known .frozen) (asked .frozen) frozen (K .edges)
           (λ i. hf i ∙ ap (λ (b : Bool). b && not (anyOf (on vs) (take (row conditions 5 i) (getD defeaters i [])))) (he .at i) ∙ and-assoc (has (asked .frozen) i) _ _)
-          (λ i l. ap₂ (λ (x y : Bool). x && not y) (here P sound (v .facts) vs hold _ _ (C .edges i l) (edge-sound P sound (v .facts) vs hold i l .condition))
-          (against P sound (v .facts) vs hold _ _ (C .against i l) (edge-sound P sound (v .facts) vs hold i l .defeaters .1)));
+          (λ i l. ap₂ (λ (x y : Bool). x && not y) (here P (v .facts) vs hold _ _ (C .edges i l) (edge-sound P sound i l .condition))
+          (against P (v .facts) vs hold _ _ (C .against i l) (edge-sound P sound i l .defeaters .1)));
       cuts = split-tells (cutCount P) _ _ (known .cuts) (asked .cuts) cuts (K .cuts) (hc .at)
-          (λ i l. here P sound (v .facts) vs hold _ _ (C .cuts i l) (cut-sound P sound (v .facts) vs hold i l .condition));
+          (λ i l. here P (v .facts) vs hold _ _ (C .cuts i l) (cut-sound P sound i l .condition));
       attachments = split-tells (attachmentCount P) _ _ (known .attachments) (asked .attachments) attachments (K .attachments) (ha .at)
-          (λ i l. here P sound (v .facts) vs hold _ _ (C .attachments i l) (attachment-sound P sound (v .facts) vs hold i l .condition));
+          (λ i l. here P (v .facts) vs hold _ _ (C .attachments i l) (attachment-sound P sound i l .condition));
       bars = split-tells (barCount P) _ _ (known .bars) (asked .bars) bars (K .bars) (hb .at)
-          (λ i l. here P sound (v .facts) vs hold _ _ (C .bars i l) (bar-sound P sound (v .facts) vs hold i l .condition));
+          (λ i l. here P (v .facts) vs hold _ _ (C .bars i l) (bar-sound P sound i l .condition));
       statuses = split-tells (statusCount P) _ _ (known .statuses) (asked .statuses) statuses (K .statuses) (ht .at)
-          (λ i l. here P sound (v .facts) vs hold _ _ (C .statuses i l) (status-sound P sound (v .facts) vs hold i l .condition));
+          (λ i l. here P (v .facts) vs hold _ _ (C .statuses i l) (status-sound P sound i l .condition));
       decisions = sym d;
       edgesBelow = λ i e. flag-set (edgeCount P) _ i e .0;
       cutsBelow = λ i e. flag-set (cutCount P) _ i e .0;
