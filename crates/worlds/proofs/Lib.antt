@@ -1,5 +1,7 @@
 pub mod OverLaws
 pub mod ClassLaws
+pub mod ValueLaws
+pub mod ActiveLaws
 pub mod MarkLaws
 pub mod CutsSeen
 pub mod MarksSeen

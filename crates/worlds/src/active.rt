@@ -59,7 +59,7 @@ pub fn undefeated(
     let mut m = edges;
     while m != 0 {
         let i = low(m);
-        if !any_holds(&defeaters[i], counts[i], values) {
+        if !any_holds(defeaters[i], counts[i], values) {
             found = found | bit(i as u8);
         }
         m = others(m);
