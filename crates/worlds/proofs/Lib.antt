@@ -7,3 +7,4 @@ pub mod ViewSeen
 pub mod FirstBlocks
 pub mod Partition
 pub mod ClassLaws
+pub mod LayLaws
