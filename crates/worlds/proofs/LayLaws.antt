@@ -1,21 +1,27 @@
 -- One entry laid into the tables of a case, and what a loop that lays entry after entry has laid.
 use mathlib.Core.Path.{_≡_, refl, sym, ap, ap₂, _∙_, subst}
-use mathlib.Core.Bool.{Bool, true, false, _&&_, _||_, cond, and-false, true≢false}
+use mathlib.Core.Bool.{Bool, true, false, _&&_, _||_, cond, and-false, or-false, or-true, true≢false}
 use mathlib.Core.List.{List, [], _∷_}
 use mathlib.Core.Logic.{⊎-elim}
 use Prim.Native.Nat.{ℕ, zero, suc, _+_, _≤_, _<_}
 use native.Mathlib.Nat.{le-of-suc-le-suc}
+use native.Mathlib.Numerals.{add-one}
 use native.Mathlib.Omega.{arith}
 use lib.ListN.{length, getD, set}
 use lib.Seq.{getD-set-same, getD-set-other}
 use lib.Dec.{eqb, ltb}
 use borrow.Author.Count.{below-more}
-use borrow.Author.Tests.{eqb-true, eqb-false, eq-eqb, ne-eqb}
+use borrow.Author.Tests.{eqb-true, eqb-false, eq-eqb, ne-eqb, lt-ltb, le-ltb}
 use mir.Val.{Val}
 use base.Fml.{Fml}
 use denote.Shadow.{shadow}
 use denote.Array.{each, inArray}
-use Rattle.records.specs.Sets.{has, one, union, anyOf}
+use Rattle.records.specs.Sets.{has, one, union, anyOf, below}
+use Rattle.records.specs.Sound.{All}
+use Rattle.records.proofs.SetLaws.{has-one, has-union, lt-or-le}
+use Rattle.records.proofs.LoopLaws.{getD-below, length-below, all-at}
+use Rattle.records.proofs.Listing
+use Rattle.expressions.proofs.ListLaws.{any-last}
 use Rattle.worlds.specs.Tables.{row}
 use Rattle.worlds.specs.Laid.{Laid, Row, Same}
 
@@ -93,6 +99,67 @@ same-next {k} {i} {v} {s} {t} {u} ks m a e = record { at = λ j n h. laid-other 
     pick j false q h = q
 
 -- at the end: the entries of every equal list
+pub each-all : {A : Type 0} (Q : A → ℕ → Type 0) (d : A) (xs ys : List A) (t : List (List ℕ)) (k n : ℕ) → ys ≡ xs → length xs ≤ n → Each Q d xs t k n
+    → (j : ℕ) → j < length ys → Q (getD ys j d) (row t k j)
+each-all Q d xs ys t k n e l a =
+    subst (λ (zs : List _). (j : ℕ) → j < length zs → Q (getD zs j d) (row t k j)) (sym e) (λ j h. a .at j (omega arith))
+
 pub each-row : {A : Type 0} (f : A → ℕ) (d : A) (xs ys : List A) (t : List (List ℕ)) (k n : ℕ) → ys ≡ xs → length xs ≤ n → Each (λ x v. v ≡ f x) d xs t k n
     → Row t k (length ys) (λ j. f (getD ys j d))
-each-row f d xs ys t k n e l a = subst (λ (zs : List _). Row t k (length zs) (λ j. f (getD zs j d))) (sym e) (record { at = λ j h. a .at j (omega arith) })
+each-row f d xs ys t k n e l a = record { at = each-all (λ x v. v ≡ f x) d xs ys t k n e l a }
+
+-- ---- a test of f 0 … f (n − 1)
+
+pub any-more : {A : Type 0} (g : A → Bool) (f : ℕ → A) (i : ℕ) → anyOf g (below (i + 1) f) ≡ (anyOf g (below i f) || g (f i))
+any-more g f i = ap (anyOf g) (Listing.below-more i f) ∙ any-last g (below i f) (f i)
+
+-- what fails from m on is not found there
+pub any-past : {A : Type 0} (g : A → Bool) (f : ℕ → A) (m n : ℕ) → m ≤ n → ((k : ℕ) → m ≤ k → g (f k) ≡ false) → anyOf g (below n f) ≡ anyOf g (below m f)
+any-past g f m zero l h = let z : 0 ≡ m = omega arith in ap (λ (k : ℕ). anyOf g (below k f)) z
+any-past g f m (suc n) l h =
+    ⊎-elim (λ p. let z : suc n ≡ m = omega arith in ap (λ (k : ℕ). anyOf g (below k f)) z)
+    (λ p. ap (λ (k : ℕ). anyOf g (below k f)) (sym (add-one n)) ∙ any-more g f n ∙ ap (λ (b : Bool). anyOf g (below n f) || b) (h n p) ∙ or-false (anyOf g (below n f))
+    ∙ any-past g f m n p h) (lt-or-le n m)
+
+-- what holds of each
+pub below-each : {A : Type 0} (Q : A → Type 0) (f : ℕ → A) (n i : ℕ) → i < n → All Q (below n f) → Q (f i)
+below-each Q f n i h q = let l = length-below n f in subst Q (getD-below n f (f i) i h) (all-at Q (below n f) (f i) i q (omega arith))
+
+-- ---- a digit more in an entry of a row: of the numbers d below i those whose entry is c
+
+later : (d i : ℕ) → (i ≡ d → ⊥) → ltb d i ≡ ltb d (i + 1)
+later d i n = ⊎-elim (λ l. lt-ltb d i l ∙ sym (lt-ltb d (i + 1) (omega arith))) (λ l. le-ltb d i l ∙ sym (le-ltb d (i + 1) (omega (arith, n)))) (lt-or-le d i)
+
+pub digit-next : (entry : ℕ → ℕ) (s t u : List (List ℕ)) (k i c v : ℕ) → Laid k c v t u → v ≡ union (row t k c) (one i) → entry i ≡ c
+    → ((x d : ℕ) → has (row t k x) d ≡ (has (row s k x) d || (ltb d i && eqb (entry d) x)))
+    → (x d : ℕ) → has (row u k x) d ≡ (has (row s k x) d || (ltb d (i + 1) && eqb (entry d) x))
+digit-next entry s t u k i c v a e m h x d = pick (eqb c x) refl (eqb i d) refl
+  where
+    old : Bool
+    old = has (row s k x) d
+
+    is : Bool
+    is = eqb (entry d) x
+
+    now : c ≡ x → has (row u k x) d ≡ ((old || (ltb d i && is)) || eqb i d)
+    now z =
+        subst (λ (y : ℕ). has (row u k y) d ≡ (has (row t k y) d || eqb i d)) z
+        (ap (λ (w : ℕ). has w d) (laid-here a ∙ e) ∙ has-union (row t k c) (one i) d ∙ ap (λ (b : Bool). has (row t k c) d || b) (has-one i d))
+        ∙ ap (λ (b : Bool). b || eqb i d) (h x d)
+
+    still : eqb c x ≡ false → has (row u k x) d ≡ (old || (ltb d i && is))
+    still z = ap (λ (w : ℕ). has w d) (laid-beside x a z) ∙ h x d
+
+    pick : (b : Bool) → eqb c x ≡ b → (o : Bool) → eqb i d ≡ o → has (row u k x) d ≡ (old || (ltb d (i + 1) && is))
+    pick true p true q =
+        let id = eqb-true i d q in
+        now (eqb-true c x p) ∙ ap (λ (b : Bool). (old || (ltb d i && is)) || b) q ∙ or-true (old || (ltb d i && is))
+        ∙ sym (ap₂ (λ (y z : Bool). old || (y && z)) (lt-ltb d (i + 1) (omega arith)) (ap (λ (j : ℕ). eqb (entry j) x) (sym id) ∙ ap (λ (y : ℕ). eqb y x) m ∙ p) ∙ or-true old)
+    pick true p false q =
+        now (eqb-true c x p) ∙ ap (λ (b : Bool). (old || (ltb d i && is)) || b) q ∙ or-false (old || (ltb d i && is))
+        ∙ ap (λ (b : Bool). old || (b && is)) (later d i (eqb-false i d q))
+    pick false p true q =
+        let no : is ≡ false = ap (λ (j : ℕ). eqb (entry j) x) (sym (eqb-true i d q)) ∙ ap (λ (y : ℕ). eqb y x) m ∙ p in
+        still p ∙ ap (λ (b : Bool). old || (ltb d i && b)) no ∙ ap (λ (b : Bool). old || b) (and-false (ltb d i))
+        ∙ sym (ap (λ (b : Bool). old || (ltb d (i + 1) && b)) no ∙ ap (λ (b : Bool). old || b) (and-false (ltb d (i + 1))))
+    pick false p false q = still p ∙ ap (λ (b : Bool). old || (b && is)) (later d i (eqb-false i d q))
