@@ -22,3 +22,5 @@ pub mod AttachLaws
 pub mod CutBlocks
 pub mod PlaceLaws
 pub mod EvaluatedPartition
+pub mod ClassLaws
+pub mod LayLaws
