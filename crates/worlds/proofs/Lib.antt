@@ -22,5 +22,4 @@ pub mod AttachLaws
 pub mod CutBlocks
 pub mod PlaceLaws
 pub mod EvaluatedPartition
-pub mod ClassLaws
 pub mod LayLaws
