@@ -2,3 +2,5 @@ pub mod Line
 pub mod LineAt
 pub mod EventList
 pub mod Operations
+pub mod Written
+pub mod Summed

@@ -1,4 +1,8 @@
 // The three operations: check a plan, answer a case, show a world.
+pub mod clear;
+pub mod fold;
+pub mod line;
+pub mod sums;
 
 // What an operation answers; `specs/Operations.antt` gives document 01's numbers for each.
 pub enum Answer {
