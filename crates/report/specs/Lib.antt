@@ -4,3 +4,5 @@ pub mod EventList
 pub mod Operations
 pub mod Written
 pub mod Summed
+pub mod Happened
+pub mod EventBytes

@@ -1,8 +1,11 @@
 // The three operations: check a plan, answer a case, show a world.
 pub mod clear;
+pub mod event;
 pub mod fold;
+pub mod kinds;
 pub mod line;
 pub mod lines;
+pub mod pairs;
 pub mod sums;
 
 // What an operation answers; `specs/Operations.antt` gives document 01's numbers for each.

@@ -1,0 +1,196 @@
+// The events of all worlds kind by kind, rising by rule; each writer starts at a place and hands back the place behind its last event.
+use crate::event::Event;
+use crate::event::write_event;
+use expressions::elections::election_on;
+use expressions::evidence::evidence_of;
+use records::case::Case;
+use records::plan::Attachments;
+use records::plan::Cuts;
+use records::plan::Edges;
+use records::plan::Election;
+use records::plan::Plan;
+use records::plan::Statuses;
+use worlds::over::low;
+use worlds::over::others;
+ghost use mathlib.Core.Path.{_≡_};
+ghost use Prim.Native.Nat.{ℕ, _+_, _*_, _<_, _≤_};
+ghost use lib.ListN.{length};
+ghost use mathlib.Core.Bool.{true};
+ghost use Rattle.records.specs.Sets.{has, size};
+ghost use Rattle.records.specs.Plan.{Plan as Paper};
+ghost use Rattle.records.specs.Decoded.{planOf, caseOf, electionOf};
+ghost use Rattle.expressions.specs.Coded.{edgesOf, cutsOf, attachmentsOf, statusesOf};
+ghost use Rattle.expressions.specs.Evident.{ReadCase};
+ghost use Rattle.expressions.specs.Rules.{edgeCount, cutCount, attachmentCount, barCount, statusCount, factCount};
+ghost use Rattle.worlds.specs.Events.{electionActor, electionEvidence};
+ghost use Rattle.report.specs.Happened.{frozenOver, appliedOver, attachmentOver, barOver, statusOver, defaultOver};
+ghost use Rattle.report.specs.EventBytes.{Writes, Below};
+
+// 1 frozen: rule, left, right.
+pub fn write_frozen(events: &mut [u8], at: usize, edges: Edges, frozen: u64) -> usize
+    requires { ⌜ at + 12 * size frozen ≤ length (now events) ⌝ }
+    ensures { λ r. ⌜ ((P : Paper) → P .edges ≡ edgesOf edges → Below frozen (edgeCount P) → Writes at (frozenOver P frozen) (now (events .entry)) (now (events .exit)) r) ⌝ }
+{
+    let mut place = at;
+    let mut m = frozen;
+    while m != 0 {
+        let i = low(m);
+        let e = edges.items[i];
+        let event = Event {
+            kind: 1,
+            a: i as u8,
+            b: e.left,
+            c: e.right,
+            mask: 0,
+        };
+        write_event(&mut events[place..], event);
+        place = place + 12;
+        m = others(m);
+    }
+    place
+}
+
+// The actor of an election; 0 where there is none.
+pub fn actor_of(e: Election) -> u8
+    ensures { λ r. ⌜ r ≡ electionActor (electionOf e) ⌝ }
+{
+    if e.given { e.actor } else { 0 }
+}
+
+// All the evidence that a case gives for an election's fact; none without an election.
+pub fn election_evidence(case: Case, e: Election) -> u64
+    requires { ⌜ ReadCase (caseOf case) ⌝ }
+    ensures { λ r. ⌜ r ≡ electionEvidence (caseOf case) (electionOf e) ⌝ }
+{
+    if e.given {
+        evidence_of(case, e.fact)
+    } else {
+        0
+    }
+}
+
+// 2 applied: cut, actor, 0, evidence.
+pub fn write_applied(events: &mut [u8], at: usize, cuts: Cuts, case: Case, applied: u64) -> usize
+    requires { ⌜ (at + 12 * size applied ≤ length (now events)) × Below applied 16 × ReadCase (caseOf case) ⌝ }
+    ensures { λ r. ⌜ ((P : Paper) → P .cuts ≡ cutsOf cuts → Below applied (cutCount P) → Writes at (appliedOver P (caseOf case) applied) (now (events .entry)) (now (events .exit)) r) ⌝ }
+{
+    let mut place = at;
+    let mut m = applied;
+    while m != 0 {
+        let i = low(m);
+        let c = cuts.items[i];
+        let e = c.election;
+        let event = Event {
+            kind: 2,
+            a: i as u8,
+            b: actor_of(e),
+            c: 0,
+            mask: election_evidence(case, e),
+        };
+        write_event(&mut events[place..], event);
+        place = place + 12;
+        m = others(m);
+    }
+    place
+}
+
+// 5 attachment: rule, anchor, actor, evidence.
+pub fn write_attachments(
+    events: &mut [u8],
+    at: usize,
+    attachments: Attachments,
+    case: Case,
+    moved: u64,
+) -> usize
+    requires { ⌜ (at + 12 * size moved ≤ length (now events)) × Below moved 32 × ReadCase (caseOf case) ⌝ }
+    ensures { λ r. ⌜ ((P : Paper) → P .attachments ≡ attachmentsOf attachments → Below moved (attachmentCount P) → Writes at (attachmentOver P (caseOf case) moved) (now (events .entry)) (now (events .exit)) r) ⌝ }
+{
+    let mut place = at;
+    let mut m = moved;
+    while m != 0 {
+        let i = low(m);
+        let a = attachments.items[i];
+        let e = a.election;
+        let event = Event {
+            kind: 5,
+            a: i as u8,
+            b: a.anchor,
+            c: a.actor,
+            mask: election_evidence(case, e),
+        };
+        write_event(&mut events[place..], event);
+        place = place + 12;
+        m = others(m);
+    }
+    place
+}
+
+// 6 bar: rule.
+pub fn write_bars(events: &mut [u8], at: usize, barring: u64) -> usize
+    requires { ⌜ at + 12 * size barring ≤ length (now events) ⌝ }
+    ensures { λ r. ⌜ ((P : Paper) → Below barring (barCount P) → Writes at (barOver P barring) (now (events .entry)) (now (events .exit)) r) ⌝ }
+{
+    let mut place = at;
+    let mut m = barring;
+    while m != 0 {
+        let event = Event {
+            kind: 6,
+            a: low(m) as u8,
+            b: 0,
+            c: 0,
+            mask: 0,
+        };
+        write_event(&mut events[place..], event);
+        place = place + 12;
+        m = others(m);
+    }
+    place
+}
+
+// 7 excluded: rule, person.
+pub fn write_statuses(events: &mut [u8], at: usize, statuses: Statuses, excluding: u64) -> usize
+    requires { ⌜ (at + 12 * size excluding ≤ length (now events)) × Below excluding 32 ⌝ }
+    ensures { λ r. ⌜ ((P : Paper) → P .statuses ≡ statusesOf statuses → Below excluding (statusCount P) → Writes at (statusOver P excluding) (now (events .entry)) (now (events .exit)) r) ⌝ }
+{
+    let mut place = at;
+    let mut m = excluding;
+    while m != 0 {
+        let i = low(m);
+        let s = statuses.items[i];
+        let event = Event {
+            kind: 7,
+            a: i as u8,
+            b: s.person,
+            c: 0,
+            mask: 0,
+        };
+        write_event(&mut events[place..], event);
+        place = place + 12;
+        m = others(m);
+    }
+    place
+}
+
+// 8 default: fact, actor, value, citation number.
+pub fn write_defaults(events: &mut [u8], at: usize, plan: Plan, defaults: u64) -> usize
+    requires { ⌜ at + 12 * size defaults ≤ length (now events) ⌝ }
+    ensures { λ r. ⌜ (Below defaults (factCount (planOf plan)) → Writes at (defaultOver (planOf plan) defaults) (now (events .entry)) (now (events .exit)) r) ⌝ }
+{
+    let mut place = at;
+    let mut m = defaults;
+    while m != 0 {
+        let i = low(m);
+        let e = election_on(plan, i as u8);
+        let event = Event {
+            kind: 8,
+            a: i as u8,
+            b: actor_of(e),
+            c: if e.given && e.policy == 2 { 1 } else { 0 },
+            mask: if e.given { e.citation as u64 } else { 0 },
+        };
+        write_event(&mut events[place..], event);
+        place = place + 12;
+        m = others(m);
+    }
+    place
+}
