@@ -5,3 +5,5 @@ pub mod StateSeen
 pub mod ViewSeen
 pub mod FirstBlocks
 pub mod Partition
+pub mod OverLaws
+pub mod CiteLaws
