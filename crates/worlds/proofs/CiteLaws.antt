@@ -1,6 +1,6 @@
 -- Citations gathered at the lowest persons of blocks: what adding at one block does, and the loops over rules and over persons that add.
 use mathlib.Core.Path.{_≡_, refl, sym, ap, ap₂, _∙_, subst}
-use mathlib.Core.Bool.{Bool, true, false, not, _&&_, _||_, or-false, true≢false, false≢true}
+use mathlib.Core.Bool.{Bool, true, false, cond, not, _&&_, _||_, or-false, true≢false, false≢true}
 use mathlib.Core.Logic.{_⊎_, inl, inr, ⊎-elim}
 use mathlib.Core.List.{List, _∷_}
 use Prim.Native.Nat.{ℕ, zero, suc, _/_, _%_, _^_, _≤_, _<_}
@@ -111,21 +111,19 @@ cites-none blocks cites cited none = record {
 
 -- THE STEP: at the lowest person of one block, for a test that holds of that block alone
 pub cites-add : (blocks cited : List ℕ) (q k v what : ℕ) (hits : ℕ → Bool) → length cited ≡ 64 → (k ≡ lowest (entry blocks q)) × (k < 64) → v ≡ union (entry cited k) what
-    → (entry blocks q ≡ 0 → ⊥) → hits (entry blocks q) ≡ true
+    → (entry blocks q ≡ 0 → ⊥) → ((live : ℕ) → Parted live blocks → has live q ≡ true → hits (entry blocks q) ≡ true)
     → ((live : ℕ) → Parted live blocks → (p : ℕ) → has live p ≡ true → hits (entry blocks p) ≡ true → entry blocks q ≡ entry blocks p)
     → CitesIn blocks (λ b. only (hits b) what) cited (set cited k v)
 cites-add blocks cited q k v what hits long low e n hit only-it = record { at = λ live fits B p l. pick live fits B p l (eqb k (lowest (entry blocks p))) refl }
   where
-    added : ℕ → ℕ → Type 0
-    added h b = entry (set cited k v) h ≡ union (entry cited h) (only (hits b) what)
-
     pick : (live : ℕ) → live < 2 ^ 64 → Parted live blocks → (p : ℕ) → has live p ≡ true → (b : Bool) → eqb k (lowest (entry blocks p)) ≡ b
         → entry (set cited k v) (lowest (entry blocks p)) ≡ union (entry cited (lowest (entry blocks p))) (only (hits (entry blocks p)) what)
     pick live fits B p l true z =
         let same = eqb-true k (lowest (entry blocks p)) z in
-        let is = same-head blocks live fits B q p (owns blocks live fits B q n) l (sym (low .0) ∙ same) in
+        let mine = owns blocks live fits B q n in
+        let is = same-head blocks live fits B q p mine l (sym (low .0) ∙ same) in
         ap (entry (set cited k v)) (sym same) ∙ getD-set-same cited k v 0 (omega (arith, low .1, long)) ∙ e
-        ∙ ap₂ (λ (h : ℕ) (x : Bool). union (entry cited h) (only x what)) same (sym hit ∙ ap hits is)
+        ∙ ap₂ (λ (h : ℕ) (x : Bool). union (entry cited h) (only x what)) same (sym (hit live B mine) ∙ ap hits is)
     pick live fits B p l false z =
         let miss = none-of (hits (entry blocks p)) (λ x. eqb-false k (lowest (entry blocks p)) z (low .0 ∙ ap lowest (only-it live B p l x))) in
         getD-set-other cited k (lowest (entry blocks p)) v 0 (λ x. eqb-false k (lowest (entry blocks p)) z (sym x))
@@ -243,3 +241,9 @@ unmet-none {blocks} {what} {persons} {before} {after} {m} e U = record {
       let none = none-of (meets m s) (λ z. let w = meets-of m s z in true≢false (sym (w .1) ∙ ap (λ (x : ℕ). has x (w .0)) e ∙ has-none (w .0))) in
       sym (ap (λ (x : Bool). union (entry after (lowest s)) (only x what)) none ∙ union-none (entry after (lowest s))) ∙ U .at live fits B p l;
 }
+
+-- ---- a set added where a test holds
+
+pub added-if : (b : Bool) (x y : ℕ) → cond b (union x y) x ≡ union x (only b y)
+added-if true x y = refl
+added-if false x y = sym (union-none x)

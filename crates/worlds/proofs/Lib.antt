@@ -7,3 +7,4 @@ pub mod FirstBlocks
 pub mod Partition
 pub mod OverLaws
 pub mod CiteLaws
+pub mod CiteTurns
