@@ -247,3 +247,7 @@ unmet-none {blocks} {what} {persons} {before} {after} {m} e U = record {
 pub added-if : (b : Bool) (x y : ℕ) → cond b (union x y) x ≡ union x (only b y)
 added-if true x y = refl
 added-if false x y = sym (union-none x)
+
+-- what the code has after a turn
+pub stored : {blocks : List ℕ} {f : ℕ → ℕ} {a : List ℕ} (next kept : List ℕ) → next ≡ kept → CitesIn blocks f a kept → length kept ≡ 64 → (CitesIn blocks f a next) × (length next ≡ 64)
+stored {blocks} {f} {a} next kept e C l = (subst (CitesIn blocks f a) (sym e) C, ap length e ∙ l)
