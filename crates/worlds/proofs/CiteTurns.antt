@@ -1,6 +1,6 @@
 -- A turn of each loop over rules: what the code adds for one rule is what the rule cites in each block.
 use mathlib.Core.Path.{_≡_, refl, sym, ap, ap₂, _∙_, subst}
-use mathlib.Core.Bool.{Bool, true, false, _&&_, true≢false, false≢true}
+use mathlib.Core.Bool.{Bool, true, false, cond, not, _&&_, _||_, true≢false}
 use mathlib.Core.List.{List, _∷_}
 use Prim.Native.Nat.{ℕ, _^_, _<_}
 use lib.ListN.{length, set, getD}
@@ -135,15 +135,23 @@ module _ (blocks : List ℕ) (pair : ℕ) (own : ℕ → ℕ) where
   abbrev pub ends-cite : ℕ → ℕ
   ends-cite b = union (only (has b (lowest pair)) (own (far pair))) (only (has b (far pair)) (own (lowest pair)))
 
-  pub ends-added : (l r : ℕ) {a b c : List ℕ} → l ≡ lowest pair → r ≡ far pair → CitesIn blocks (λ x. only (meets (one l) x) (own r)) a b → CitesIn blocks (λ x. only (meets (one r) x) (own l)) b c
-      → CitesIn blocks ends-cite a c
-  ends-added l r e k C D = cites-as ends-cite (λ x. ap₂ union (is x l r (lowest pair) (far pair) e k) (is x r l (far pair) (lowest pair) k e)) (cites-both C D)
+  pub ends-added : (l r x y : ℕ) {a b c : List ℕ} → l ≡ lowest pair → r ≡ far pair → x ≡ one l → y ≡ one r → CitesIn blocks (λ s. only (meets x s) (own r)) a b
+      → CitesIn blocks (λ s. only (meets y s) (own l)) b c → CitesIn blocks ends-cite a c
+  ends-added l r x y e k u v C D =
+      cites-as ends-cite (λ s. ap₂ union (is s l r x (lowest pair) (far pair) e k u) (is s r l y (far pair) (lowest pair) k e v)) (cites-both C D)
     where
-      is : (x l r m f : ℕ) → l ≡ m → r ≡ f → only (meets (one l) x) (own r) ≡ only (has x m) (own f)
-      is x l r m f e k = ap₂ (λ (t : Bool) (y : ℕ). only t (own y)) (meets-one l x ∙ ap (has x) e) k
+      is : (s l r x m f : ℕ) → l ≡ m → r ≡ f → x ≡ one l → only (meets x s) (own r) ≡ only (has s m) (own f)
+      is s l r x m f e k u = ap₂ (λ (t : Bool) (y : ℕ). only t (own y)) (ap (λ (z : ℕ). meets z s) u ∙ meets-one l s ∙ ap (has s) e) k
 
   pub ends-none : (cited : List ℕ) → pair ≡ 0 → CitesIn blocks ends-cite cited cited
   ends-none cited e = cites-none blocks ends-cite cited (λ live fits B p l.
       let out = nobody blocks live fits B p in
       ap₂ (λ (x y : Bool). union (only x (own (far pair))) (only y (own (lowest pair))))
       (ap (has (entry blocks p)) (ap lowest e ∙ none-low) ∙ out) (ap (has (entry blocks p)) (ap far e ∙ none-far) ∙ out) ∙ Rattle.expressions.proofs.UnionLaws.union-none 0)
+
+-- ---- handing out, to the persons of m
+
+module _ (blocks cited own : List ℕ) where
+  abbrev pub handed : ℕ → List ℕ → ℕ → ℕ
+  handed m table p =
+      cond (has m p && not (eqb (entry blocks p) 0)) (union (union (entry table p) (entry cited (lowest (entry blocks p)))) (entry own p)) (entry table p)
