@@ -1,15 +1,19 @@
 -- A turn of each loop over rules: what the code adds for one rule is what the rule cites in each block.
 use mathlib.Core.Path.{_≡_, refl, sym, ap, ap₂, _∙_, subst}
 use mathlib.Core.Bool.{Bool, true, false, cond, not, _&&_, _||_, true≢false}
+use mathlib.Core.Logic.{⊎-elim}
 use mathlib.Core.List.{List, _∷_}
 use Prim.Native.Nat.{ℕ, _^_, _<_}
 use lib.ListN.{length, set, getD}
+use lib.Seq.{getD-set-same, getD-set-other}
 use lib.Dec.{eqb}
 use lib.Count.{trailingZeros}
-use borrow.Author.Tests.{eqb-true}
+use borrow.Author.Tests.{eqb-true, eqb-false, eq-eqb, ne-eqb}
 use Rattle.records.specs.Sets.{has, one, union, meets, subset, only, lowest, members}
-use Rattle.records.proofs.SetLaws.{has-none, has-one, and-parts, subset-true}
+use Rattle.records.proofs.SetLaws.{has-none, has-one, has-union, ext, and-parts, subset-true}
 use Rattle.records.proofs.Closing.{in-one}
+use Rattle.records.proofs.Local.{which}
+use Rattle.expressions.proofs.UnionLaws.{union-none}
 use Rattle.worlds.specs.Over.{entry}
 use Rattle.worlds.specs.Blocks.{Parted}
 use Rattle.worlds.specs.Citing.{CitesIn, far, through}
@@ -147,7 +151,7 @@ module _ (blocks : List ℕ) (pair : ℕ) (own : ℕ → ℕ) where
   ends-none cited e = cites-none blocks ends-cite cited (λ live fits B p l.
       let out = nobody blocks live fits B p in
       ap₂ (λ (x y : Bool). union (only x (own (far pair))) (only y (own (lowest pair))))
-      (ap (has (entry blocks p)) (ap lowest e ∙ none-low) ∙ out) (ap (has (entry blocks p)) (ap far e ∙ none-far) ∙ out) ∙ Rattle.expressions.proofs.UnionLaws.union-none 0)
+      (ap (has (entry blocks p)) (ap lowest e ∙ none-low) ∙ out) (ap (has (entry blocks p)) (ap far e ∙ none-far) ∙ out) ∙ union-none 0)
 
 -- ---- handing out, to the persons of m
 
@@ -155,3 +159,53 @@ module _ (blocks cited own : List ℕ) where
   abbrev pub handed : ℕ → List ℕ → ℕ → ℕ
   handed m table p =
       cond (has m p && not (eqb (entry blocks p) 0)) (union (union (entry table p) (entry cited (lowest (entry blocks p)))) (entry own p)) (entry table p)
+
+  -- adding twice is adding once
+  twice : (a b : ℕ) (t : Bool) (x : ℕ) → cond t (union (union (union (union x a) b) a) b) (union (union x a) b) ≡ union (union x a) b
+  twice a b false x = refl
+  twice a b true x = ext _ _ (λ q.
+      deep (union (union x a) b) q ∙ ap (λ (z : Bool). (z || has a q) || has b q) (deep x q) ∙ same (has x q) (has a q) (has b q) ∙ sym (deep x q))
+    where
+      deep : (y q : ℕ) → has (union (union y a) b) q ≡ ((has y q || has a q) || has b q)
+      deep y q = has-union (union y a) b q ∙ ap (λ (z : Bool). z || has b q) (has-union y a q)
+
+      same : (x y z : Bool) → ((((x || y) || z) || y) || z) ≡ ((x || y) || z)
+      same true y z = refl
+      same false true z = refl
+      same false false true = refl
+      same false false false = refl
+
+  module _ (m r t : ℕ) (table : List ℕ) (turn : (i : ℕ) → has m i ≡ (eqb t i || has r i)) where
+    -- a person who is not the one of the turn
+    other : (p : ℕ) → eqb t p ≡ false → handed r table p ≡ handed m table p
+    other p e = ap (λ (x : Bool). cond (x && not (eqb (entry blocks p) 0)) (union (union (entry table p) (entry cited (lowest (entry blocks p)))) (entry own p)) (entry table p))
+        (sym (turn p ∙ ap (λ (x : Bool). x || has r p) e))
+
+    pub hand-skip : entry blocks t ≡ 0 → (p : ℕ) → handed r table p ≡ handed m table p
+    hand-skip z p = ⊎-elim none (other p) (which (eqb t p))
+      where
+        by : (b : Bool) → not (eqb (entry blocks p) 0) ≡ false
+            → cond (b && not (eqb (entry blocks p) 0)) (union (union (entry table p) (entry cited (lowest (entry blocks p)))) (entry own p)) (entry table p) ≡ entry table p
+        by true e = ap (λ (x : Bool). cond x (union (union (entry table p) (entry cited (lowest (entry blocks p)))) (entry own p)) (entry table p)) e
+        by false e = refl
+
+        none : eqb t p ≡ true → handed r table p ≡ handed m table p
+        none e =
+            let out = ap not (eq-eqb (entry blocks p) 0 (ap (entry blocks) (sym (eqb-true t p e)) ∙ z)) in
+            by (has r p) out ∙ sym (by (has m p) out)
+
+    pub hand-next : (v : ℕ) → t < length table → (entry blocks t ≡ 0 → ⊥) → v ≡ union (union (entry table t) (entry cited (lowest (entry blocks t)))) (entry own t)
+        → (p : ℕ) → handed r (set table t v) p ≡ handed m table p
+    hand-next v l n k p = ⊎-elim here (λ e. ap (λ (x : ℕ). cond (has r p && not (eqb (entry blocks p) 0)) (union (union x (entry cited (lowest (entry blocks p)))) (entry own p)) x)
+        (getD-set-other table t p v 0 (λ z. eqb-false t p e (sym z))) ∙ other p e) (which (eqb t p))
+      where
+        here : eqb t p ≡ true → handed r (set table t v) p ≡ handed m table p
+        here e = subst (λ (j : ℕ). handed r (set table t v) j ≡ handed m table j) (eqb-true t p e)
+            (ap (λ (x : ℕ). cond (has r t && not (eqb (entry blocks t) 0)) (union (union x (entry cited (lowest (entry blocks t)))) (entry own t)) x) (getD-set-same table t v 0 l ∙ k)
+            ∙ twice (entry cited (lowest (entry blocks t))) (entry own t) (has r t && not (eqb (entry blocks t) 0)) (entry table t)
+            ∙ sym (ap₂ (λ (x y : Bool). cond (x && not y) (union (union (entry table t) (entry cited (lowest (entry blocks t)))) (entry own t)) (entry table t))
+            (turn t ∙ ap (λ (x : Bool). x || has r t) (eq-eqb t t refl)) (ne-eqb (entry blocks t) 0 n)))
+
+  pub hand-end : (m : ℕ) (table : List ℕ) → m ≡ 0 → (p : ℕ) → handed m table p ≡ entry table p
+  hand-end m table e p = ap (λ (x : Bool). cond (x && not (eqb (entry blocks p) 0)) (union (union (entry table p) (entry cited (lowest (entry blocks p)))) (entry own p)) (entry table p))
+      (ap (λ (x : ℕ). has x p) e ∙ has-none p)
