@@ -8,3 +8,5 @@ pub mod Partition
 pub mod OverLaws
 pub mod CiteLaws
 pub mod CiteTurns
+pub mod CiteRules
+pub mod CiteCuts
