@@ -10,3 +10,4 @@ pub mod CiteLaws
 pub mod CiteTurns
 pub mod CiteRules
 pub mod CiteCuts
+pub mod CiteView
