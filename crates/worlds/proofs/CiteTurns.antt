@@ -16,7 +16,7 @@ use Rattle.records.proofs.Local.{which}
 use Rattle.expressions.proofs.UnionLaws.{union-none}
 use Rattle.worlds.specs.Over.{entry}
 use Rattle.worlds.specs.Blocks.{Parted}
-use Rattle.worlds.specs.Citing.{CitesIn, far, through}
+use Rattle.worlds.specs.Citing.{CitesIn, far, CitedFor}
 use Rattle.worlds.proofs.OverLaws.{members-next, members-none}
 use Rattle.worlds.proofs.CiteLaws.{both-ways, none-of, meets-in, meets-of, lowest-in, nobody, cites-none, cites-add, cites-both, cites-as}
 
@@ -209,3 +209,10 @@ module _ (blocks cited own : List ℕ) where
   pub hand-end : (m : ℕ) (table : List ℕ) → m ≡ 0 → (p : ℕ) → handed m table p ≡ entry table p
   hand-end m table e p = ap (λ (x : Bool). cond (x && not (eqb (entry blocks p) 0)) (union (union (entry table p) (entry cited (lowest (entry blocks p)))) (entry own p)) (entry table p))
       (ap (λ (x : ℕ). has x p) e ∙ has-none p)
+
+-- the others keep what they have
+pub kept : {blocks cited own : List ℕ} {persons : ℕ} {before after : List ℕ} → CitedFor blocks cited own persons before after → (p : ℕ) → has persons p ≡ false
+    → entry after p ≡ entry before p
+kept {blocks} {cited} {own} {persons} {before} {after} H p e =
+    H .at p
+    ∙ ap (λ (x : Bool). cond (x && not (eqb (entry blocks p) 0)) (union (union (entry before p) (entry cited (lowest (entry blocks p)))) (entry own p)) (entry before p)) e
