@@ -1,7 +1,7 @@
 -- Citations gathered at the lowest persons of blocks: what adding at one block does, and the loops over rules and over persons that add.
 use mathlib.Core.Path.{_≡_, refl, sym, ap, ap₂, _∙_, subst}
-use mathlib.Core.Bool.{Bool, true, false, cond, not, _&&_, _||_, or-false, true≢false, false≢true}
-use mathlib.Core.Logic.{_⊎_, inl, inr, ⊎-elim}
+use mathlib.Core.Bool.{Bool, true, false, cond, not, _&&_, _||_, true≢false}
+use mathlib.Core.Logic.{_⊎_, ⊎-elim}
 use mathlib.Core.List.{List, _∷_}
 use Prim.Native.Nat.{ℕ, zero, suc, _/_, _%_, _^_, _≤_, _<_}
 use native.Mathlib.Nat.{not-suc-le-zero, le-of-suc-le-suc}
@@ -11,11 +11,11 @@ use lib.Seq.{getD-set-same, getD-set-other}
 use lib.Dec.{eqb}
 use lib.Bits.{bitAnd, xor-add-and}
 use lib.Count.{trailingZeros, under}
-use borrow.Author.Tests.{eqb-true, eqb-false, eq-eqb, ne-eqb, not-true}
-use Rattle.records.specs.Sets.{odd, has, one, union, minus, disjoint, meets, only, lowest, members, unionOf}
-use Rattle.records.proofs.SetLaws.{has-zero, has-suc, has-none, has-and, has-minus, has-one, ext, has-high, member, in-minus, of-minus, empty, meeting, apart, disjoint-false, lt-or-le, trailing-least}
-use Rattle.records.proofs.Local.{which, clash}
-use Rattle.expressions.proofs.UnionLaws.{union-none, union-assoc, union-self, union-first, union-end}
+use borrow.Author.Tests.{eqb-true, eqb-false, eq-eqb, not-true}
+use Rattle.records.specs.Sets.{odd, has, union, minus, disjoint, meets, only, lowest, members, unionOf}
+use Rattle.records.proofs.SetLaws.{has-zero, has-suc, has-none, has-and, ext, has-high, member, in-minus, of-minus, meeting, disjoint-false, lt-or-le, trailing-least}
+use Rattle.records.proofs.Local.{clash}
+use Rattle.expressions.proofs.UnionLaws.{union-none, union-assoc, union-first, union-end}
 use Rattle.worlds.specs.Over.{entry}
 use Rattle.worlds.specs.Blocks.{Parted}
 use Rattle.worlds.specs.Citing.{CitesIn}

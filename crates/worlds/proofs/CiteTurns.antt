@@ -46,13 +46,10 @@ none-low = refl
 
 -- ---- an edge within a block
 
+abbrev pub edge-cites : ℕ → ℕ → ℕ → ℕ
+edge-cites pair what b = only (meets pair b && subset pair b) what
+
 module _ (blocks cited : List ℕ) (pair q what : ℕ) where
-  edge-hits : ℕ → Bool
-  edge-hits b = meets pair b && subset pair b
-
-  abbrev pub edge-cites : ℕ → ℕ
-  edge-cites b = only (meets pair b && subset pair b) what
-
   pub edge-filled : (q ≡ lowest pair) × (q < 64) → subset pair (entry blocks q) ≡ true → entry blocks q ≡ 0 → ⊥
   edge-filled low h e =
       true≢false (sym (subset-true pair (entry blocks q) h .at q (low-of pair q low)) ∙ ap (λ (x : ℕ). has x q) e ∙ has-none q)
@@ -64,27 +61,27 @@ module _ (blocks cited : List ℕ) (pair q what : ℕ) where
       B .agreed p q (subset-true pair (entry blocks p) (and-parts (meets pair (entry blocks p)) (subset pair (entry blocks p)) h .1) .at q (low-of pair q low))
 
   pub edge-added : (k v : ℕ) → length cited ≡ 64 → (q ≡ lowest pair) × (q < 64) → subset pair (entry blocks q) ≡ true → (k ≡ lowest (entry blocks q)) × (k < 64)
-      → v ≡ union (entry cited k) what → CitesIn blocks edge-cites cited (set cited k v)
+      → v ≡ union (entry cited k) what → CitesIn blocks (edge-cites pair what) cited (set cited k v)
   edge-added k v long low h head e =
       cites-add blocks cited q k v what (λ b. meets pair b && subset pair b) long head e (edge-filled low h)
       (λ live B l. ap₂ _&&_ (meets-in pair (entry blocks q) q (low-of pair q low) (B .self q l)) h)
       (λ live B p l x. edge-here low live B p x)
 
-  pub edge-apart : (q ≡ lowest pair) × (q < 64) → subset pair (entry blocks q) ≡ false → CitesIn blocks edge-cites cited cited
+  pub edge-apart : (q ≡ lowest pair) × (q < 64) → subset pair (entry blocks q) ≡ false → CitesIn blocks (edge-cites pair what) cited cited
   edge-apart low h =
-      cites-none blocks edge-cites cited (λ live fits B p l.
+      cites-none blocks (edge-cites pair what) cited (λ live fits B p l.
       ap (λ (x : Bool). only x what) (none-of (meets pair (entry blocks p) && subset pair (entry blocks p)) (λ x.
       true≢false (sym (and-parts (meets pair (entry blocks p)) (subset pair (entry blocks p)) x .1) ∙ ap (subset pair) (sym (edge-here low live B p x)) ∙ h))))
 
-  pub edge-none : pair ≡ 0 → CitesIn blocks edge-cites cited cited
-  edge-none e = cites-none blocks edge-cites cited (λ live fits B p l. ap (λ (x : Bool). only (x && subset pair (entry blocks p)) what) (meets-none pair (entry blocks p) e))
+  pub edge-none : pair ≡ 0 → CitesIn blocks (edge-cites pair what) cited cited
+  edge-none e = cites-none blocks (edge-cites pair what) cited (λ live fits B p l. ap (λ (x : Bool). only (x && subset pair (entry blocks p)) what) (meets-none pair (entry blocks p) e))
 
 -- ---- an attachment with its anchor and a member in the block
 
-module _ (blocks cited : List ℕ) (anchor movers q what : ℕ) where
-  abbrev pub anchor-cites : ℕ → ℕ
-  anchor-cites b = only (has b (lowest anchor) && meets movers b) what
+abbrev pub anchor-cites : ℕ → ℕ → ℕ → ℕ → ℕ
+anchor-cites anchor movers what b = only (has b (lowest anchor) && meets movers b) what
 
+module _ (blocks cited : List ℕ) (anchor movers q what : ℕ) where
   anchor-here : (q ≡ lowest anchor) × (q < 64) → (live : ℕ) → Parted live blocks → (p : ℕ) → (has (entry blocks p) (lowest anchor) && meets movers (entry blocks p)) ≡ true
       → entry blocks q ≡ entry blocks p
   anchor-here low live B p h =
@@ -94,22 +91,22 @@ module _ (blocks cited : List ℕ) (anchor movers q what : ℕ) where
   anchor-filled h e = true≢false (sym h ∙ meets-none (entry blocks q) movers e)
 
   pub anchor-added : (k v : ℕ) → length cited ≡ 64 → (q ≡ lowest anchor) × (q < 64) → meets (entry blocks q) movers ≡ true → (k ≡ lowest (entry blocks q)) × (k < 64)
-      → v ≡ union (entry cited k) what → CitesIn blocks anchor-cites cited (set cited k v)
+      → v ≡ union (entry cited k) what → CitesIn blocks (anchor-cites anchor movers what) cited (set cited k v)
   anchor-added k v long low h head e =
       cites-add blocks cited q k v what (λ b. has b (lowest anchor) && meets movers b) long head e (anchor-filled h)
       (λ live B l. ap₂ _&&_ (ap (has (entry blocks q)) (sym (low .0)) ∙ B .self q l) (meets-sym movers (entry blocks q) ∙ h))
       (λ live B p l x. anchor-here low live B p x)
 
-  pub anchor-apart : (q ≡ lowest anchor) × (q < 64) → meets (entry blocks q) movers ≡ false → CitesIn blocks anchor-cites cited cited
+  pub anchor-apart : (q ≡ lowest anchor) × (q < 64) → meets (entry blocks q) movers ≡ false → CitesIn blocks (anchor-cites anchor movers what) cited cited
   anchor-apart low h =
-      cites-none blocks anchor-cites cited (λ live fits B p l.
+      cites-none blocks (anchor-cites anchor movers what) cited (λ live fits B p l.
       ap (λ (x : Bool). only x what) (none-of (has (entry blocks p) (lowest anchor) && meets movers (entry blocks p)) (λ x.
       true≢false (sym (and-parts (has (entry blocks p) (lowest anchor)) (meets movers (entry blocks p)) x .1)
       ∙ meets-sym movers (entry blocks p) ∙ ap (λ (b : ℕ). meets b movers) (sym (anchor-here low live B p x)) ∙ h))))
 
-  pub anchor-none : anchor ≡ 0 → CitesIn blocks anchor-cites cited cited
+  pub anchor-none : anchor ≡ 0 → CitesIn blocks (anchor-cites anchor movers what) cited cited
   anchor-none e =
-      cites-none blocks anchor-cites cited (λ live fits B p l.
+      cites-none blocks (anchor-cites anchor movers what) cited (λ live fits B p l.
       ap (λ (x : Bool). only (x && meets movers (entry blocks p)) what) (ap (has (entry blocks p)) (ap lowest e ∙ none-low) ∙ nobody blocks live fits B p))
 
 -- ---- a rule that names some persons
@@ -135,20 +132,20 @@ none-far : far 0 ≡ 64
 unfolding far members Rattle.records.specs.Sets.membersFrom lowest trailingZeros
 none-far = refl
 
-module _ (blocks : List ℕ) (pair : ℕ) (own : ℕ → ℕ) where
-  abbrev pub ends-cite : ℕ → ℕ
-  ends-cite b = union (only (has b (lowest pair)) (own (far pair))) (only (has b (far pair)) (own (lowest pair)))
+abbrev pub ends-cite : ℕ → (ℕ → ℕ) → ℕ → ℕ
+ends-cite pair own b = union (only (has b (lowest pair)) (own (far pair))) (only (has b (far pair)) (own (lowest pair)))
 
+module _ (blocks : List ℕ) (pair : ℕ) (own : ℕ → ℕ) where
   pub ends-added : (l r x y : ℕ) {a b c : List ℕ} → l ≡ lowest pair → r ≡ far pair → x ≡ one l → y ≡ one r → CitesIn blocks (λ s. only (meets x s) (own r)) a b
-      → CitesIn blocks (λ s. only (meets y s) (own l)) b c → CitesIn blocks ends-cite a c
+      → CitesIn blocks (λ s. only (meets y s) (own l)) b c → CitesIn blocks (ends-cite pair own) a c
   ends-added l r x y e k u v C D =
-      cites-as ends-cite (λ s. ap₂ union (is s l r x (lowest pair) (far pair) e k u) (is s r l y (far pair) (lowest pair) k e v)) (cites-both C D)
+      cites-as (ends-cite pair own) (λ s. ap₂ union (is s l r x (lowest pair) (far pair) e k u) (is s r l y (far pair) (lowest pair) k e v)) (cites-both C D)
     where
       is : (s l r x m f : ℕ) → l ≡ m → r ≡ f → x ≡ one l → only (meets x s) (own r) ≡ only (has s m) (own f)
       is s l r x m f e k u = ap₂ (λ (t : Bool) (y : ℕ). only t (own y)) (ap (λ (z : ℕ). meets z s) u ∙ meets-one l s ∙ ap (has s) e) k
 
-  pub ends-none : (cited : List ℕ) → pair ≡ 0 → CitesIn blocks ends-cite cited cited
-  ends-none cited e = cites-none blocks ends-cite cited (λ live fits B p l.
+  pub ends-none : (cited : List ℕ) → pair ≡ 0 → CitesIn blocks (ends-cite pair own) cited cited
+  ends-none cited e = cites-none blocks (ends-cite pair own) cited (λ live fits B p l.
       let out = nobody blocks live fits B p in
       ap₂ (λ (x y : Bool). union (only x (own (far pair))) (only y (own (lowest pair))))
       (ap (has (entry blocks p)) (ap lowest e ∙ none-low) ∙ out) (ap (has (entry blocks p)) (ap far e ∙ none-far) ∙ out) ∙ union-none 0)

@@ -1,15 +1,15 @@
 -- What the code gathers for a live person's block, with the person's own cuts, is what the view of one world cites.
-use mathlib.Core.Path.{_≡_, refl, sym, ap, ap₂, _∙_, subst}
+use mathlib.Core.Path.{_≡_, refl, sym, ap, ap₂, _∙_}
 use mathlib.Core.Bool.{Bool, true, false, cond, not, _&&_, true≢false}
 use mathlib.Core.Logic.{_⊎_, inl, inr, ⊎-elim}
 use mathlib.Core.List.{List, []}
-use Prim.Native.Nat.{ℕ, _-_, _^_, _≤_, _<_}
+use Prim.Native.Nat.{ℕ, _-_, _^_, _<_}
 use native.Mathlib.Nat.{lt-trans, lt-of-le-of-lt}
 use native.Mathlib.Omega.{arith}
-use lib.ListN.{length, getD}
+use lib.ListN.{getD}
 use lib.Dec.{eqb}
 use lib.Bits.{bitAnd}
-use borrow.Author.Tests.{eqb-true, eqb-false, ne-eqb}
+use borrow.Author.Tests.{eqb-true, ne-eqb}
 use Rattle.records.specs.Sets.{has, one, union, meet, minus, meets, subset, only, lowest, members, unionOf, unionBelow}
 use Rattle.records.specs.Plan.{Plan}
 use Rattle.records.specs.Sound.{SoundEdge, SoundAttachment}
@@ -19,12 +19,12 @@ use Rattle.records.proofs.LoopLaws.{all-at}
 use Rattle.records.proofs.BelowLaws.{flag-set}
 use Rattle.records.proofs.Local.{which}
 use Rattle.expressions.proofs.UnionLaws.{none-union, union-none, union-assoc}
-use Rattle.expressions.specs.Rules.{edgeCount, cutCount, attachmentCount, barCount, statusCount, edge, cut, attachment, bar, status, pair}
+use Rattle.expressions.specs.Rules.{edgeCount, cutCount, attachmentCount, barCount, statusCount, edge, attachment, bar, status, pair}
 use Rattle.expressions.specs.Nodes.{on}
 use Rattle.expressions.specs.Variables.{Influence}
 use Rattle.worlds.specs.Active as paper
-use Rattle.worlds.specs.World.{World, State, worldOf, afterMarks, marked, marksOf, blockOf, keptCuts, overlappingCuts, standing, blockedCut, appliedCuts}
-use Rattle.worlds.specs.View.{View, view, edgeCitations, cutCitations, attachmentCitations, barCitations, statusCitations, citations}
+use Rattle.worlds.specs.World.{World, worldOf, afterMarks, marked, marksOf, blockOf, keptCuts, overlappingCuts, standing, blockedCut, appliedCuts}
+use Rattle.worlds.specs.View.{view, edgeCitations, attachmentCitations, barCitations, statusCitations, citations}
 use Rattle.worlds.specs.Over.{entry}
 use Rattle.worlds.specs.Tables.{row, Stands}
 use Rattle.worlds.specs.Settled.{SettledAs}

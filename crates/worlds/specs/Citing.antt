@@ -1,6 +1,6 @@
 -- Citations as the code gathers them: at the lowest person of each block, then handed out.
 use mathlib.Core.Path.{_≡_}
-use mathlib.Core.Bool.{Bool, true, false, _&&_, not, cond}
+use mathlib.Core.Bool.{true, false, _&&_, not, cond}
 use mathlib.Core.List.{List}
 use Prim.Native.Nat.{ℕ, _<_, _^_}
 use lib.ListN.{getD}
@@ -11,7 +11,7 @@ use Rattle.expressions.specs.Rules.{edgeCount}
 use Rattle.expressions.specs.Nodes.{on}
 use Rattle.expressions.specs.Variables.{Influence}
 use Rattle.worlds.specs.Active as paper
-use Rattle.worlds.specs.World.{World, worldOf, marked, blockOf}
+use Rattle.worlds.specs.World.{worldOf, marked, blockOf}
 use Rattle.worlds.specs.View.{view}
 use Rattle.worlds.specs.Over.{entry}
 use Rattle.worlds.specs.Tables.{row, Stands}

@@ -1,5 +1,4 @@
 // The citations of persons' blocks, gathered at the lowest person of each block.
-use crate::over::gather;
 use crate::over::give;
 use crate::over::low;
 use crate::over::others;

@@ -55,7 +55,7 @@ hand-out-requires : tie.Need-hand-out-requires
 hand-out-requires c κs = search needs
 
 returns : tie.Need-returns
-returns c =     let statuses = c .before .before .before .before .before .before .before .before in
+returns c = let statuses = c .before .before .before .before .before .before .before .before in
     let bars = statuses .before .before .before .before .before in
     let leading = bars .before .before .before .before .before .before .before in
     let edges = leading .before .before in

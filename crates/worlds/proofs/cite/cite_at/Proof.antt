@@ -1,5 +1,5 @@
 -- `cite::cite_at`: with what the persons left still cite, the table is the one asked for; a turn takes a whole block.
-use mathlib.Core.Path.{_≡_, refl, sym, ap, ap₂, _∙_, subst}
+use mathlib.Core.Path.{_≡_, refl, sym, ap, _∙_, subst}
 use mathlib.Core.Bool.{Bool}
 use mathlib.Core.Logic.{⊎-elim}
 use Prim.Native.Nat.{ℕ, _<_, _^_}
@@ -8,7 +8,7 @@ use native.Mathlib.Omega.{arith}
 use lib.ListN.{length, length-set}
 use lib.Dec.{eqb}
 use borrow.Author.Tests.{eqb-true, eq-eqb, ne-eqb}
-use Rattle.records.specs.Sets.{has, union, minus, only}
+use Rattle.records.specs.Sets.{union, minus, only}
 use Rattle.worlds.specs.Over.{entry}
 use Rattle.worlds.specs.Citing.{CitesIn}
 use Rattle.worlds.proofs.OverLaws.{turn-has}
@@ -59,12 +59,12 @@ minus-requires : tie.Need-minus-requires Inv-loop μ-loop
 minus-requires c κs = tt
 
 loop-less : tie.Need-loop-less Inv-loop μ-loop
-loop-less c =     let l = c .before .before .before .before .before .before in
+loop-less c = let l = c .before .before .before .before .before .before in
     subst (λ (x : ℕ). x < l .loop .m) (sym (c .minus .ensures)) (lt-of-le-of-lt (minus-le _ _) (c .before .others .ensures .1))
 
 loop-again : tie.Need-loop-again Inv-loop μ-loop
 unfolding union
-loop-again c =     let l = c .before .before .before .before .before .before in
+loop-again c = let l = c .before .before .before .before .before .before in
     let args = l .before .before .before .args in
     let lies = c .before .before .before .before .low in
     let bs = args .blocks .now in
@@ -72,22 +72,25 @@ loop-again c =     let l = c .before .before .before .before .before .before in
     let q = lies .result in
     let added : (CitesIn bs (λ b. only (eqb b (entry bs q)) (args .what)) (l .loop .cited) next) × (length next ≡ 64) =
     ⊎-elim
-    (λ w.
-    ( subst (CitesIn bs (λ b. only (eqb b (entry bs q)) (args .what)) (l .loop .cited)) (sym (w .3))
-      (cites-add bs (l .loop .cited) q (w .1 .result) _ (args .what) (λ b. eqb b (entry bs q)) (l .loop .inv .1) (w .1 .ensures) refl (w .0 .taken)
-      (λ live B here. eq-eqb (entry bs q) (entry bs q) refl) (λ live B p here h. sym (eqb-true (entry bs p) (entry bs q) h))),
-      ap length (w .3) ∙ simp length-set (l .loop .inv .1) ))
-    (λ w.
-    ( subst (CitesIn bs (λ b. only (eqb b (entry bs q)) (args .what)) (l .loop .cited)) (sym (w .1))
-      (cites-none bs (λ b. only (eqb b (entry bs q)) (args .what)) (l .loop .cited) (λ live fits B p here.
-      ap (λ (x : Bool). only x (args .what)) (ne-eqb (entry bs p) (entry bs q) (λ e. filled bs live fits B p here (e ∙ w .0 .left))))),
-      ap length (w .1) ∙ l .loop .inv .1 ))
+    (λ w. (
+      subst (CitesIn bs (λ b. only (eqb b (entry bs q)) (args .what)) (l .loop .cited)) (sym (w .3))
+          (cites-add bs (l .loop .cited) q (w .1 .result) _ (args .what) (λ b. eqb b (entry bs q)) (l .loop .inv .1) (w .1 .ensures) refl (w .0 .taken)
+          (λ live B here. eq-eqb (entry bs q) (entry bs q) refl) (λ live B p here h. sym (eqb-true (entry bs p) (entry bs q) h))),
+      ap length (w .3) ∙ simp length-set (l .loop .inv .1),
+    ))
+    (λ w. (
+      subst (CitesIn bs (λ b. only (eqb b (entry bs q)) (args .what)) (l .loop .cited)) (sym (w .1))
+          (cites-none bs (λ b. only (eqb b (entry bs q)) (args .what)) (l .loop .cited) (λ live fits B p here.
+          ap (λ (x : Bool). only x (args .what)) (ne-eqb (entry bs p) (entry bs q) (λ e. filled bs live fits B p here (e ∙ w .0 .left))))),
+      ap length (w .1) ∙ l .loop .inv .1,
+    ))
     (c .before .before .if1 .came) in
-    let r = c .before .others .result in
-    ( subst (λ (x : ℕ). x < 2 ^ 64) (sym (c .minus .ensures)) (lt-of-le-of-lt (minus-le r (entry bs q)) (lt-trans (c .before .others .ensures .1) (l .loop .inv .0))),
+    let r = c .before .others .result in (
+      subst (λ (x : ℕ). x < 2 ^ 64) (sym (c .minus .ensures)) (lt-of-le-of-lt (minus-le r (entry bs q)) (lt-trans (c .before .others .ensures .1) (l .loop .inv .0))),
       added .1,
       subst (Unmet bs (args .what) (args .persons) (args .cited .now) next) (sym (c .minus .ensures))
-      (unmet-next next r q (l .loop .inv .2) (turn-has _ _ _ (l .loop .inv .0) (lies .ensures) (c .before .others .ensures)) (added .0)) )
+          (unmet-next next r q (l .loop .inv .2) (turn-has _ _ _ (l .loop .inv .0) (lies .ensures) (c .before .others .ensures)) (added .0)),
+    )
 
 returns : tie.Need-returns Inv-loop μ-loop
 returns c = unmet-none (c .loop-test .left) (c .before .loop .inv .2)

@@ -1,13 +1,11 @@
 -- `cite::cite_attachments`: with the attachments left, the table is the one asked for; one is cited at its anchor's block.
-use mathlib.Core.Path.{_≡_, refl, sym, ap, ap₂, _∙_, subst}
-use mathlib.Core.Bool.{Bool, true, false, _&&_}
+use mathlib.Core.Path.{_≡_, refl}
+use mathlib.Core.Bool.{_&&_}
 use mathlib.Core.Logic.{⊎-elim}
-use Prim.Native.Nat.{ℕ, _<_}
 use native.Mathlib.Omega.{arith}
 use borrow.Author.Needs.{needs}
 use lib.ListN.{length, length-set}
 use Rattle.records.specs.Sets.{has, union, meets, only, lowest}
-use Rattle.worlds.specs.Over.{entry}
 use Rattle.worlds.specs.Tables.{row}
 use Rattle.worlds.specs.Citing.{CitesIn}
 use Rattle.worlds.proofs.OverLaws.{and-meets, and-apart}
@@ -59,7 +57,7 @@ index-2-if2 : tie.Need-index-2-if2 Inv-loop μ-loop
 index-2-if2 c = c .before .before .before .before .low .ensures .1
 
 low-requires-3 : tie.Need-low-requires-3 Inv-loop μ-loop
-low-requires-3 c κs =     let at = c .before .before .before in
+low-requires-3 c κs = let at = c .before .before .before in
     let l = at .before .before .before .before .before in
     let args = l .before .before .before .args in
     anchor-filled (args .blocks .now) (l .loop .cited) 0 (row (args .t .now) 11 (at .before .before .before .low .result)) (at .low2 .result) 0 (and-meets _ _ (c .if2 .taken))
@@ -93,7 +91,7 @@ loop-less c = c .others .ensures .1
 
 loop-again : tie.Need-loop-again Inv-loop μ-loop
 unfolding union
-loop-again c =     let l = c .before .before .before .before .before in
+loop-again c = let l = c .before .before .before .before .before in
     let args = l .before .before .before .args in
     let bs = args .blocks .now in
     let t = args .t .now in
@@ -104,7 +102,7 @@ loop-again c =     let l = c .before .before .before .before .before in
     let now = l .loop .cited in
     let long = l .loop .inv .0 in
     let next = c .before .if1 .cited in
-    let added : (CitesIn bs (anchor-cites bs now anchor movers 0 what) now next) × (length next ≡ 64) =
+    let added : (CitesIn bs (anchor-cites anchor movers what) now next) × (length next ≡ 64) =
     ⊎-elim
     (λ w. stored next _ (w .8)
     (anchor-added bs now anchor movers (w .1 .result) what (w .5 .result) _ long (w .1 .ensures) (and-meets _ _ (w .4 .taken)) (w .5 .ensures) refl) (simp length-set long))

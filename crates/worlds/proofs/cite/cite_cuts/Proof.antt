@@ -1,10 +1,9 @@
 -- `cite::cite_cuts`: with the frozen edges left, the table is the one asked for; each end gets what the other end's cuts cite.
-use mathlib.Core.Path.{_≡_, refl, sym, ap, _∙_, subst}
-use mathlib.Core.Bool.{Bool}
+use mathlib.Core.Path.{_≡_, sym, _∙_, subst}
 use mathlib.Core.Logic.{⊎-elim}
 use Prim.Native.Nat.{ℕ, _<_, _^_}
 use native.Mathlib.Omega.{arith}
-use Rattle.records.specs.Sets.{has, one, union, meets, only, lowest}
+use Rattle.records.specs.Sets.{has, union, only, lowest}
 use Rattle.worlds.specs.Over.{entry}
 use Rattle.worlds.specs.Citing.{CitesIn, far, through}
 use Rattle.worlds.proofs.CiteLaws.{Left, left-all, left-next, left-none}
@@ -13,7 +12,7 @@ use Rattle.worlds.proofs.cite.cite_cuts.Statement.{statement}
 use Rattle.worlds.proofs.cite.cite_cuts.Tie as tie
 
 abbrev Inv-loop : tie.InvT-loop
-Inv-loop blocks pairs frozen own cited₀ m₀ cited m =     Left blocks
+Inv-loop blocks pairs frozen own cited₀ m₀ cited m = Left blocks
     (λ e b. union (only (has b (lowest (entry pairs e))) (entry own (far (entry pairs e)))) (only (has b (far (entry pairs e))) (entry own (lowest (entry pairs e))))) frozen cited₀ cited m
 
 abbrev μ-loop : tie.MeasureT-loop
@@ -89,19 +88,19 @@ loop-less : tie.Need-loop-less Inv-loop μ-loop
 loop-less c = c .others2 .ensures .1
 
 loop-again : tie.Need-loop-again Inv-loop μ-loop
-loop-again c =     let l = c .before .before .before .before .before in
+loop-again c = let l = c .before .before .before .before .before in
     let args = l .before .args in
     let bs = args .blocks .now in
     let own = args .own .now in
     let e = c .before .before .before .low in
     let pair = entry (args .pairs .now) (e .result) in
     let next = c .before .if1 .cited in
-    let added : CitesIn bs (ends-cite bs pair (entry own)) (l .loop .cited) next =
+    let added : CitesIn bs (ends-cite pair (entry own)) (l .loop .cited) next =
     ⊎-elim (λ w.
     let f = far-end (record { before = record { before = record { before = record { before = c .before .before; if1 = w .0 }; low2 = w .1 }; others = w .2 }; if2 = w .3 }) in
-    subst (CitesIn bs (ends-cite bs pair (entry own)) (l .loop .cited)) (sym (w .13))
+    subst (CitesIn bs (ends-cite pair (entry own)) (l .loop .cited)) (sym (w .13))
     (ends-added bs pair (entry own) (w .1 .result) (w .3 .r) (w .4 .result) (w .9 .result) (w .1 .ensures .0) (f .0) (w .4 .ensures) (w .9 .ensures) (w .8 .ensures) (w .12 .ensures)))
-    (λ w. subst (CitesIn bs (ends-cite bs pair (entry own)) (l .loop .cited)) (sym (w .1)) (ends-none bs pair (entry own) (l .loop .cited) (w .0 .left)))
+    (λ w. subst (CitesIn bs (ends-cite pair (entry own)) (l .loop .cited)) (sym (w .1)) (ends-none bs pair (entry own) (l .loop .cited) (w .0 .left)))
     (c .before .if1 .came) in
     left-next next (c .others2 .result) (e .result) (l .loop .inv) (e .ensures .0) (c .others2 .ensures .0) added
 

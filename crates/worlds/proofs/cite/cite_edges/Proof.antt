@@ -1,13 +1,11 @@
 -- `cite::cite_edges`: with the edges left, the table is the one asked for; an edge is cited at the block of its lower end.
-use mathlib.Core.Path.{_≡_, refl, sym, ap, ap₂, _∙_, subst}
-use mathlib.Core.Bool.{Bool, true, false, _&&_}
+use mathlib.Core.Path.{_≡_, refl, sym, _∙_}
+use mathlib.Core.Bool.{_&&_}
 use mathlib.Core.Logic.{⊎-elim}
-use Prim.Native.Nat.{ℕ, _<_}
 use native.Mathlib.Omega.{arith}
 use borrow.Author.Needs.{needs}
 use lib.ListN.{length, length-set}
-use Rattle.records.specs.Sets.{has, union, meets, subset, only}
-use Rattle.worlds.specs.Over.{entry}
+use Rattle.records.specs.Sets.{union, meets, subset, only}
 use Rattle.worlds.specs.Tables.{row}
 use Rattle.worlds.specs.Citing.{CitesIn}
 use Rattle.worlds.proofs.CiteLaws.{stored, Left, left-all, left-next, left-none}
@@ -52,7 +50,7 @@ subset-requires : tie.Need-subset-requires Inv-loop μ-loop
 subset-requires c κs = tt
 
 low-requires-3 : tie.Need-low-requires-3 Inv-loop μ-loop
-low-requires-3 c κs =     let at = c .before .before .before in
+low-requires-3 c κs = let at = c .before .before .before in
     edge-filled (at .before .before .before .before .before .before .before .before .args .blocks .now) (at .before .before .before .before .before .loop .cited) _ (at .low2 .result) 0
     (at .low2 .ensures) (sym (c .before .subset .ensures) ∙ c .if2 .taken)
 
@@ -85,7 +83,7 @@ loop-less c = c .others .ensures .1
 
 loop-again : tie.Need-loop-again Inv-loop μ-loop
 unfolding union
-loop-again c =     let l = c .before .before .before .before .before in
+loop-again c = let l = c .before .before .before .before .before in
     let args = l .before .before .before .args in
     let bs = args .blocks .now in
     let t = args .t .now in
@@ -95,7 +93,7 @@ loop-again c =     let l = c .before .before .before .before .before in
     let now = l .loop .cited in
     let long = l .loop .inv .0 in
     let next = c .before .if1 .cited in
-    let added : (CitesIn bs (edge-cites bs now pair 0 what) now next) × (length next ≡ 64) =
+    let added : (CitesIn bs (edge-cites pair what) now next) × (length next ≡ 64) =
     ⊎-elim
     (λ w. stored next _ (w .8)
     (edge-added bs now pair (w .1 .result) what (w .5 .result) _ long (w .1 .ensures) (sym (w .3 .ensures) ∙ w .4 .taken) (w .5 .ensures) refl) (simp length-set long))

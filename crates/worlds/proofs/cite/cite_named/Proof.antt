@@ -1,7 +1,6 @@
 -- `cite::cite_named`: with the rules left, the table is the one asked for.
-use mathlib.Core.Path.{_≡_, refl, sym, ap, _∙_, subst}
+use mathlib.Core.Path.{sym, subst}
 use mathlib.Core.Logic.{⊎-elim}
-use Prim.Native.Nat.{ℕ, _<_}
 use native.Mathlib.Omega.{arith}
 use Rattle.records.specs.Sets.{meet, meets, only}
 use Rattle.worlds.specs.Over.{entry}
@@ -46,7 +45,7 @@ loop-less c = c .others .ensures .1
 
 loop-again : tie.Need-loop-again Inv-loop μ-loop
 unfolding meet
-loop-again c =     let l = c .before .before .before .before .before in
+loop-again c = let l = c .before .before .before .before .before in
     let args = l .before .args in
     let bs = args .blocks .now in
     let i = c .before .before .before .low in

@@ -1,14 +1,12 @@
 -- `cite::hand_out`: with the persons left still to get their citations, the table is the one asked for.
-use mathlib.Core.Path.{_≡_, refl, sym, ap, _∙_, subst}
-use mathlib.Core.Bool.{Bool, not, _&&_, cond}
+use mathlib.Core.Path.{_≡_, refl, sym, ap, _∙_}
 use mathlib.Core.Logic.{⊎-elim}
 use mathlib.Core.List.{List}
 use Prim.Native.Nat.{ℕ, _<_, _^_}
 use native.Mathlib.Nat.{lt-trans}
 use native.Mathlib.Omega.{arith}
 use lib.ListN.{length, length-set}
-use lib.Dec.{eqb}
-use Rattle.records.specs.Sets.{has, union, lowest}
+use Rattle.records.specs.Sets.{union}
 use Rattle.worlds.specs.Over.{entry}
 use Rattle.worlds.proofs.OverLaws.{turn-has}
 use Rattle.worlds.proofs.CiteTurns.{handed, hand-next, hand-skip, hand-end}
@@ -71,7 +69,7 @@ loop-less c = c .others .ensures .1
 
 loop-again : tie.Need-loop-again Inv-loop μ-loop
 unfolding union
-loop-again c =     let l = c .before .before .before .before .before in
+loop-again c = let l = c .before .before .before .before .before in
     let args = l .before .before .before .args in
     let bs = args .blocks .now in
     let ci = args .cited .now in
@@ -84,16 +82,17 @@ loop-again c =     let l = c .before .before .before .before .before in
     let long = l .loop .inv .1 in
     let step : (length next ≡ 64) × ((p : ℕ) → handed bs ci ow r next p ≡ handed bs ci ow (l .loop .m) now p) =
     ⊎-elim
-    (λ w.
-    (ap length (w .5) ∙ simp length-set long,
-    λ p. ap (λ (x : List ℕ). handed bs ci ow r x p) (w .5) ∙ hand-next bs ci ow (l .loop .m) r (t .result) now turn _ (omega (arith, t .ensures .1, long)) (w .0 .taken)
-    (ap (λ (x : ℕ). union (union (entry now (t .result)) (entry ci x)) (entry ow (t .result))) (w .2 .ensures .0)) p))
+    (λ w. (
+      ap length (w .5) ∙ simp length-set long,
+      λ p. ap (λ (x : List ℕ). handed bs ci ow r x p) (w .5) ∙ hand-next bs ci ow (l .loop .m) r (t .result) now turn _ (omega (arith, t .ensures .1, long)) (w .0 .taken)
+          (ap (λ (x : ℕ). union (union (entry now (t .result)) (entry ci x)) (entry ow (t .result))) (w .2 .ensures .0)) p,
+    ))
     (λ w. (ap length (w .1) ∙ long, λ p. ap (λ (x : List ℕ). handed bs ci ow r x p) (w .1) ∙ hand-skip bs ci ow (l .loop .m) r (t .result) now turn (w .0 .left) p))
     (c .before .if1 .came) in
     (lt-trans (c .others .ensures .1) (l .loop .inv .0), step .0, λ p. step .1 p ∙ l .loop .inv .2 p)
 
 returns : tie.Need-returns Inv-loop μ-loop
-returns c =     let l = c .before in
+returns c = let l = c .before in
     let args = l .before .before .before .args in
     record { at = λ p. sym (hand-end (args .blocks .now) (args .cited .now) (args .own .now) (l .loop .m) (l .loop .citations) (c .loop-test .left) p) ∙ l .loop .inv .2 p }
 

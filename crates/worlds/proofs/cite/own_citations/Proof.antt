@@ -1,12 +1,11 @@
 -- `cite::own_citations`: with the cuts left, each person has the citations of all the cuts that hold the person.
-use mathlib.Core.Path.{_≡_, refl, sym, ap, _∙_}
-use mathlib.Core.Bool.{Bool, true, false, cond}
-use Prim.Native.Nat.{ℕ, _<_}
+use mathlib.Core.Path.{_≡_, sym, ap, _∙_}
+use Prim.Native.Nat.{ℕ}
 use native.Mathlib.Omega.{arith}
 use borrow.Author.Needs.{needs}
-use Rattle.records.specs.Sets.{has, union, only, members, unionOf}
+use Rattle.records.specs.Sets.{has, union, only, members}
 use Rattle.expressions.proofs.ListLaws.{filled-at}
-use Rattle.expressions.proofs.UnionLaws.{none-union, union-none, union-first, union-end}
+use Rattle.expressions.proofs.UnionLaws.{none-union, union-first, union-end}
 use Rattle.worlds.specs.Over.{entry}
 use Rattle.worlds.specs.Tables.{row}
 use Rattle.worlds.specs.Citing.{ownOf}
@@ -57,7 +56,7 @@ loop-less c = c .others .ensures .1
 
 loop-again : tie.Need-loop-again Inv-loop μ-loop
 unfolding ownOf
-loop-again c =     λ p.
+loop-again c = λ p.
     let l = c .before .before .before .before .before .before .before in
     let t = l .before .args .t .now in
     let i = c .before .before .before .before .before .low in
@@ -70,7 +69,7 @@ loop-again c =     λ p.
 
 returns : tie.Need-returns Inv-loop μ-loop
 unfolding ownOf
-returns c =     λ p.
+returns c = λ p.
     let t = c .before .before .args .t .now in
     sym (union-end (λ k. only (has (row t 1 k) p) (row t 17 k)) (entry (c .before .loop .own) p) (members (c .before .loop .m)) (members-none (c .before .loop .m) (c .loop-test .left)))
     ∙ c .before .loop .inv p
