@@ -23,3 +23,9 @@ pub mod CutBlocks
 pub mod PlaceLaws
 pub mod EvaluatedPartition
 pub mod LayLaws
+pub mod OverLaws
+pub mod CiteLaws
+pub mod CiteTurns
+pub mod CiteRules
+pub mod CiteCuts
+pub mod CiteView

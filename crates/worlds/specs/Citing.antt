@@ -1,8 +1,8 @@
 -- Citations as the code gathers them: at the lowest person of each block, then handed out.
 use mathlib.Core.Path.{_≡_}
-use mathlib.Core.Bool.{Bool, true, false, _&&_, not, cond}
+use mathlib.Core.Bool.{true, false, _&&_, not, cond}
 use mathlib.Core.List.{List}
-use Prim.Native.Nat.{ℕ, _<_}
+use Prim.Native.Nat.{ℕ, _<_, _^_}
 use lib.ListN.{getD}
 use lib.Dec.{eqb}
 use Rattle.records.specs.Sets.{has, union, minus, only, lowest, unionOf, members}
@@ -11,7 +11,7 @@ use Rattle.expressions.specs.Rules.{edgeCount}
 use Rattle.expressions.specs.Nodes.{on}
 use Rattle.expressions.specs.Variables.{Influence}
 use Rattle.worlds.specs.Active as paper
-use Rattle.worlds.specs.World.{World, worldOf, marked, blockOf}
+use Rattle.worlds.specs.World.{worldOf, marked, blockOf}
 use Rattle.worlds.specs.View.{view}
 use Rattle.worlds.specs.Over.{entry}
 use Rattle.worlds.specs.Tables.{row, Stands}
@@ -22,7 +22,7 @@ use Rattle.worlds.specs.declared.tables.Settled.{Settled}
 
 -- what a block cites is added at its lowest person
 pub record CitesIn (blocks : List ℕ) (cites : ℕ → ℕ) (before after : List ℕ) : Type 0 where
-  pub at : (live : ℕ) → Parted live blocks → (p : ℕ) → has live p ≡ true
+  pub at : (live : ℕ) → live < 2 ^ 64 → Parted live blocks → (p : ℕ) → has live p ≡ true
       → entry after (lowest (entry blocks p)) ≡ union (entry before (lowest (entry blocks p))) (cites (entry blocks p))
 
 -- the other person of a pair; the same where it is one person

@@ -1,8 +1,8 @@
 // The citations of persons' blocks, gathered at the lowest person of each block.
-use crate::over::gather;
 use crate::over::give;
 use crate::over::low;
 use crate::over::others;
+use crate::over::whole;
 use crate::tables::ANCHORS;
 use crate::tables::ATTACHMENT_CITATIONS;
 use crate::tables::BAR_CITATIONS;
@@ -24,7 +24,7 @@ ghost use mathlib.Core.Path.{_≡_};
 ghost use mathlib.Core.Bool.{_&&_, cond};
 ghost use lib.Dec.{eqb};
 ghost use Prim.Native.Nat.{ℕ};
-ghost use Rattle.records.specs.Sets.{has, meet, meets, subset as inside, only, unionOf, members};
+ghost use Rattle.records.specs.Sets.{has, meet, meets, subset as inside, only, lowest, unionOf, members};
 ghost use Rattle.worlds.specs.Over.{entry};
 ghost use Rattle.worlds.specs.Tables.{row};
 ghost use Rattle.worlds.specs.Citing.{CitesIn, through, ownOf, CitedFor, Cites};
@@ -33,6 +33,7 @@ ghost use Rattle.worlds.specs.Citing.{CitesIn, through, ownOf, CitedFor,
 fn cite_at(blocks: &[u64; 64], persons: u64, what: u64, cited: &mut [u64; 64])
     ensures { λ r. ⌜ CitesIn (now (blocks .entry)) (λ b. only (meets persons b) what) (now (cited .entry)) (now (cited .exit)) ⌝ }
 {
+    whole(*cited);
     let mut m = persons;
     while m != 0 {
         let b = blocks[low(m)];
@@ -48,6 +49,7 @@ fn cite_at(blocks: &[u64; 64], persons: u64, what: u64, cited: &mut [u64; 64])
 fn cite_edges(blocks: &[u64; 64], t: &Tables, frozen: u64, cited: &mut [u64; 64])
     ensures { λ r. ⌜ CitesIn (now (blocks .entry)) (λ b. unionOf (λ e. only (meets (row (now (t .entry)) 0 e) b && inside (row (now (t .entry)) 0 e) b) (row (now (t .entry)) 16 e)) (members frozen)) (now (cited .entry)) (now (cited .exit)) ⌝ }
 {
+    whole(*cited);
     let mut m = frozen;
     while m != 0 {
         let e = low(m);
@@ -103,8 +105,9 @@ fn cite_cuts(
 
 // Attachments with anchor and some member in the block, active or not.
 fn cite_attachments(blocks: &[u64; 64], t: &Tables, attachments: u64, cited: &mut [u64; 64])
-    ensures { λ r. ⌜ CitesIn (now (blocks .entry)) (λ b. unionOf (λ i. only (meets (row (now (t .entry)) 12 i) b && meets (row (now (t .entry)) 11 i) b) (row (now (t .entry)) 18 i)) (members attachments)) (now (cited .entry)) (now (cited .exit)) ⌝ }
+    ensures { λ r. ⌜ CitesIn (now (blocks .entry)) (λ b. unionOf (λ i. only (has b (lowest (row (now (t .entry)) 12 i)) && meets (row (now (t .entry)) 11 i) b) (row (now (t .entry)) 18 i)) (members attachments)) (now (cited .entry)) (now (cited .exit)) ⌝ }
 {
+    whole(*cited);
     let mut m = attachments;
     while m != 0 {
         let i = low(m);
@@ -152,6 +155,7 @@ fn hand_out(
 )
     ensures { λ r. ⌜ CitedFor (now (blocks .entry)) (now (cited .entry)) (now (own .entry)) persons (now (citations .entry)) (now (citations .exit)) ⌝ }
 {
+    whole(*citations);
     let mut m = persons;
     while m != 0 {
         let p = low(m);
