@@ -23,7 +23,6 @@ pub mod CutBlocks
 pub mod PlaceLaws
 pub mod EvaluatedPartition
 pub mod LayLaws
-pub mod OverLaws
 pub mod CiteLaws
 pub mod CiteTurns
 pub mod CiteRules
