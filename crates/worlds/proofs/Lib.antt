@@ -20,3 +20,4 @@ pub mod AttachLaws
 pub mod CutBlocks
 pub mod PlaceLaws
 pub mod EvaluatedPartition
+pub mod SettleLaws
