@@ -28,3 +28,4 @@ pub mod CiteTurns
 pub mod CiteRules
 pub mod CiteCuts
 pub mod CiteView
+pub mod SettleLaws

@@ -1,8 +1,13 @@
 -- `cuts::settle_cuts`: steps 3 to 5 by sets of cuts.
 use borrow.Author.Needs.{needs}
+use Rattle.worlds.specs.Settled.{CutsSettled}
 use Rattle.worlds.proofs.CutsMade.{cuts-made}
+use Rattle.worlds.proofs.SettleLaws.{parts-kept, rows-noted}
 use Rattle.worlds.proofs.cuts.settle_cuts.Statement.{statement}
 use Rattle.worlds.proofs.cuts.settle_cuts.Tie as tie
+
+whole-notes-requires : tie.Need-whole-notes-requires
+whole-notes-requires c κs = search needs
 
 kept-requires : tie.Need-kept-requires
 kept-requires c κs = search needs
@@ -13,11 +18,17 @@ overlapping-requires c κs = search needs
 lowest-twins-requires : tie.Need-lowest-twins-requires
 lowest-twins-requires c κs = search needs
 
+index-1-note-clashes : tie.Need-index-1-note-clashes
+index-1-note-clashes c = search needs
+
 note-clashes-requires : tie.Need-note-clashes-requires
 note-clashes-requires c κs = search needs
 
 minus-requires : tie.Need-minus-requires
 minus-requires c κs = search needs
+
+index-1-blocked : tie.Need-index-1-blocked
+index-1-blocked c = search needs
 
 blocked-requires : tie.Need-blocked-requires
 blocked-requires c κs = search needs
@@ -46,22 +57,30 @@ returns c =
     let lowest = noted .before .before in
     let clashing = lowest .before in
     let left = clashing .before in
-    let a = left .before .args in
+    let notes = left .before in
+    let a = notes .before .before .args in
     let t = a .t .now in
-    cuts-made t (a .active) _ (a .blockings .now) _ (a .clashes .now) _ (left .kept .result) (clashing .overlapping .result) (lowest .lowest-twins .result)
-    (stood .minus .result) (out .blocked .result) (gathered .gather .result) (left .kept .ensures) (clashing .overlapping .ensures)
-    (lowest .lowest-twins .ensures) (stood .minus .ensures) (noted .note-clashes .ensures) (out .blocked .ensures .1) (out .blocked .ensures .0)
-    (gathered .gather .ensures) (c .before .gather2 .ensures) (c .minus2 .ensures)
+    let whole = notes .whole-notes .ensures in (
+      rows-noted (a .noted .now) whole _ _ (CutsSettled t (a .active) _)
+          (cuts-made t (a .active) _ _ _ _ _ (left .kept .result) (clashing .overlapping .result) (lowest .lowest-twins .result)
+          (stood .minus .result) (out .blocked .result) (gathered .gather .result) (left .kept .ensures) (clashing .overlapping .ensures)
+          (lowest .lowest-twins .ensures) (stood .minus .ensures) (noted .note-clashes .ensures) (out .blocked .ensures .1) (out .blocked .ensures .0)
+          (gathered .gather .ensures) (c .before .gather2 .ensures) (c .minus2 .ensures)),
+      parts-kept (a .noted .now) whole _ _,
+    )
 
 pub settle-cuts-spec : {M : Type 1} → statement M
 settle-cuts-spec =
     tie.close
     (tie.spec
+    whole-notes-requires
     kept-requires
     overlapping-requires
     lowest-twins-requires
+    index-1-note-clashes
     note-clashes-requires
     minus-requires
+    index-1-blocked
     blocked-requires
     index-1-gather
     gather-requires
