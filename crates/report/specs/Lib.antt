@@ -6,3 +6,4 @@ pub mod Written
 pub mod Summed
 pub mod Happened
 pub mod EventBytes
+pub mod Nine

@@ -5,6 +5,7 @@ pub mod fold;
 pub mod kinds;
 pub mod line;
 pub mod lines;
+pub mod nine;
 pub mod pairs;
 pub mod sums;
 
