@@ -18,7 +18,6 @@ ghost use mathlib.Core.List.{[]};
 ghost use Prim.Native.Nat.{ℕ, _<_};
 ghost use lib.ListN.{length, getD};
 ghost use Rattle.records.specs.Decoded.{planOf};
-ghost use Rattle.records.specs.Sound.{Sound};
 ghost use Rattle.worlds.specs.Laid.{Laid};
 ghost use Rattle.worlds.specs.Conditions.{Conditioned, EdgeConditions, ConditionsOf};
 ghost use Rattle.expressions.specs.Rules.{cutCount, attachmentCount, barCount, statusCount, cut, attachment, bar, status};
