@@ -7,3 +7,5 @@ pub mod Summed
 pub mod Happened
 pub mod EventBytes
 pub mod Nine
+pub mod Kept
+pub mod Walked

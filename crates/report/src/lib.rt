@@ -2,12 +2,14 @@
 pub mod clear;
 pub mod event;
 pub mod fold;
+pub mod judge;
 pub mod kinds;
 pub mod line;
 pub mod lines;
 pub mod nine;
 pub mod pairs;
 pub mod sums;
+pub mod walk;
 
 // What an operation answers; `specs/Operations.antt` gives document 01's numbers for each.
 pub enum Answer {
