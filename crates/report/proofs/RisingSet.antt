@@ -1,11 +1,12 @@
 -- `rising` depends on what stands in the list alone: it rises, it has the same events, and rising lists with the same events are the same.
-use mathlib.Core.Path.{_≡_, refl, sym, ap, ap₂, _∙_, subst}
+use mathlib.Core.Path.{_≡_, refl, sym, ap, ap₂, _∙_}
 use mathlib.Core.Bool.{Bool, true, false, cond}
 use mathlib.Core.List.{List, [], _∷_}
 use mathlib.Core.Logic.{_⊎_, inl, inr}
-use Prim.Native.Nat.{ℕ, _<_, _≤_}
+use Prim.Native.Nat.{ℕ, suc, _<_, _≤_, suc-le-suc, zero-le}
 use native.Mathlib.Omega.{arith}
 use lib.Dec.{eqb, ltb}
+use lib.ListN.{length, getD}
 use borrow.Author.Tests.{eqb-true, eq-eqb, ne-eqb, ltb-true, lt-ltb}
 use Rattle.records.specs.Sets.{lexLess}
 use Rattle.records.specs.Sound.{All}
@@ -14,6 +15,7 @@ use Rattle.records.proofs.Every.{all-then}
 use Rattle.records.proofs.Local.{clash}
 use Rattle.report.specs.EventList.{insert, rising}
 use Rattle.report.specs.Happened.{Rises}
+use Rattle.report.proofs.AmongLaws.{Among, all-each, each-all}
 
 -- ---- byte order
 
@@ -74,25 +76,20 @@ order (x ∷ xs) (y ∷ ys) = go (lt-or-le x y) (lt-or-le y x) (order xs ys)
     go (inr l) (inl k) o = more (less-head y x ys xs k)
     go (inr l) (inr k) o = next (omega arith) o
 
--- ---- what stands in a list
-
-abbrev pub Among : {A : Type 0} → A → List A → Type 0
-Among a [] = ⊥
-Among a (x ∷ xs) = (a ≡ x) ⊎ Among a xs
-
-pub all-each : {A : Type 0} (Q : A → Type 0) (xs : List A) → All Q xs → (a : A) → Among a xs → Q a
-all-each Q [] h a k = absurd k
-all-each Q (x ∷ xs) h a (inl e) = subst Q (sym e) (h .0)
-all-each Q (x ∷ xs) h a (inr k) = all-each Q xs (h .1) a k
-
-pub each-all : {A : Type 0} (Q : A → Type 0) (xs : List A) → ((a : A) → Among a xs → Q a) → All Q xs
-each-all Q [] h = tt
-each-all Q (x ∷ xs) h = (h x (inl refl), each-all Q xs (λ a k. h a (inr k)))
-
 -- the same events, in whatever order and however often
 pub record Same (es fs : List (List ℕ)) : Type 0 where
   pub there : (e : List ℕ) → Among e es → Among e fs
   pub back : (e : List ℕ) → Among e fs → Among e es
+
+-- ---- a list that rises
+
+-- each before the next is enough
+pub rises-next : (es : List (List ℕ)) → ((i : ℕ) → suc i < length es → lexLess (getD es i []) (getD es (suc i) []) ≡ true) → Rises es
+rises-next [] h = tt
+rises-next (e ∷ []) h = (tt, tt)
+rises-next (e ∷ (f ∷ fs)) h =
+    let r = rises-next (f ∷ fs) (λ i l. h (suc i) (suc-le-suc l)) in let l = h 0 (suc-le-suc (suc-le-suc zero-le)) in
+    ((l, all-then _ _ (λ y k. less-thru e f y l k) fs (r .0)), r)
 
 -- ---- inserting
 
@@ -149,7 +146,7 @@ insert-rises e (x ∷ xs) r =
     go l d (inl z) = ap (lexLess x) z ∙ l
     go l d (inr k) = all-each (λ y. lexLess x y ≡ true) xs (r .0) d k
 
--- ---- a list that rises
+-- ---- `rising` rises, and has the events of its list
 
 pub rising-rises : (es : List (List ℕ)) → Rises (rising es)
 unfolding rising
@@ -176,6 +173,7 @@ behind : (x y : List ℕ) (xs ys : List (List ℕ)) → x ≡ y → All (λ z. l
 behind x y xs ys e h d k (inl z) = clash (all-each (λ z. lexLess x z ≡ true) xs h d k) (ap (lexLess x) (z ∙ sym e) ∙ less-self x)
 behind x y xs ys e h d k (inr j) = j
 
+-- two rising lists with the same events
 pub rises-once : (es fs : List (List ℕ)) → Rises es → Rises fs → Same es fs → es ≡ fs
 rises-once [] [] r s h = refl
 rises-once [] (f ∷ fs) r s h = absurd (h .back f (inl refl))
@@ -193,7 +191,7 @@ rises-once (e ∷ es) (f ∷ fs) r s h =
     first (inr j) (inr k) =
         clash (less-thru e f e (all-each (λ z. lexLess e z ≡ true) es (r .0) f k) (all-each (λ z. lexLess f z ≡ true) fs (s .0) e j)) (less-self e)
 
--- THE LAWS
+-- THE LAWS: `rising` by what stands in the list; a list that rises is `rising` of each list with its events
 pub rising-set : {es fs : List (List ℕ)} → Same es fs → rising es ≡ rising fs
 rising-set {es} {fs} h =
     rises-once (rising es) (rising fs) (rising-rises es) (rising-rises fs)
