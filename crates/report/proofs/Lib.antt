@@ -13,3 +13,7 @@ pub mod Places
 pub mod Weaker
 pub mod Sanity
 pub mod Needed
+pub mod AmongLaws
+pub mod RisingSet
+pub mod RisingKinds
+pub mod HappenedAll
