@@ -1,9 +1,4 @@
-<<<<<<< HEAD
--- The events of all worlds, from the sets of rules that the worlds show them of: what is kept while the worlds are looked at, and the list that is
--- written from it.
-=======
 -- The events of all worlds by sets of rules: the list that is written from the sets, and what the sets hold once the worlds were looked at.
->>>>>>> h-rising
 use mathlib.Core.Path.{_≡_}
 use mathlib.Core.Bool.{Bool, true, _&&_, not}
 use mathlib.Core.List.{List, [], _∷_, _++_, map, flatMap}
@@ -17,11 +12,7 @@ use Rattle.expressions.specs.Rules.{edgeCount, cutCount, attachmentCount, barCo
 use Rattle.expressions.specs.Nodes.{on}
 use Rattle.expressions.specs.Bindings.{elections, defaultOf}
 use Rattle.worlds.specs.World.{World, looseComponents, standing, blockedBy, barHolds}
-<<<<<<< HEAD
-use Rattle.worlds.specs.Events.{littleBytes, event, listed, electionActor, electionEvidence, leastOfMerged}
-=======
 use Rattle.worlds.specs.Events.{event, listed, electionActor, electionEvidence, leastOfMerged}
->>>>>>> h-rising
 use Rattle.report.specs.EventList.{numberOf, electionCitation}
 
 -- each before all that come after it
@@ -29,11 +20,7 @@ abbrev pub Rises : List (List ℕ) → Type 0
 Rises [] = Unit {0}
 Rises (e ∷ es) = All (λ f. lexLess e f ≡ true) es × Rises es
 
-<<<<<<< HEAD
--- ---- the list, by kind
-=======
 -- ---- the list: kinds in order, in each kind the rules in order; `nines` are the masks of kind 9
->>>>>>> h-rising
 
 unfoldable pub frozenOver : Plan → ℕ → List (List ℕ)
 frozenOver P frozen = listed (edgeCount P) (has frozen) (λ i. event 1 i (edge P i .left) (edge P i .right) 0)
@@ -80,11 +67,7 @@ happened P C frozen applied blockings clashes moved barring excluding defaults n
     ++ (attachmentOver P C moved
     ++ (barOver P barring ++ (statusOver P excluding ++ (defaultOver P defaults ++ discretionOver nines)))))))
 
-<<<<<<< HEAD
--- ---- what the sets hold once these worlds were looked at
-=======
 -- ---- what the sets hold: each rule that some world shows an event of
->>>>>>> h-rising
 
 -- the earlier and the later of two merged sets that meet, each by its lowest cut
 abbrev pub overlaps : Plan → World → ℕ → ℕ → Bool
