@@ -1,6 +1,7 @@
 pub mod Starred
 pub mod LinesAt
 pub mod LineBytes
+pub mod Numbered
 pub mod OpenedLaws
 pub mod LineBlocks
 pub mod Blocks
