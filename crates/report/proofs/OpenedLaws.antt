@@ -38,7 +38,7 @@ module _ (plan case : List ℕ) (room : ℕ) where
 
   abbrev pub OnOpened : Opened → Type 0
   OnOpened (stopped a) = told a .refusal ≡ 0 → ⊥
-  OnOpened (incomplete r) = WereRead plan case
+  OnOpened (incomplete r) = (P : Plan) × (C : Case) × (checkedPlan plan ≡ fine P) × (readCase P case ≡ fine C) × (caseHeading C .roster ≡ r)
   OnOpened (ready P C bs) = Ready P C bs
 
   or-stop : {A : Type 0} (v : Verdict A) (f : A → Opened) → Numbered v → ((a : A) → v ≡ fine a → OnOpened (f a)) → OnOpened (orStop v f)
@@ -65,7 +65,7 @@ module _ (plan case : List ℕ) (room : ℕ) where
           past-faults (λ D. D ≡ C) (booleansAt C) (booleanFaults [] (C .booleans)) (fine C) (λ _. refl)))
 
       pick : (b : Bool) → OnOpened (cond b (incomplete (caseHeading C .roster)) (orStop (bindable C) (λ C. counted P C (bindings P C))))
-      pick true = (P, C, h .accepted, h .read)
+      pick true = (P, C, h .accepted, h .read, refl)
       pick false =
           or-stop (bindable C) (λ C. counted P C (bindings P C)) (bindable-numbered C)
           (λ D e. few D (itself D e) (ltb (caseHeading D .mostWorlds) (worldCount P (bindings P D))) _ _)
@@ -84,7 +84,7 @@ module _ (plan case : List ℕ) (room : ℕ) where
     where
       pick : (o : Opened) → OnOpened o → told (make o) .refusal ≡ 0 → WereRead plan case
       pick (stopped a) h e = absurd (h (ap (λ (x : Answer). told x .refusal) (sym (same a)) ∙ e))
-      pick (incomplete r) h e = h
+      pick (incomplete r) h e = (h .0, h .1, h .2, h .3)
       pick (ready P C bs) h e = (P, C, h .accepted, h .read)
 
 -- ---- A CASE THAT IS ANSWERED, OR OF WHICH A WORLD IS SHOWN, WAS READ OVER AN ACCEPTED PLAN
