@@ -24,7 +24,7 @@ use Rattle.report.specs.Operations.{told, Outcome, filled, refusal, writ
 use Rattle.report.proofs.LineBytes.{none, zeros, zeros-block, person-read, kind-read, block-read}
 use Rattle.report.proofs.Once.{members-once}
 use Rattle.report.proofs.Apart.{Apart, Partitioned}
-use Rattle.report.proofs.LineBlocks.{Without, With, Parted, holds-with}
+use Rattle.report.proofs.LineBlocks.{With, Parted, holds-with}
 
 within-le : (a b : ℕ) → Within a b → a ≤ b
 unfolding meet
