@@ -54,7 +54,7 @@ either-opened l e false x y bytes h k = k
 refused-gives : (l e : ℕ) (a : Answer) (bytes : List ℕ) → (told a .refusal ≡ 0 → ⊥) → Gives (refusal l e a) bytes
 refused-gives l e a bytes n h = absurd (n h)
 
-too-many : (count most : ℕ) → told (tooMany count most) .refusal ≡ 0 → ⊥
+pub too-many : (count most : ℕ) → told (tooMany count most) .refusal ≡ 0 → ⊥
 unfolding tooMany
 too-many count most = go (ltb count (2 ^ 64)) (TooManyWorlds count most) (TooManyWorlds (2 ^ 64 - 1) (2 ^ 64 - 1)) (λ h. omega arith) (λ h. omega arith)
   where

@@ -1,8 +1,12 @@
 pub mod Starred
 pub mod LinesAt
 pub mod LineBytes
+pub mod Numbered
 pub mod OpenedLaws
+pub mod Once
+pub mod Apart
 pub mod LineBlocks
+pub mod PartedLines
 pub mod Blocks
 pub mod SameViews
 pub mod Answered

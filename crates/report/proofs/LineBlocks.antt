@@ -1,122 +1,184 @@
--- Lines with a block have it from the first world: a buffer of them shows one family of blocks. Assumes nothing.
-use mathlib.Core.Path.{_≡_, refl, sym, ap, _∙_, subst}
+-- What one world, and all worlds together, say of the roster persons' blocks: a person with a block is in it, and everybody in it has that block.
+use mathlib.Core.Path.{_≡_, refl, sym, ap, ap₂, _∙_}
 use mathlib.Core.Bool.{Bool, true, false, _&&_, not, cond}
 use mathlib.Core.List.{List, [], _∷_, map}
-use mathlib.Core.Logic.{_⊎_, inl, inr}
-use Prim.Native.Nat.{ℕ, _*_, _≤_, _<_, _^_}
-use native.Mathlib.Nat.{lt-of-le-of-lt}
-use lib.ListN.{length, getD, replicate}
-use lib.Bits.{and-le-r}
-use lib.Pow.{pow-pos}
-use lib.Dec.{eqb, ltb}
-use borrow.Author.Tests.{eqb-true, eqb-false}
-use Rattle.records.specs.Sets.{has, meet, disjoint, members, allOf, unionOf}
+use mathlib.Core.Logic.{_⊎_, inl, inr, ⊎-elim}
+use Prim.Native.Nat.{ℕ, _≤_, _<_, _^_}
+use native.Mathlib.Omega.{arith}
+use lib.Dec.{eqb}
+use borrow.Author.Tests.{eqb-true, eqb-false, eq-eqb}
+use Rattle.records.specs.Sets.{has, subset, allOf, unionOf}
 use Rattle.records.specs.Plan.{Plan}
-use Rattle.records.specs.Case.{Case, caseHeading}
 use Rattle.records.specs.Sound.{All}
-use Rattle.records.proofs.SetLaws.{Within, member, antisym, thru, in-meet, of-meet}
-use Rattle.records.proofs.Every.{all-map, all-getD}
-use Rattle.expressions.specs.Bindings.{Bound}
+use Rattle.records.proofs.SetLaws.{has-none, and-parts}
+use Rattle.records.proofs.Local.{clash}
+use Rattle.expressions.specs.Rules.{rulePersons}
 use Rattle.expressions.specs.Variables.{Influence}
-use Rattle.worlds.specs.World.{World, State, marked, blockOf}
+use Rattle.worlds.specs.Active.{Active}
+use Rattle.worlds.specs.World.{World, marked, blockOf, worldOf}
 use Rattle.worlds.specs.View.{View, view}
-use Rattle.worlds.proofs.FirstBlocks.{Blocks}
-use Rattle.worlds.proofs.Partition.{equal-or-disjoint}
-use Rattle.report.specs.Line.{Line, lineBytes, lineBy, lineOver, lineIn, firstKind}
-use Rattle.report.specs.LineAt.{personAt, blockAt}
-use Rattle.report.specs.EventList.{eventLength}
-use Rattle.report.specs.declared.Answer.{Answer}
-use Rattle.report.specs.declared.Answer.the-variants.{Refused}
-use Rattle.report.specs.Operations.{filled, refusal, written, influences, linesOver, linesOf}
-use Rattle.report.proofs.LineBytes.{none, Zeros, zeros, zeros-block, person-read, block-read}
+use Rattle.worlds.proofs.Partition.{InNoBlock, InOneBlock, partition}
+use Rattle.report.specs.Line.{Line, lineBy, lineOver, firstKind}
+use Rattle.report.proofs.Apart.{InOne, InAll}
 
--- ---- the lines of a buffer, seen from one world: a family of blocks from which each line has its own, or none
+-- ---- kinds and blocks of the roster persons
 
-pub record OneFamily (s : List ℕ) : Type 0 where
-  pub block : ℕ → ℕ
-  pub self : (p : ℕ) → (block p ≡ 0) ⊎ (has (block p) p ≡ true)
-  pub apart : (p q : ℕ) → (block p ≡ block q) ⊎ (disjoint (block p) (block q) ≡ true)
-  pub read : (k : ℕ) → (blockAt s k ≡ 0) ⊎ (blockAt s k ≡ block (personAt s k))
+module _ (Blocked : ℕ → Type 0) (roster : ℕ) (kind block : ℕ → ℕ) where
+  pub record Without (p : ℕ) : Type 0 where
+    pub none : block p ≡ 0
+    pub other : Blocked (kind p) → ⊥
 
-within-le : (a b : ℕ) → Within a b → a ≤ b
-unfolding meet
-within-le a b h = subst (λ (x : ℕ). x ≤ b) (sym (antisym a (meet a b) (record { at = λ p e. in-meet a b p e (h .at p e) }) (record { at = λ p e. of-meet a b p e .0 }))) (and-le-r a b)
+  pub record With (p : ℕ) : Type 0 where
+    pub such : Blocked (kind p)
+    pub own : has (block p) p ≡ true
+    pub members : (q : ℕ) → has (block p) q ≡ true → (has roster q ≡ true) × (block q ≡ block p)
 
--- ---- lines
+  abbrev pub Parted : Type 0
+  Parted = (p : ℕ) → has roster p ≡ true → Without p ⊎ With p
 
--- the line's block is none, or its person's
-abbrev pub OfPerson : (ℕ → ℕ) → Line → Type 0
-OfPerson B l = (l .block ≡ 0) ⊎ (l .block ≡ B (l .person))
+  -- whose block holds anybody has one
+  pub holds-with : Parted → (p : ℕ) → has roster p ≡ true → (q : ℕ) → has (block p) q ≡ true → With p
+  holds-with parts p here q h =
+      ⊎-elim (λ o. clash h (ap (λ (b : ℕ). has b q) (o .none) ∙ has-none q)) (λ w. w) (parts p here)
 
-view-block : (P : Plan) (w : World) (p : ℕ) → (view P w p .block ≡ 0) ⊎ (view P w p .block ≡ blockOf (w .state) p)
-unfolding view
-view-block P w p = pick (has (marked (w .marks)) p) _ _
+-- ---- one world
+
+module _ (P : Plan) (w : World) (p : ℕ) where
+  marked-view : has (marked (w .marks)) p ≡ true → (view P w p .block ≡ 0) × (3 ≤ view P w p .kind)
+  unfolding view
+  marked-view e = rw e (refl, least (has (w .marks .overlap) p))
+    where
+      least : (b : Bool) → 3 ≤ cond {A = ℕ} b 3 4
+      least true = omega arith
+      least false = omega arith
+
+  plain-view : has (marked (w .marks)) p ≡ false → (view P w p .block ≡ blockOf (w .state) p) × (view P w p .kind ≡ 0)
+  unfolding view
+  plain-view e = rw e (refl, refl)
+
+  view-kind : (view P w p .kind ≡ 0) ⊎ (3 ≤ view P w p .kind)
+  view-kind = pick (has (marked (w .marks)) p) refl
+    where
+      pick : (b : Bool) → has (marked (w .marks)) p ≡ b → (view P w p .kind ≡ 0) ⊎ (3 ≤ view P w p .kind)
+      pick true e = inr (marked-view e .1)
+      pick false e = inl (plain-view e .1)
+
+-- what a world says of everybody
+abbrev pub PartedIn : Plan → ℕ → World → Type 0
+PartedIn P roster w = Parted InOne roster (λ p. view P w p .kind) (λ p. view P w p .block)
+
+pub world-parted : (P : Plan) (roster : ℕ) → roster < 2 ^ 64 → subset (rulePersons P) roster ≡ true → (I : Influence) (a : Active) → PartedIn P roster (worldOf P roster I a)
+world-parted P roster fits on-roster I a p here = ⊎-elim outside inside (partition P roster fits on-roster I a p here)
   where
-    pick : (b : Bool) (x y : View) → (cond b x y .block ≡ x .block) ⊎ (cond b x y .block ≡ y .block)
-    pick true x y = inl refl
-    pick false x y = inr refl
+    w : World
+    w = worldOf P roster I a
 
-line-block : (B : ℕ → ℕ) (I : Influence) (p : ℕ) (v : View) (vs : List View) → (v .block ≡ 0) ⊎ (v .block ≡ B p) → OfPerson B (lineOver I p (v ∷ vs))
-unfolding lineOver
-line-block B I p v vs h = pick (not (eqb (v .block) 0) && allOf (λ u. eqb (u .block) (v .block)) vs) (allOf (λ u. eqb (u .role) (v .role)) vs) (firstKind (v ∷ vs)) (unionOf (λ u. u .citations) (v ∷ vs))
-  where
-    pick : (b c : Bool) (kind cs : ℕ) → OfPerson B (lineBy I p b c v kind cs)
-    pick true true kind cs = h
-    pick true false kind cs = h
-    pick false c kind cs = inl refl
+    Goal : Type 0
+    Goal = Without InOne roster (λ p. view P w p .kind) (λ p. view P w p .block) p ⊎ With InOne roster (λ p. view P w p .kind) (λ p. view P w p .block) p
 
--- the lines of one world
-pub world-lines : (P : Plan) (C : Case) (bs : List Bound) (w : World) → All (OfPerson (blockOf (w .state))) (linesOf P C bs w)
-unfolding linesOf lineIn
-world-lines P C bs w = all-map (λ p. lineIn p (view P w p)) (OfPerson (blockOf (w .state))) (view-block P w) (members (caseHeading C .roster))
+    outside : (has (marked (w .marks)) p ≡ true) × InNoBlock (w .state) p → Goal
+    outside m =
+        let v = marked-view P w p (m .0) in
+        let high = v .1 in
+        inl (record { none = v .0; other = λ e. omega arith })
 
--- over all worlds: from the first, or none where there is no world
-unfoldable pub blocksIn : List World → ℕ → ℕ
-blocksIn [] p = 0
-blocksIn (w ∷ ws) p = blockOf (w .state) p
+    inside : InOneBlock roster (marked (w .marks)) (w .state) p → Goal
+    inside o =
+        let v = plain-view P w p (o .members p (o .holds) .1) in
+        inr (record {
+          such = v .1;
+          own = ap (λ (b : ℕ). has b p) (v .0) ∙ o .holds;
+          members = λ q h.
+              let m = o .members q (sym (ap (λ (b : ℕ). has b q) (v .0)) ∙ h) in
+              (m .0, plain-view P w q (m .1) .0 ∙ m .2 ∙ sym (v .0));
+        })
 
-pub lines-of : (P : Plan) (C : Case) (bs : List Bound) (ws : List World) → All (OfPerson (blocksIn ws)) (linesOver P C bs ws)
-unfolding linesOver blocksIn lineOver
-lines-of P C bs [] = all-map (λ p. lineOver (influences P C bs) p []) (OfPerson (blocksIn [])) (λ p. inl refl) (members (caseHeading C .roster))
-lines-of P C bs (w ∷ ws) =
-    all-map (λ p. lineOver (influences P C bs) p (view P w p ∷ map (λ w. view P w p) ws)) (OfPerson (blockOf (w .state)))
-    (λ p. line-block (blockOf (w .state)) (influences P C bs) p (view P w p) (map (λ w. view P w p) ws) (view-block P w p)) (members (caseHeading C .roster))
+-- ---- all worlds
 
--- ---- a buffer of such lines
+-- the block stands over the worlds
+abbrev stands : ℕ → List View → Bool
+stands b vs = not (eqb b 0) && allOf (λ u. eqb (u .block) b) vs
 
-filled-family : (room : ℕ) (ls : List Line) (B : ℕ → ℕ) → ((p : ℕ) → (B p ≡ 0) ⊎ (has (B p) p ≡ true)) → ((p q : ℕ) → (B p ≡ B q) ⊎ (disjoint (B p) (B q) ≡ true))
-    → ((p : ℕ) → B p < 2 ^ 64) → All (OfPerson B) ls → OneFamily (filled room (map lineBytes ls))
-filled-family room ls B self apart fits h = record { block = B; self = self; apart = apart; read = λ k. read k (all-getD (OfPerson B) ls none h (inl refl) k) }
-  where
-    read : (k : ℕ) → OfPerson B (getD ls k none) → (blockAt (filled room (map lineBytes ls)) k ≡ 0) ⊎ (blockAt (filled room (map lineBytes ls)) k ≡ B (personAt (filled room (map lineBytes ls)) k))
-    read k (inl z) = inl (block-read room ls k (subst (λ (b : ℕ). b < 2 ^ 64) (sym z) (pow-pos 64)) ∙ z)
-    read k (inr e) = inr (block-read room ls k (subst (λ (b : ℕ). b < 2 ^ 64) (sym e) (fits (getD ls k none .person))) ∙ e ∙ ap B (sym (person-read room ls k)))
+module _ (I : Influence) (p : ℕ) (v : View) (vs : List View) where
+  abbrev line : Line
+  line = lineOver I p (v ∷ vs)
 
-pub zeros-family : (s : List ℕ) → Zeros s → OneFamily s
-zeros-family s z = record { block = λ p. 0; self = λ p. inl refl; apart = λ p q. inl refl; read = λ k. inl (zeros-block s k z) }
+  stood : stands (v .block) vs ≡ true → (line .block ≡ v .block) × InAll (line .kind)
+  unfolding lineOver
+  stood = go (stands (v .block) vs) (allOf (λ u. eqb (u .role) (v .role)) vs) (firstKind (v ∷ vs)) (unionOf (λ u. u .citations) (v ∷ vs))
+    where
+      go : (b c : Bool) (k cs : ℕ) → b ≡ true → (lineBy I p b c v k cs .block ≡ v .block) × InAll (lineBy I p b c v k cs .kind)
+      go true true k cs e = (refl, inl refl)
+      go true false k cs e = (refl, inr refl)
+      go false c k cs e = clash e refl
 
--- lines without a block
-pub bare-family : (room : ℕ) (ls : List Line) → All (OfPerson (λ p. 0)) ls → OneFamily (filled room (map lineBytes ls))
-bare-family room ls h = filled-family room ls (λ p. 0) (λ p. inl refl) (λ p q. inl refl) (λ p. pow-pos 64) h
+  fell : stands (v .block) vs ≡ false → (firstKind (v ∷ vs) ≡ 0) ⊎ (3 ≤ firstKind (v ∷ vs)) → (line .block ≡ 0) × (InAll (line .kind) → ⊥)
+  unfolding lineOver
+  fell = go (stands (v .block) vs) (allOf (λ u. eqb (u .role) (v .role)) vs) (firstKind (v ∷ vs)) (unionOf (λ u. u .citations) (v ∷ vs))
+    where
+      other : (k : ℕ) (z : Bool) → eqb k 0 ≡ z → (k ≡ 0) ⊎ (3 ≤ k) → InAll (cond z 1 k) → ⊥
+      other k true e h (inl x) = omega arith
+      other k true e h (inr x) = omega arith
+      other k false e (inl h) x = eqb-false k 0 e h
+      other k false e (inr h) (inl x) = omega arith
+      other k false e (inr h) (inr x) = omega arith
 
--- lines of a world whose blocks are a partition
-pub world-family : (room : ℕ) (ls : List Line) (roster live : ℕ) (s : State) → roster < 2 ^ 64 → Within live roster → Blocks live s → All (OfPerson (blockOf s)) ls
-    → OneFamily (filled room (map lineBytes ls))
-world-family room ls roster live s fits w B h = filled-family room ls (blockOf s) (λ p. self p (eqb (blockOf s p) 0) refl) (equal-or-disjoint live s B) small h
-  where
-    self : (p : ℕ) (b : Bool) → eqb (blockOf s p) 0 ≡ b → (blockOf s p ≡ 0) ⊎ (has (blockOf s p) p ≡ true)
-    self p true e = inl (eqb-true (blockOf s p) 0 e)
-    self p false e =
-        let m = member (blockOf s p) (eqb-false (blockOf s p) 0 e) in
-        inr (B .self p (B .owner p (m .0) (m .1)))
+      go : (b c : Bool) (k cs : ℕ) → b ≡ false → (k ≡ 0) ⊎ (3 ≤ k) → (lineBy I p b c v k cs .block ≡ 0) × (InAll (lineBy I p b c v k cs .kind) → ⊥)
+      go true c k cs e h = clash refl e
+      go false c k cs e h = (refl, other k (eqb k 0) refl h)
 
-    small : (p : ℕ) → blockOf s p < 2 ^ 64
-    small p = lt-of-le-of-lt (within-le (blockOf s p) roster (thru (record { at = λ q k. B .alive p q k }) w)) fits
+module _ (P : Plan) (roster : ℕ) where
+  abbrev views : List World → ℕ → List View
+  views ws p = map (λ w. view P w p) ws
 
-pub written-family : (lineRoom eventRoom : ℕ) (ls : List Line) (es : List (List ℕ)) (n : ℕ) → OneFamily (filled lineRoom (map lineBytes ls)) → OneFamily (written lineRoom eventRoom ls es n .lines)
-unfolding written
-written-family lineRoom eventRoom ls es n F = pick (ltb eventRoom (eventLength * length es)) _
-  where
-    pick : (b : Bool) (a : Answer) → OneFamily (cond b (refusal lineRoom eventRoom (Refused 13 0)) (record { answer = a; lines = filled lineRoom (map lineBytes ls); events = filled eventRoom es }) .lines)
-    pick true a = zeros-family (replicate lineRoom 0) (zeros lineRoom)
-    pick false a = F
+  first-kind : (ws : List World) (p : ℕ) → (firstKind (views ws p) ≡ 0) ⊎ (3 ≤ firstKind (views ws p))
+  unfolding firstKind
+  first-kind [] p = inl refl
+  first-kind (w ∷ ws) p = pick (eqb (view P w p .kind) 0) refl (view-kind P w p) (first-kind ws p)
+    where
+      pick : (b : Bool) → eqb (view P w p .kind) 0 ≡ b → (view P w p .kind ≡ 0) ⊎ (3 ≤ view P w p .kind) → (firstKind (views ws p) ≡ 0) ⊎ (3 ≤ firstKind (views ws p))
+          → (cond b (firstKind (views ws p)) (view P w p .kind) ≡ 0) ⊎ (3 ≤ cond b (firstKind (views ws p)) (view P w p .kind))
+      pick true e h ih = ih
+      pick false e h ih = h
+
+  -- a block that a person has in all worlds, its members have in all worlds
+  carried : (b p q : ℕ) → has roster p ≡ true → has b q ≡ true → (ws : List World) → All (PartedIn P roster) ws
+      → allOf (λ u. eqb (u .block) b) (views ws p) ≡ true → allOf (λ u. eqb (u .block) b) (views ws q) ≡ true
+  unfolding allOf
+  carried b p q here h [] g e = refl
+  carried b p q here h (w ∷ ws) g e =
+      let t = and-parts (eqb (view P w p .block) b) (allOf (λ u. eqb (u .block) b) (views ws p)) e in
+      let same = eqb-true (view P w p .block) b (t .0) in
+      let inside = ap (λ (x : ℕ). has x q) same ∙ h in
+      let m = holds-with InOne roster (λ p. view P w p .kind) (λ p. view P w p .block) (g .0) p here q inside .members q inside in
+      ap₂ _&&_ (eq-eqb (view P w q .block) b (m .1 ∙ same)) (carried b p q here h ws (g .1) (t .1))
+
+  pub over-parted : (I : Influence) (ws : List World) → All (PartedIn P roster) ws
+      → Parted InAll roster (λ p. lineOver I p (views ws p) .kind) (λ p. lineOver I p (views ws p) .block)
+  unfolding lineOver
+  over-parted I [] g p here = inl (record { none = refl; other = ⊎-elim (λ e. omega arith) (λ e. omega arith) })
+  over-parted I (w ∷ ws) g p here = pick (stands (block p) (views ws p)) refl
+    where
+      block : ℕ → ℕ
+      block p = view P w p .block
+
+      line : ℕ → Line
+      line p = lineOver I p (view P w p ∷ views ws p)
+
+      pick : (b : Bool) → stands (block p) (views ws p) ≡ b → Without InAll roster (λ p. line p .kind) (λ p. line p .block) p ⊎ With InAll roster (λ p. line p .kind) (λ p. line p .block) p
+      pick false e =
+          let r = fell I p (view P w p) (views ws p) e (first-kind (w ∷ ws) p) in
+          inl (record { none = r .0; other = r .1 })
+      pick true e =
+          let r = stood I p (view P w p) (views ws p) e in
+          let t = and-parts (not (eqb (block p) 0)) (allOf (λ u. eqb (u .block) (block p)) (views ws p)) e in
+          let first = ⊎-elim (λ o. clash (t .0) (ap (λ (b : ℕ). not (eqb b 0)) (o .none))) (λ x. x) (g .0 p here) in
+          inr (record {
+            such = r .1;
+            own = ap (λ (b : ℕ). has b p) (r .0) ∙ first .own;
+            members = λ q h.
+                let inside = sym (ap (λ (b : ℕ). has b q) (r .0)) ∙ h in
+                let m = first .members q inside in
+                let same = ap (λ (b : ℕ). stands b (views ws q)) (m .1) ∙ ap₂ _&&_ (t .0) (carried (block p) p q here inside ws (g .1) (t .1)) in
+                (m .0, stood I q (view P w q) (views ws q) same .0 ∙ m .1 ∙ sym (r .0));
+          })

@@ -1,4 +1,4 @@
--- What is read out of a buffer that was filled with lines: the line's own person and block, or nothing past the last. Assumes nothing.
+-- What is read out of a buffer that was filled with lines: the line's own person, kind and block, or nothing past the last.
 use mathlib.Core.Path.{_≡_, refl, sym, ap, _∙_, subst}
 use mathlib.Core.List.{List, [], _∷_, _++_, map}
 use mathlib.Core.Logic.{_⊎_, inl, inr, ⊎-elim}
@@ -13,7 +13,7 @@ use Rattle.records.proofs.SetLaws.{lt-or-le}
 use Rattle.records.proofs.Every.{all-parts, all-getD}
 use Rattle.worlds.specs.Events.{littleBytes}
 use Rattle.report.specs.Line.{Line, lineBytes, lineLength, bareLine}
-use Rattle.report.specs.LineAt.{lineAt, personAt, blockAt}
+use Rattle.report.specs.LineAt.{lineAt, personAt, kindAt, blockAt}
 use Rattle.report.specs.Operations.{filled}
 use Rattle.report.proofs.LinesAt.{run, line-at, past-lines}
 
@@ -58,8 +58,8 @@ abbrev pub none : Line
 none = bareLine 0 0
 
 -- bytes of a line of which nothing is written
-blank : (s : List ℕ) → Zeros s → (getD s 0 0 ≡ 0) × (little (take 8 (drop 3 s)) ≡ 0)
-blank s z = (all-getD (λ b. b ≡ 0) s 0 z refl 0, zeros-little (take 8 (drop 3 s)) (zeros-parts 8 (drop 3 s) (zeros-parts 3 s z .1) .0))
+blank : (s : List ℕ) → Zeros s → ((i : ℕ) → getD s i 0 ≡ 0) × (little (take 8 (drop 3 s)) ≡ 0)
+blank s z = (all-getD (λ b. b ≡ 0) s 0 z refl, zeros-little (take 8 (drop 3 s)) (zeros-parts 8 (drop 3 s) (zeros-parts 3 s z .1) .0))
 
 pub zeros-block : (s : List ℕ) (k : ℕ) → Zeros s → blockAt s k ≡ 0
 unfolding blockAt lineAt
@@ -88,7 +88,12 @@ module _ (room : ℕ) (ls : List Line) (k : ℕ) where
   pub person-read : personAt (filled room (map lineBytes ls)) k ≡ getD ls k none .person
   unfolding personAt lineBytes
   person-read =
-      ⊎-elim (λ e. ap (λ (s : List ℕ). getD s 0 0) e) (λ r. blank (lineAt s k) (r .1) .0 ∙ ap (λ (l : Line). l .person) (sym (r .0))) placed
+      ⊎-elim (λ e. ap (λ (s : List ℕ). getD s 0 0) e) (λ r. blank (lineAt s k) (r .1) .0 0 ∙ ap (λ (l : Line). l .person) (sym (r .0))) placed
+
+  pub kind-read : kindAt (filled room (map lineBytes ls)) k ≡ getD ls k none .kind
+  unfolding kindAt lineBytes
+  kind-read =
+      ⊎-elim (λ e. ap (λ (s : List ℕ). getD s 1 0) e) (λ r. blank (lineAt s k) (r .1) .0 1 ∙ ap (λ (l : Line). l .kind) (sym (r .0))) placed
 
   pub block-read : getD ls k none .block < 2 ^ 64 → blockAt (filled room (map lineBytes ls)) k ≡ getD ls k none .block
   unfolding blockAt lineBytes

@@ -39,7 +39,7 @@ by-person I p true true v k c = refl
 by-person I p true false v k c = refl
 by-person I p false roles v k c = refl
 
-over-person : (I : Influence) (p : ℕ) (vs : List View) → lineOver I p vs .person ≡ p
+pub over-person : (I : Influence) (p : ℕ) (vs : List View) → lineOver I p vs .person ≡ p
 unfolding lineOver
 over-person I p [] = refl
 over-person I p (v ∷ vs) =

@@ -12,6 +12,9 @@ lineAt s k = take lineLength (drop (lineLength * k) s)
 unfoldable pub personAt : List ℕ → ℕ → ℕ
 personAt s k = getD (lineAt s k) 0 0
 
+unfoldable pub kindAt : List ℕ → ℕ → ℕ
+kindAt s k = getD (lineAt s k) 1 0
+
 -- 0: none
 unfoldable pub blockAt : List ℕ → ℕ → ℕ
 blockAt s k = little (take 8 (drop 3 (lineAt s k)))
