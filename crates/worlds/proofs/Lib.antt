@@ -7,3 +7,6 @@ pub mod ViewSeen
 pub mod FirstBlocks
 pub mod Partition
 pub mod ClassLaws
+pub mod LayLaws
+pub mod RelateLaws
+pub mod MakeLaws
