@@ -5,12 +5,17 @@ use mathlib.Core.Logic.{⊎-elim}
 use mathlib.Core.List.{List, [], _∷_}
 use Prim.Native.Nat.{ℕ, zero, suc, _+_, _-_, _^_, _≤_, _<_}
 use native.Mathlib.Omega.{arith}
-use lib.ListN.{length, getD}
+use lib.ListN.{length, getD, take}
 use lib.Dec.{eqb, ltb}
 use borrow.Author.Tests.{eqb-true, eqb-false, eq-eqb, ne-eqb, lt-ltb, le-ltb}
-use Rattle.records.specs.Sets.{has, one, union, disjoint, absorb, pass, passes, closeOf, unionOf, members}
-use Rattle.records.proofs.SetLaws.{has-none, has-union, has-one, has-high, union-lt, one-lt, lt-or-le}
+use Rattle.records.specs.Sets.{has, one, union, minus, disjoint, absorb, pass, passes, closeOf, unionOf, members}
+use Rattle.records.proofs.SetLaws.{has-none, has-union, has-one, has-minus, has-high, union-lt, one-lt, lt-or-le}
 use Rattle.records.proofs.Closing.{passes-next}
+use Rattle.records.specs.Plan.{Heading}
+use Rattle.records.specs.Sound.{Sound}
+use Rattle.records.specs.Decoded.{given, planOf}
+use Rattle.records.specs.declared.plan.Plan.{Plan as Coded}
+use Rattle.expressions.specs.Rules.{chained}
 use Rattle.worlds.specs.Over.{entry}
 use Rattle.worlds.proofs.ClassLaws.{gathered}
 
@@ -83,3 +88,36 @@ spread-gathered rules influence by-rules by-influence p all l few r i e =
 
     under : (q : ℕ) → has reached q ≡ true → q < 64
     under q h = ⊎-elim (λ k. k) (λ k. absurd (true≢false (sym h ∙ has-high 64 reached q bound k))) (lt-or-le q 64)
+
+-- ---- masks of all rules of a kind
+
+pub kind-has : (r n count : ℕ) → (n ≤ 64 → (i : ℕ) → has r i ≡ ltb i n) → n ≤ 64 → count ≡ n → (i : ℕ) → has r i ≡ ltb i count
+kind-has r n count h l e i = h l i ∙ ap (ltb i) (sym e)
+
+first-heading : {A : Type 0} (n : ℕ) (x d : A) → length (take n (x ∷ [])) ≡ 1 → getD (take n (x ∷ [])) 0 d ≡ x
+first-heading zero x d e = absurd (omega arith)
+first-heading (suc n) x d e = refl
+
+pub chained-is : (plan : Coded) → Sound (planOf plan) → chained (planOf plan) ≡ plan .chained
+unfolding planOf chained
+chained-is plan sound =
+    ap (λ (h : Heading). not (eqb (length (h .chain)) 0)) (first-heading (plan .headings) _ _ (sound .heading)) ∙ pick (plan .chained)
+  where
+    pick : (b : Bool) → not (eqb (length (given b (plan .chain))) 0) ≡ b
+    pick true = refl
+    pick false = refl
+
+-- the Base edges, where no chain is cited
+pub base-has : (all few base count e : ℕ) (combination cited : Bool) → has all e ≡ ltb e count → has few e ≡ (ltb e count && combination) → base ≡ minus all few
+    → cited ≡ false → has base e ≡ (ltb e count && (not combination && not cited))
+base-has all few base count e combination cited h k b q =
+    ap (λ (x : ℕ). has x e) b ∙ has-minus all few e ∙ ap₂ (λ (x y : Bool). x && not y) h k ∙ pick (ltb e count)
+  where
+    pick : (b : Bool) → (b && not (b && combination)) ≡ (b && (not combination && not cited))
+    pick true = sym (ap (λ (x : Bool). not combination && not x) q ∙ and-true (not combination))
+    pick false = refl
+
+pub base-none : (base count e : ℕ) (combination cited : Bool) → base ≡ 0 → cited ≡ true → has base e ≡ (ltb e count && (not combination && not cited))
+base-none base count e combination cited b q =
+    ap (λ (x : ℕ). has x e) b ∙ has-none e
+    ∙ sym (ap (λ (x : Bool). ltb e count && (not combination && not x)) q ∙ ap (λ (x : Bool). ltb e count && x) (and-false (not combination)) ∙ and-false (ltb e count))

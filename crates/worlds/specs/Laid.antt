@@ -1,9 +1,8 @@
 -- The rules of a plan in the tables of a case.
 use mathlib.Core.Path.{_≡_}
-use mathlib.Core.Bool.{Bool, true, false, _&&_, cond}
+use mathlib.Core.Bool.{false, _&&_, cond}
 use mathlib.Core.List.{List, [], _∷_}
-use Prim.Native.Nat.{ℕ, _<_, _≤_}
-use lib.ListN.{length}
+use Prim.Native.Nat.{ℕ, _<_}
 use lib.Dec.{eqb, ltb}
 use Rattle.records.specs.Sets.{has, one, anyOf}
 use Rattle.records.specs.Plan.{Plan, Edge, Cut, Attachment, Bar, Status}

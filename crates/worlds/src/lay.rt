@@ -1,5 +1,4 @@
 // The rules of a plan laid into the tables, once a case.
-use crate::over::gather;
 use crate::tables::ANCHORS;
 use crate::tables::ATTACHMENT_CITATIONS;
 use crate::tables::BAR_CITATIONS;
@@ -27,10 +26,8 @@ use records::plan::Edges;
 use records::plan::Statuses;
 use records::sets::bit;
 ghost use mathlib.Core.Path.{_≡_};
-ghost use mathlib.Core.Bool.{_&&_, not};
 ghost use mathlib.Core.List.{[]};
 ghost use Prim.Native.Nat.{ℕ, _<_, _≤_};
-ghost use lib.Dec.{ltb};
 ghost use lib.ListN.{length, getD};
 ghost use Rattle.records.specs.Sets.{has};
 ghost use Rattle.records.specs.Sound.{All};
