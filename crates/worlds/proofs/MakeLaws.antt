@@ -9,7 +9,7 @@ use native.Mathlib.Omega.{arith}
 use lib.Pow.{pow-pos}
 use lib.ListN.{length, getD, set, take, replicate}
 use lib.Dec.{eqb, ltb}
-use borrow.Author.Tests.{eqb-true, eqb-false, eq-eqb, ne-eqb, lt-ltb, le-ltb, ltb-true}
+use borrow.Author.Tests.{eqb-true, eqb-false, lt-ltb, le-ltb, ltb-true}
 use Rattle.records.specs.Sets.{has, one, union, minus, disjoint, meets, subset, risingLess, only, setOf, members, absorb, pass, passes, closeOf, unionBelow, foldBelow, anyOf, unionOf}
 use Rattle.records.proofs.SetLaws.{has-none, has-union, has-one, has-minus, has-high, has-not, disjoint-true, disjoint-false, of-union, in-union-l, in-union-r, union-lt, one-lt, antisym, lt-or-le}
 use Rattle.records.proofs.Closing.{passes-next, in-one}
@@ -198,14 +198,18 @@ module _ (P : Plan) (sound : Sound P) (direct : List ℕ) (says : (c : ℕ) → 
   preceding : (m : ℕ) → m < 2 ^ cutCount P → unionOf (entry direct) (members m) ≡ unionBelow (cutCount P) (λ d. only (has m d) (setOf (cut P d .precedes)))
   preceding m b =
       antisym (unionOf (entry direct) (members m)) (unionBelow (cutCount P) f)
-      (record { at = λ q h.
-          let w = union-has (entry direct) m q (few m b) h in
-          let l = under (w .0) (w .1) in
-          in-below (cutCount P) f (w .0) l .at q (in-only (has m (w .0)) _ (w .1) .at q (ap (λ (x : ℕ). has x q) (sym (says (w .0) l)) ∙ w .2)) })
-      (record { at = λ q h.
-          let w = union-find (cutCount P) f q h in
-          let o = of-only (has m (w .0)) _ q (w .2) in
-          has-union-of (entry direct) m (w .0) q (few m b) (o .0) (ap (λ (x : ℕ). has x q) (says (w .0) (w .1)) ∙ o .1) })
+      (record {
+        at = λ q h.
+            let w = union-has (entry direct) m q (few m b) h in
+            let l = under (w .0) (w .1) in
+            in-below (cutCount P) f (w .0) l .at q (in-only (has m (w .0)) _ (w .1) .at q (ap (λ (x : ℕ). has x q) (sym (says (w .0) l)) ∙ w .2));
+      })
+      (record {
+        at = λ q h.
+            let w = union-find (cutCount P) f q h in
+            let o = of-only (has m (w .0)) _ q (w .2) in
+            has-union-of (entry direct) m (w .0) q (few m b) (o .0) (ap (λ (x : ℕ). has x q) (says (w .0) (w .1)) ∙ o .1);
+      })
     where
       f : ℕ → ℕ
       f d = only (has m d) (setOf (cut P d .precedes))
@@ -265,11 +269,11 @@ pair-meets : (l r m : ℕ) → meets (union (one l) (one r)) m ≡ (has m l || h
 pair-meets l r m =
     truths (meets (union (one l) (one r)) m) (has m l || has m r)
     (λ h.
-        let w = meets-has (union (one l) (one r)) m h in
-        ⊎-elim (λ k. ap (λ (b : Bool). b || has m r) (there l (w .0) k (w .2))) (λ k. ap (λ (b : Bool). has m l || b) (there r (w .0) k (w .2)) ∙ or-true (has m l)) (of-union (one l) (one r) (w .0) (w .1)))
+    let w = meets-has (union (one l) (one r)) m h in
+    ⊎-elim (λ k. ap (λ (b : Bool). b || has m r) (there l (w .0) k (w .2))) (λ k. ap (λ (b : Bool). has m l || b) (there r (w .0) k (w .2)) ∙ or-true (has m l)) (of-union (one l) (one r) (w .0) (w .1)))
     (λ h.
-        ⊎-elim (λ k. has-meets (union (one l) (one r)) m l (in-union-l (one l) (one r) .at l (in-one l)) k)
-        (λ k. has-meets (union (one l) (one r)) m r (in-union-r (one l) (one r) .at r (in-one r)) k) (either (has m l) (has m r) h))
+    ⊎-elim (λ k. has-meets (union (one l) (one r)) m l (in-union-l (one l) (one r) .at l (in-one l)) k)
+    (λ k. has-meets (union (one l) (one r)) m r (in-union-r (one l) (one r) .at r (in-one r)) k) (either (has m l) (has m r) h))
   where
     there : (p q : ℕ) → has (one p) q ≡ true → has m q ≡ true → has m p ≡ true
     there p q k h = ap (has m) (eqb-true p q (sym (has-one p q) ∙ k)) ∙ h

@@ -1,5 +1,5 @@
 -- `make::common_of`: each mask has the numbers of its kind; of the edges the Base ones, where no chain is cited.
-use mathlib.Core.Path.{_≡_, refl, sym, ap, _∙_}
+use mathlib.Core.Path.{_≡_, refl, sym, _∙_}
 use mathlib.Core.Logic.{⊎-elim}
 use Prim.Native.Nat.{ℕ}
 use native.Mathlib.Omega.{arith}

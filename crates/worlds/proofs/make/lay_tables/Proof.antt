@@ -1,5 +1,5 @@
 -- `make::lay_tables`: what each call lays, the later ones leave, so that at the end all rows stand for the plan.
-use mathlib.Core.Path.{_≡_, refl, sym, ap, _∙_, subst}
+use mathlib.Core.Path.{_≡_, sym, _∙_, subst}
 use native.Mathlib.Omega.{arith}
 use lib.ListN.{length, length-map}
 use lib.Seq.{length-take-le}
@@ -124,15 +124,17 @@ returns c =
     let s = joined .before .before .before .before .before .before .before in
     let a = s .args in
     let n = made-length cutOf (a .plan .cuts .items) (a .plan .cuts .count) 16 (several .upto .result) (cuts-long s) (several .upto .ensures .0) in
-    record { stands = λ I k e common named.
-        tables-stand (a .plan) (a .undecided) (a .roster) (all .numbers-below .result) (few .combination-edges .result) (several .upto .result) _ _ _ _ _ _ _ _ _ _ _ _ _
-        (s .pre .sound) (s .pre .opens) (λ x. emptied (a .t .now) 9 64 x)
-        (joined .lay-edges .ensures) (cut .lay-cuts .ensures) (moved .lay-attachments .ensures) (barred .lay-bars .ensures) (excluded .lay-statuses .ensures) (opened .lay-decisions .ensures)
-        (first .direct-precedence .ensures) (chain .chains .ensures) (sym n)
-        (kind-has (all .numbers-below .result) (several .upto .result) _ (all .numbers-below .ensures) (omega (arith, several .upto .ensures .1)) n)
-        (few .combination-edges .ensures) (beside .relate-cuts .ensures) (c .lay-spread .ensures)
-        I k (used-take (a .groups .sets) (a .groups .count) 144 (k₂ .upto2 .result) (groups-long s) (k₂ .upto2 .ensures .0) ∙ s .pre .sets)
-        (e ∙ sym (used-take (a .influence .sets) (a .influence .count) 80 (k₃ .upto3 .result) (influence-long s) (k₃ .upto3 .ensures .0))) (s .fits .roster .fits) common named }
+    record {
+      stands = λ I k e common named.
+          tables-stand (a .plan) (a .undecided) (a .roster) (all .numbers-below .result) (few .combination-edges .result) (several .upto .result) _ _ _ _ _ _ _ _ _ _ _ _ _
+          (s .pre .sound) (s .pre .opens) (λ x. emptied (a .t .now) 9 64 x)
+          (joined .lay-edges .ensures) (cut .lay-cuts .ensures) (moved .lay-attachments .ensures) (barred .lay-bars .ensures) (excluded .lay-statuses .ensures) (opened .lay-decisions .ensures)
+          (first .direct-precedence .ensures) (chain .chains .ensures) (sym n)
+          (kind-has (all .numbers-below .result) (several .upto .result) _ (all .numbers-below .ensures) (omega (arith, several .upto .ensures .1)) n)
+          (few .combination-edges .ensures) (beside .relate-cuts .ensures) (c .lay-spread .ensures)
+          I k (used-take (a .groups .sets) (a .groups .count) 144 (k₂ .upto2 .result) (groups-long s) (k₂ .upto2 .ensures .0) ∙ s .pre .sets)
+          (e ∙ sym (used-take (a .influence .sets) (a .influence .count) 80 (k₃ .upto3 .result) (influence-long s) (k₃ .upto3 .ensures .0))) (s .fits .roster .fits) common named;
+    }
 
 pub lay-tables-spec : {M : Type 1} → statement M
 lay-tables-spec =

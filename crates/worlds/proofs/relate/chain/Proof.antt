@@ -1,6 +1,6 @@
 -- `relate::chain`: after i turns all that are reached in i steps.
-use mathlib.Core.Path.{_≡_, refl, sym, ap, _∙_}
-use Prim.Native.Nat.{ℕ, _-_, _≤_}
+use mathlib.Core.Path.{_≡_, ap, _∙_}
+use Prim.Native.Nat.{_-_, _≤_}
 use borrow.Author.Needs.{needs}
 use Rattle.records.specs.Sets.{union}
 use Rattle.worlds.specs.Related.{chainBy}
