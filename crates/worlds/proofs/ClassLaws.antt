@@ -112,7 +112,7 @@ union-closes ss [] = sym (close-same ss 0 (closed-none ss))
 union-closes ss (p ∷ ps) = ap (union (closeOf ss (one p))) (union-closes ss ps) ∙ sym (close-union ss (one p) (unionOf one ps))
 
 -- where it holds the classes of a set's persons: all who are joined to someone of the set
-gathered : (ss table : List ℕ) (s : ℕ) → s < 2 ^ 64 → ((q : ℕ) → has s q ≡ true → entry table q ≡ closeOf ss (one q)) → unionOf (entry table) (members s) ≡ closeOf ss s
+pub gathered : (ss table : List ℕ) (s : ℕ) → s < 2 ^ 64 → ((q : ℕ) → has s q ≡ true → entry table q ≡ closeOf ss (one q)) → unionOf (entry table) (members s) ≡ closeOf ss s
 gathered ss table s b h =
     antisym (unionOf (entry table) (members s)) (unionOf (λ q. closeOf ss (one q)) (members s))
     (union-alike (entry table) (λ q. closeOf ss (one q)) s b h) (union-alike (λ q. closeOf ss (one q)) (entry table) s b (λ q e. sym (h q e)))

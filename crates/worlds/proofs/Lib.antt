@@ -29,3 +29,7 @@ pub mod CiteRules
 pub mod CiteCuts
 pub mod CiteView
 pub mod SettleLaws
+pub mod ClassLaws
+pub mod LayLaws
+pub mod RelateLaws
+pub mod MakeLaws

@@ -1,6 +1,6 @@
 -- How the cuts of a plan stand to each other and to the Combination edges, in the tables of a case.
 use mathlib.Core.Path.{_≡_}
-use mathlib.Core.Bool.{Bool, true, false, _&&_, not}
+use mathlib.Core.Bool.{true, false, _&&_, not}
 use mathlib.Core.List.{List, [], _∷_}
 use Prim.Native.Nat.{ℕ, _<_, _-_, _^_}
 use lib.Dec.{eqb, ltb}

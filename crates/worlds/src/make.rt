@@ -26,15 +26,11 @@ use records::plan::Plan;
 use records::sets::bit;
 use records::sets::minus;
 ghost use mathlib.Core.Path.{_≡_};
-ghost use mathlib.Core.Bool.{_&&_};
 ghost use Prim.Native.Nat.{ℕ, _≤_};
 ghost use lib.Dec.{ltb};
-ghost use lib.ListN.{take};
 ghost use Rattle.records.specs.Sets.{has};
 ghost use Rattle.records.specs.Sound.{Sound};
 ghost use Rattle.records.specs.Decoded.{planOf};
-ghost use Rattle.expressions.specs.Rules.{edgeCount, edge};
-ghost use Rattle.expressions.specs.Coded.{edgesOf};
 ghost use Rattle.worlds.specs.Made.{Combination, SpreadLaid, CommonFor, Ready, Made};
 
 // The numbers below n.
