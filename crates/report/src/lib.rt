@@ -2,6 +2,7 @@
 pub mod clear;
 pub mod fold;
 pub mod line;
+pub mod lines;
 pub mod sums;
 
 // What an operation answers; `specs/Operations.antt` gives document 01's numbers for each.
