@@ -29,7 +29,5 @@ pub mod CiteRules
 pub mod CiteCuts
 pub mod CiteView
 pub mod SettleLaws
-pub mod ClassLaws
-pub mod LayLaws
 pub mod RelateLaws
 pub mod MakeLaws
