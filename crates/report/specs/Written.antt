@@ -1,10 +1,10 @@
 -- What the code's lines stand for, and how they follow from the sums of persons.
 use mathlib.Core.Path.{_≡_}
 use mathlib.Core.Bool.{true}
-use mathlib.Core.List.{List, [], _∷_, _++_, flatMap}
+use mathlib.Core.List.{List, _∷_, _++_, flatMap}
 use Prim.Native.Nat.{ℕ, _*_, _<_}
 use lib.ListN.{drop}
-use Rattle.records.specs.Sets.{has, size, members, allOf, unionOf}
+use Rattle.records.specs.Sets.{has, size, members, unionOf}
 use Rattle.records.specs.Sound.{All}
 use Rattle.expressions.specs.Variables.{Influence}
 use Rattle.worlds.specs.View.{View}

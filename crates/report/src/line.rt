@@ -6,6 +6,7 @@ ghost use mathlib.Core.List.{_++_, flatMap};
 ghost use Prim.Native.Nat.{_*_, _≤_};
 ghost use Rattle.records.specs.Sets.{size, members};
 ghost use lib.ListN.{length, drop};
+ghost use Rattle.worlds.specs.Events.{littleBytes};
 ghost use Rattle.report.specs.Line.{lineBytes, bareLine};
 ghost use Rattle.report.specs.Written.{lineFrom};
 
@@ -19,44 +20,67 @@ pub struct Line {
     pub citations: u64,
 }
 
+// The bytes of a mask, the lowest first.
+fn mask_bytes(m: u64) -> [u8; 8]
+    ensures { λ r. ⌜ r ≡ littleBytes 8 m ⌝ }
+{
+    let m1 = m / 256;
+    let m2 = m1 / 256;
+    let m3 = m2 / 256;
+    let m4 = m3 / 256;
+    let m5 = m4 / 256;
+    let m6 = m5 / 256;
+    let m7 = m6 / 256;
+    [
+        (m % 256) as u8,
+        (m1 % 256) as u8,
+        (m2 % 256) as u8,
+        (m3 % 256) as u8,
+        (m4 % 256) as u8,
+        (m5 % 256) as u8,
+        (m6 % 256) as u8,
+        (m7 % 256) as u8,
+    ]
+}
+
 // Person, kind, role, block, open facts, open decisions, citations; each number's lowest byte first.
 pub fn encode(l: Line) -> [u8; 29]
     ensures { λ r. ⌜ r ≡ lineBytes (lineFrom l) ⌝ }
 {
-    let b = l.block;
-    let f = l.facts;
+    let b = mask_bytes(l.block);
+    let f = mask_bytes(l.facts);
     let d = l.decisions;
-    let c = l.citations;
+    let c = mask_bytes(l.citations);
     [
         l.person,
         l.kind,
         l.role,
-        (b % 256) as u8,
-        (b / 256 % 256) as u8,
-        (b / 65536 % 256) as u8,
-        (b / 16777216 % 256) as u8,
-        (b / 4294967296 % 256) as u8,
-        (b / 1099511627776 % 256) as u8,
-        (b / 281474976710656 % 256) as u8,
-        (b / 72057594037927936 % 256) as u8,
-        (f % 256) as u8,
-        (f / 256 % 256) as u8,
-        (f / 65536 % 256) as u8,
-        (f / 16777216 % 256) as u8,
-        (f / 4294967296 % 256) as u8,
-        (f / 1099511627776 % 256) as u8,
-        (f / 281474976710656 % 256) as u8,
-        (f / 72057594037927936 % 256) as u8,
+        b[0],
+        b[1],
+        b[2],
+        b[3],
+        b[4],
+        b[5],
+        b[6],
+        b[7],
+        f[0],
+        f[1],
+        f[2],
+        f[3],
+        f[4],
+        f[5],
+        f[6],
+        f[7],
         (d % 256) as u8,
         (d / 256 % 256) as u8,
-        (c % 256) as u8,
-        (c / 256 % 256) as u8,
-        (c / 65536 % 256) as u8,
-        (c / 16777216 % 256) as u8,
-        (c / 4294967296 % 256) as u8,
-        (c / 1099511627776 % 256) as u8,
-        (c / 281474976710656 % 256) as u8,
-        (c / 72057594037927936 % 256) as u8,
+        c[0],
+        c[1],
+        c[2],
+        c[3],
+        c[4],
+        c[5],
+        c[6],
+        c[7],
     ]
 }
 

@@ -15,12 +15,11 @@ use records::sets::contains;
 use worlds::over::low;
 use worlds::over::others;
 ghost use mathlib.Core.Path.{_≡_};
-ghost use mathlib.Core.List.{_++_, flatMap};
 ghost use Prim.Native.Nat.{_*_, _≤_, _<_, _%_};
-ghost use lib.ListN.{length, drop};
-ghost use Rattle.records.specs.Sets.{size, members};
+ghost use lib.ListN.{length};
+ghost use Rattle.records.specs.Sets.{size};
 ghost use Rattle.report.specs.Line.{holding as holdingOf};
-ghost use Rattle.report.specs.Written.{lineFrom, LineBy, LinesBy};
+ghost use Rattle.report.specs.Written.{LineBy, LinesBy};
 
 // The numbers of the sets that hold a person.
 fn holding(sets: &[u64], p: u8) -> u64
