@@ -9,3 +9,5 @@ pub mod EventBytes
 pub mod Nine
 pub mod Kept
 pub mod Walked
+pub mod Free
+pub mod Known

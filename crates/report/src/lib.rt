@@ -2,8 +2,10 @@
 pub mod clear;
 pub mod event;
 pub mod fold;
+pub mod free;
 pub mod judge;
 pub mod kinds;
+pub mod known;
 pub mod line;
 pub mod lines;
 pub mod nine;
