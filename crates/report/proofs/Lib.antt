@@ -23,3 +23,4 @@ pub mod RisingKinds
 pub mod HappenedAll
 pub mod FoldLaws
 pub mod WriteLaws
+pub mod NineLaws

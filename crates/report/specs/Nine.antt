@@ -6,6 +6,7 @@ use Prim.Native.Nat.{ℕ, _+_, _*_, _-_, _<_, _≤_}
 use lib.ListN.{length, replicate, drop}
 use lib.Dec.{eqb, ltb}
 use Rattle.records.specs.Sets.{anyOf, members}
+use Rattle.records.specs.Sound.{All}
 use Rattle.worlds.specs.Events.{event}
 use Rattle.worlds.specs.Over.{entry}
 use Rattle.report.specs.EventList.{insert, rising}
@@ -29,8 +30,9 @@ pub record Inserted (n : ℕ) (e before after : List ℕ) (r : ℕ) : Type 0 whe
   pub few : r ≤ n + 1
   pub long : length after ≡ length before
 
--- the buffer holds these events in order, and zeros; or they do not fit
+-- the buffer holds these events of 12 bytes in order, and zeros; or they do not fit
 pub record Nines (es : List (List ℕ)) (l : Listing) (events : List ℕ) : Type 0 where
+  pub each : All (λ e. length e ≡ 12) es
   pub fitting : l .full ≡ false → (l .count ≡ length (rising es)) × (12 * length (rising es) ≤ length events)
       × (events ≡ flatMap (λ e. e) (rising es) ++ replicate (length events - 12 * length (rising es)) 0)
   pub over : l .full ≡ true → length events < 12 * length (rising es)
