@@ -54,8 +54,8 @@ over-both place n k vs ws b e h =
     let x : over place n vs b ≡ f ++ drop (place + n) b = sym (append-assoc (take place b) vs (drop (place + n) b)) in
     let t : take (place + n) (over place n vs b) ≡ f = ap (take (place + n)) x ∙ take-at f (drop (place + n) b) (place + n) l in
     let d : drop (place + n + k) (over place n vs b) ≡ drop (place + (n + k)) b =
-        ap (drop (place + n + k)) x ∙ ap (λ (j : ℕ). drop (j + k) (f ++ drop (place + n) b)) (sym l) ∙ drop-append-add f (drop (place + n) b) k ∙ drop-drop k (place + n) b
-        ∙ ap (λ (j : ℕ). drop j b) (let z : place + n + k ≡ place + (n + k) = omega arith in z) in
+    ap (drop (place + n + k)) x ∙ ap (λ (j : ℕ). drop (j + k) (f ++ drop (place + n) b)) (sym l) ∙ drop-append-add f (drop (place + n) b) k ∙ drop-drop k (place + n) b
+    ∙ ap (λ (j : ℕ). drop j b) (let z : place + n + k ≡ place + (n + k) = omega arith in z) in
     ap₂ (λ (y z : List ℕ). y ++ (ws ++ z)) t d ∙ simp append-assoc
 
 -- a part of b that is written from its start on
@@ -97,7 +97,7 @@ module _ (f : ℕ → List ℕ) (at all : ℕ) (before : List ℕ) (m place : �
   pub writing-room : (m ≡ 0 → ⊥) → at + 12 * size all ≤ length before → place + 12 ≤ length after
   writing-room n h =
       let e : size m ≡ suc (size (bitAnd m (m - 1))) =
-          sym (members-length m) ∙ ap length (members-next m (w .fits) n) ∙ ap suc (members-length (bitAnd m (m - 1))) in
+      sym (members-length m) ∙ ap length (members-next m (w .fits) n) ∙ ap suc (members-length (bitAnd m (m - 1))) in
       omega (arith, w .long, w .room)
 
   -- the next number is of the set

@@ -24,3 +24,4 @@ pub mod HappenedAll
 pub mod FoldLaws
 pub mod WriteLaws
 pub mod NineLaws
+pub mod EventLaws

@@ -11,3 +11,5 @@ pub mod Kept
 pub mod Walked
 pub mod Free
 pub mod Known
+pub mod Opening
+pub mod EventsWritten

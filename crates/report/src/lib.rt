@@ -3,6 +3,8 @@ pub mod clear;
 pub mod event;
 pub mod fold;
 pub mod free;
+pub mod happened;
+pub mod heading;
 pub mod judge;
 pub mod kinds;
 pub mod known;
