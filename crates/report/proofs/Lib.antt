@@ -21,3 +21,4 @@ pub mod AmongLaws
 pub mod RisingSet
 pub mod RisingKinds
 pub mod HappenedAll
+pub mod FoldLaws
