@@ -6,11 +6,8 @@ pub mod judge;
 pub mod kinds;
 pub mod line;
 pub mod lines;
-<<<<<<< HEAD
 pub mod nine;
 pub mod pairs;
-=======
->>>>>>> h-fold
 pub mod sums;
 pub mod walk;
 
