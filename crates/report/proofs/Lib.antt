@@ -25,3 +25,4 @@ pub mod FoldLaws
 pub mod WriteLaws
 pub mod NineLaws
 pub mod EventLaws
+pub mod KeptLaws
