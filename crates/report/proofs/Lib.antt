@@ -22,3 +22,4 @@ pub mod RisingSet
 pub mod RisingKinds
 pub mod HappenedAll
 pub mod FoldLaws
+pub mod WalkLaws
