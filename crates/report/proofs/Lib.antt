@@ -26,3 +26,4 @@ pub mod WriteLaws
 pub mod NineLaws
 pub mod EventLaws
 pub mod KeptLaws
+pub mod WalkLaws
