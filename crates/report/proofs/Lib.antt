@@ -13,3 +13,4 @@ pub mod Places
 pub mod Weaker
 pub mod Sanity
 pub mod Needed
+pub mod EventLaws

@@ -18,19 +18,26 @@ pub fn encode_event(e: Event) -> [u8; 12]
     ensures { λ r. ⌜ r ≡ event (e .kind) (e .a) (e .b) (e .c) (e .mask) ⌝ }
 {
     let m = e.mask;
+    let m1 = m / 256;
+    let m2 = m1 / 256;
+    let m3 = m2 / 256;
+    let m4 = m3 / 256;
+    let m5 = m4 / 256;
+    let m6 = m5 / 256;
+    let m7 = m6 / 256;
     [
         e.kind,
         e.a,
         e.b,
         e.c,
         (m % 256) as u8,
-        (m / 256 % 256) as u8,
-        (m / 65536 % 256) as u8,
-        (m / 16777216 % 256) as u8,
-        (m / 4294967296 % 256) as u8,
-        (m / 1099511627776 % 256) as u8,
-        (m / 281474976710656 % 256) as u8,
-        (m / 72057594037927936 % 256) as u8,
+        (m1 % 256) as u8,
+        (m2 % 256) as u8,
+        (m3 % 256) as u8,
+        (m4 % 256) as u8,
+        (m5 % 256) as u8,
+        (m6 % 256) as u8,
+        (m7 % 256) as u8,
     ]
 }
 
