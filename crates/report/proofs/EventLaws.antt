@@ -1,12 +1,26 @@
 -- Events as bytes: written one by one into a lent buffer, for the numbers of a set, and set after set.
 use mathlib.Core.Path.{_≡_, refl, sym, ap, ap₂, _∙_, subst}
+use mathlib.Core.Bool.{Bool, true, false, cond, _||_, or-true, false≢true}
+use mathlib.Core.Logic.{⊎-elim}
 use mathlib.Core.List.{List, [], _∷_, _++_, append-assoc, append-nil, flatMap, map}
-use Prim.Native.Nat.{ℕ, zero, suc, _+_, _-_, _*_, _^_, _≤_, _<_}
+use Prim.Native.Nat.{ℕ, zero, suc, _+_, _-_, _*_, _/_, _%_, _^_, _≤_, _<_}
+use native.Mathlib.Nat.{not-suc-le-zero, le-of-suc-le-suc, lt-trans, add-zero, zero-add}
 use native.Mathlib.Numerals.{add-one}
 use native.Mathlib.Omega.{arith}
-use lib.ListN.{length, getD, set, take, drop, length-append, length-take, length-drop}
-use lib.Seq.{drop-cons, take-suc, set-at, length-take-le, append-snoc}
-use Rattle.worlds.specs.Events.{event, littleBytes}
+use lib.Dec.{eqb}
+use lib.Arith.{lt-one}
+use lib.Bits.{bitAnd}
+use lib.ListN.{length, getD, set, take, drop, take-append-drop, length-append, length-drop, length-map, drop-of-length-le}
+use lib.Seq.{drop-cons, take-suc, set-at, length-take-le, append-snoc, take-at, take-all, drop-append-add, drop-drop}
+use borrow.Author.Tests.{eq-eqb}
+use borrow.Rule.Slice.PartMut.{putMid}
+use Rattle.records.specs.Sets.{odd, has, size, lowest, when, members, membersFrom, numbers}
+use Rattle.records.proofs.SetLaws.{has-zero, has-suc, has-none}
+use Rattle.records.proofs.MemberLaws.{members-length}
+use Rattle.expressions.proofs.ListLaws.{flat-append}
+use Rattle.worlds.specs.Events.{event, littleBytes, listed}
+use Rattle.worlds.proofs.OverLaws.{members-next, members-none, and-less, turn-has}
+use Rattle.report.specs.EventBytes.{Below, Writes}
 
 -- ---- byte by byte
 
@@ -22,3 +36,189 @@ copied-long e d i he hd = rw (length-append, length-take-le i e he, length-drop)
 pub event-length : (kind a b c mask : ℕ) → length (event kind a b c mask) ≡ 12
 unfolding event littleBytes
 event-length kind a b c mask = refl
+
+-- ---- bytes in place of others
+
+-- b with vs, n of them, in place of what stood at a place
+abbrev over : ℕ → ℕ → List ℕ → List ℕ → List ℕ
+over place n vs b = take place b ++ (vs ++ drop (place + n) b)
+
+over-long : (place n : ℕ) (vs b : List ℕ) → length vs ≡ n → place + n ≤ length b → length (over place n vs b) ≡ length b
+over-long place n vs b e h = rw (length-append, length-append, length-take-le place b (omega arith), length-drop) (omega arith)
+
+-- behind vs come ws: both at once
+over-both : (place n k : ℕ) (vs ws b : List ℕ) → length vs ≡ n → place + n ≤ length b → over (place + n) k ws (over place n vs b) ≡ over place (n + k) (vs ++ ws) b
+over-both place n k vs ws b e h =
+    let f = take place b ++ vs in
+    let l : length f ≡ place + n = rw (length-append, length-take-le place b (omega arith)) (omega arith) in
+    let x : over place n vs b ≡ f ++ drop (place + n) b = sym (append-assoc (take place b) vs (drop (place + n) b)) in
+    let t : take (place + n) (over place n vs b) ≡ f = ap (take (place + n)) x ∙ take-at f (drop (place + n) b) (place + n) l in
+    let d : drop (place + n + k) (over place n vs b) ≡ drop (place + (n + k)) b =
+        ap (drop (place + n + k)) x ∙ ap (λ (j : ℕ). drop (j + k) (f ++ drop (place + n) b)) (sym l) ∙ drop-append-add f (drop (place + n) b) k ∙ drop-drop k (place + n) b
+        ∙ ap (λ (j : ℕ). drop j b) (let z : place + n + k ≡ place + (n + k) = omega arith in z) in
+    ap₂ (λ (y z : List ℕ). y ++ (ws ++ z)) t d ∙ simp append-assoc
+
+-- a part of b that is written from its start on
+pub part-over : (place n : ℕ) (vs b : List ℕ) → place + n ≤ length b
+    → putMid place (length b - place) b (vs ++ drop n (take (length b - place) (drop place b))) ≡ over place n vs b
+part-over place n vs b h =
+    let q : length (drop place b) ≤ length b - place = simp length-drop (omega arith) in
+    simp (take-all (length b - place) (drop place b) q, drop-of-length-le (drop place b) q, drop-drop, append-nil)
+
+-- ---- events of a set
+
+-- events still to come, put at a place
+abbrev pub will : ℕ → List (List ℕ) → List ℕ → List ℕ
+will place es b = over place (12 * length es) (flatMap (λ e. e) es) b
+
+will-next : (place : ℕ) (vs : List ℕ) (es : List (List ℕ)) (b : List ℕ) → length vs ≡ 12 → place + 12 ≤ length b → will (place + 12) es (over place 12 vs b) ≡ will place (vs ∷ es) b
+unfolding flatMap
+will-next place vs es b e h =
+    over-both place 12 (12 * length es) vs (flatMap (λ e. e) es) b e h
+    ∙ ap (λ (k : ℕ). over place k (vs ++ flatMap (λ e. e) es) b) (let z : 12 + 12 * length es ≡ 12 * suc (length es) = omega arith in z)
+
+will-none : (place : ℕ) (b : List ℕ) → will place [] b ≡ b
+unfolding flatMap
+will-none place b = ap (λ (k : ℕ). take place b ++ drop k b) (add-zero place) ∙ take-append-drop place b
+
+-- a loop over the numbers of a set that writes an event for each: those of m are left
+pub record Writing (f : ℕ → List ℕ) (at all : ℕ) (before : List ℕ) (m place : ℕ) (after : List ℕ) : Type 0 where
+  pub fits : m < 2 ^ 64
+  pub within : (i : ℕ) → has m i ≡ true → has all i ≡ true
+  pub long : length after ≡ length before
+  pub room : place + 12 * size m ≡ at + 12 * size all
+  pub same : will place (map f (members m)) after ≡ will at (map f (members all)) before
+
+pub writing-none : (f : ℕ → List ℕ) (at all : ℕ) (before : List ℕ) → all < 2 ^ 64 → Writing f at all before all at before
+writing-none f at all before h = record { fits = h; within = λ i e. e; long = refl; room = refl; same = refl }
+
+module _ (f : ℕ → List ℕ) (at all : ℕ) (before : List ℕ) (m place : ℕ) (after : List ℕ) (w : Writing f at all before m place after) where
+  -- an event more fits
+  pub writing-room : (m ≡ 0 → ⊥) → at + 12 * size all ≤ length before → place + 12 ≤ length after
+  writing-room n h =
+      let e : size m ≡ suc (size (bitAnd m (m - 1))) =
+          sym (members-length m) ∙ ap length (members-next m (w .fits) n) ∙ ap suc (members-length (bitAnd m (m - 1))) in
+      omega (arith, w .long, w .room)
+
+  -- the next number is of the set
+  pub writing-has : (t : ℕ) → (m ≡ 0 → ⊥) → (t ≡ lowest m) × (t < 64) → has all t ≡ true
+  writing-has t n e =
+      w .within t (turn-has m (bitAnd m (m - 1)) t (w .fits) e (members-next m (w .fits) n, and-less m n) t
+      ∙ ap (λ (b : Bool). b || has (bitAnd m (m - 1)) t) (eq-eqb t t refl))
+
+  pub writing-next : (t r : ℕ) (vs : List ℕ) → (t ≡ lowest m) × (t < 64) → (members m ≡ lowest m ∷ members r) × (r < m) → vs ≡ f t → length vs ≡ 12 → place + 12 ≤ length after
+      → Writing f at all before r (place + 12) (putMid place (length after - place) after (vs ++ drop 12 (take (length after - place) (drop place after))))
+  writing-next t r vs e o v l h =
+      let x = part-over place 12 vs after h in
+      let s : size m ≡ suc (size r) = sym (members-length m) ∙ ap length (o .0) ∙ ap suc (members-length r) in
+      let left = turn-has m r t (w .fits) e o in record {
+        fits = lt-trans (o .1) (w .fits);
+        within = λ i h. w .within i (left i ∙ ap (λ (b : Bool). eqb t i || b) h ∙ or-true (eqb t i));
+        long = ap length x ∙ over-long place 12 vs after l h ∙ w .long;
+        room = omega (arith, w .room);
+        same =
+            ap (will (place + 12) (map f (members r))) x ∙ will-next place vs (map f (members r)) after l h
+            ∙ ap (λ (v : List ℕ). will place (v ∷ map f (members r)) after) (v ∙ ap f (e .0))
+            ∙ ap (λ (ps : List ℕ). will place (map f ps) after) (sym (o .0)) ∙ w .same;
+      }
+
+  -- at the end all are written
+  pub writing-end : m ≡ 0 → Writes at (map f (members all)) before after place
+  writing-end e =
+      let z : size m ≡ 0 = sym (members-length m) ∙ ap length (members-none m e) in
+      let n : length (map f (members all)) ≡ size all = length-map (members all) f ∙ members-length all in record {
+        bytes = sym (will-none place after) ∙ ap (λ (ps : List ℕ). will place (map f ps) after) (sym (members-none m e)) ∙ w .same;
+        place = omega (arith, w .room);
+      }
+
+-- ---- the numbers of a set, and the numbers below n that are of it
+
+module _ (f g : ℕ → List ℕ) (test : ℕ → Bool) where
+  abbrev listedFrom : ℕ → ℕ → List (List ℕ)
+  listedFrom n p = flatMap (λ i. cond (test i) (g i ∷ []) []) (numbers n p)
+
+  none-from : (n p : ℕ) → ((i : ℕ) → test (p + i) ≡ false) → [] ≡ listedFrom n p
+  unfolding numbers flatMap
+  none-from zero p t = refl
+  none-from (suc n) p t =
+      none-from n (suc p) (λ i. ap test (let z : suc p + i ≡ p + suc i = omega arith in z) ∙ t (suc i))
+      ∙ ap (λ (b : Bool). cond b (g p ∷ []) [] ++ listedFrom n (suc p)) (sym (ap test (let z : p ≡ p + 0 = omega arith in z) ∙ t 0))
+
+  members-from : (k n p m : ℕ) → m < 2 ^ k → ((i : ℕ) → has m i ≡ true → i < n) → ((i : ℕ) → test (p + i) ≡ has m i) → ((i : ℕ) → has m i ≡ true → f (p + i) ≡ g (p + i))
+      → map f (membersFrom k p m) ≡ listedFrom n p
+  unfolding membersFrom numbers flatMap
+  members-from zero n p m h b t s = none-from n p (λ i. t i ∙ ap (λ (x : ℕ). has x i) (lt-one h) ∙ has-none i)
+  members-from (suc k) zero p m h b t s =
+      go (m % 2) refl (members-from k 0 (suc p) (m / 2) (omega arith) (λ i e. absurd (not-suc-le-zero (b (suc i) (has-suc m i ∙ e))))
+      (λ i. ap test (let z : suc p + i ≡ p + suc i = omega arith in z) ∙ t (suc i) ∙ has-suc m i) (λ i e. absurd (not-suc-le-zero (b (suc i) (has-suc m i ∙ e)))))
+    where
+      go : (d : ℕ) → m % 2 ≡ d → map f (membersFrom k (suc p) (m / 2)) ≡ [] → map f (when (m % 2) p (membersFrom k (suc p) (m / 2))) ≡ []
+      go zero e r = ap (λ (d : ℕ). map f (when d p (membersFrom k (suc p) (m / 2)))) e ∙ r
+      go (suc d) e r = absurd (not-suc-le-zero (b 0 (has-zero m ∙ ap odd e)))
+  members-from (suc k) (suc n) p m h b t s =
+      go (m % 2) refl (members-from k n (suc p) (m / 2) (omega arith) (λ i e. le-of-suc-le-suc (b (suc i) (has-suc m i ∙ e)))
+      (λ i. ap test (next i) ∙ t (suc i) ∙ has-suc m i)
+      (λ i e. ap f (next i) ∙ s (suc i) (has-suc m i ∙ e) ∙ ap g (sym (next i))))
+    where
+      next : (i : ℕ) → suc p + i ≡ p + suc i
+      next i = omega arith
+
+      here : p ≡ p + 0
+      here = omega arith
+
+      first : (x : Bool) → has m 0 ≡ x → test p ≡ x
+      first x e = ap test here ∙ t 0 ∙ e
+
+      go : (d : ℕ) → m % 2 ≡ d → map f (membersFrom k (suc p) (m / 2)) ≡ listedFrom n (suc p)
+          → map f (when (m % 2) p (membersFrom k (suc p) (m / 2))) ≡ cond (test p) (g p ∷ []) [] ++ listedFrom n (suc p)
+      go zero e r =
+          ap (λ (d : ℕ). map f (when d p (membersFrom k (suc p) (m / 2)))) e ∙ r
+          ∙ ap (λ (x : Bool). cond x (g p ∷ []) [] ++ listedFrom n (suc p)) (sym (first false (has-zero m ∙ ap odd e)))
+      go (suc d) e r =
+          let o = has-zero m ∙ ap odd e in
+          ap (λ (d : ℕ). map f (when d p (membersFrom k (suc p) (m / 2)))) e
+          ∙ ap₂ (λ (y : List ℕ) (ys : List (List ℕ)). y ∷ ys) (ap f here ∙ s 0 o ∙ ap g (sym here)) r
+          ∙ ap (λ (x : Bool). cond x (g p ∷ []) [] ++ listedFrom n (suc p)) (sym (first true o))
+
+-- what is made for each number of a set of numbers below n
+pub listed-members : (f g : ℕ → List ℕ) (n m : ℕ) → m < 2 ^ 64 → Below m n → ((i : ℕ) → i < n → f i ≡ g i) → map f (members m) ≡ listed n (has m) g
+unfolding listed members
+listed-members f g n m h b s =
+    members-from f g (has m) 64 n 0 m h b (λ i. ap (has m) (zero-add i))
+    (λ i e. s (0 + i) (subst (λ (x : ℕ). x < n) (sym (zero-add i)) (b i e)))
+
+pub writes-listed : (f g : ℕ → List ℕ) (n at m : ℕ) {before after : List ℕ} {next : ℕ} → m < 2 ^ 64 → Below m n → ((i : ℕ) → i < n → f i ≡ g i)
+    → Writes at (map f (members m)) before after next → Writes at (listed n (has m) g) before after next
+writes-listed f g n at m {before} {after} {next} h b s = subst (λ (es : List (List ℕ)). Writes at es before after next) (listed-members f g n m h b s)
+
+-- ---- events behind events
+
+-- each has its 12 bytes
+pub record Long (es : List (List ℕ)) : Type 0 where
+  pub bytes : length (flatMap (λ e. e) es) ≡ 12 * length es
+
+pub writes-none : (at : ℕ) (b : List ℕ) → Writes at [] b b at
+writes-none at b = record { bytes = sym (will-none at b); place = omega arith }
+
+pub writes-both : (at p q : ℕ) (es fs : List (List ℕ)) (before mid after : List ℕ) → Long es → at + 12 * length es ≤ length before → Writes at es before mid p → Writes p fs mid after q
+    → Writes at (es ++ fs) before after q
+writes-both at p q es fs before mid after l h a b =
+    let n : 12 * length es + 12 * length fs ≡ 12 * length (es ++ fs) = omega (arith, length-append es fs) in record {
+      bytes =
+          b .bytes ∙ ap₂ (λ (k : ℕ) (x : List ℕ). will k fs x) (a .place) (a .bytes)
+          ∙ over-both at (12 * length es) (12 * length fs) (flatMap (λ e. e) es) (flatMap (λ e. e) fs) before (l .bytes) h
+          ∙ ap₂ (λ (k : ℕ) (x : List ℕ). over at k x before) n (sym (flat-append (λ e. e) es fs));
+      place = omega (arith, a .place, b .place);
+    }
+
+pub writes-long : {at next : ℕ} {es : List (List ℕ)} {before after : List ℕ} → Long es → at + 12 * length es ≤ length before → Writes at es before after next → length after ≡ length before
+writes-long {at} {next} {es} {before} l h w = ap length (w .bytes) ∙ over-long at (12 * length es) (flatMap (λ e. e) es) before (l .bytes) h
+
+pub long-map : {A : Type 0} (f : A → List ℕ) → ((x : A) → length (f x) ≡ 12) → (xs : List A) → Long (map f xs)
+unfolding flatMap
+long-map f h [] = record { bytes = refl }
+long-map f h (x ∷ xs) = record { bytes = length-append (f x) (flatMap (λ e. e) (map f xs)) ∙ omega (arith, h x, long-map f h xs .bytes) }
+
+pub long-both : {es fs : List (List ℕ)} → Long es → Long fs → Long (es ++ fs)
+long-both {es} {fs} a b =
+    record { bytes = ap length (flat-append (λ e. e) es fs) ∙ length-append (flatMap (λ e. e) es) (flatMap (λ e. e) fs) ∙ omega (arith, a .bytes, b .bytes, length-append es fs) }
