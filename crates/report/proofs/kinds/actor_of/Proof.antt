@@ -1,13 +1,8 @@
 -- `kinds::actor_of`: by whether there is an election.
-use mathlib.Core.Path.{ap, sym}
-use mathlib.Core.Bool.{Bool}
-use Rattle.records.specs.Decoded.{electionOf, given}
-use Rattle.worlds.specs.Events.{electionActor}
+use Rattle.records.specs.Decoded.{electionOf}
 use borrow.Author.Needs.{needs}
 use Rattle.report.proofs.kinds.actor_of.Statement.{statement}
 use Rattle.report.proofs.kinds.actor_of.Tie as tie
-use Rattle.report.proofs.kinds.actor_of.Reads as reads
-use Rattle.report.proofs.kinds.actor_of.Lts as lts
 
 returns : tie.Need-returns
 unfolding electionOf
