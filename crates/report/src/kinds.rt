@@ -23,6 +23,8 @@ ghost use Rattle.expressions.specs.Coded.{edgesOf, cutsOf, attachmentsOf, statu
 ghost use Rattle.expressions.specs.Evident.{ReadCase};
 ghost use Rattle.expressions.specs.Rules.{edgeCount, cutCount, attachmentCount, barCount, statusCount, factCount};
 ghost use Rattle.worlds.specs.Events.{electionActor, electionEvidence};
+ghost use Rattle.expressions.specs.Bindings.{defaultOf};
+ghost use Rattle.report.specs.EventList.{numberOf, electionCitation};
 ghost use Rattle.report.specs.Happened.{frozenOver, appliedOver, attachmentOver, barOver, statusOver, defaultOver};
 ghost use Rattle.report.specs.EventBytes.{Writes, Below};
 
@@ -171,6 +173,20 @@ pub fn write_statuses(events: &mut [u8], at: usize, statuses: Statuses, excludin
     place
 }
 
+// The value that an election's policy gives by default; 0 without an election or a default.
+fn default_of(e: Election) -> u8
+    ensures { λ r. ⌜ r ≡ numberOf (defaultOf (electionOf e)) ⌝ }
+{
+    if e.given && e.policy == 2 { 1 } else { 0 }
+}
+
+// The citation of an election; 0 where there is none.
+fn citation_of(e: Election) -> u64
+    ensures { λ r. ⌜ r ≡ electionCitation (electionOf e) ⌝ }
+{
+    if e.given { e.citation as u64 } else { 0 }
+}
+
 // 8 default: fact, actor, value, citation number.
 pub fn write_defaults(events: &mut [u8], at: usize, plan: Plan, defaults: u64) -> usize
     requires { ⌜ at + 12 * size defaults ≤ length (now events) ⌝ }
@@ -185,8 +201,8 @@ pub fn write_defaults(events: &mut [u8], at: usize, plan: Plan, defaults: u64) -
             kind: 8,
             a: i as u8,
             b: actor_of(e),
-            c: if e.given && e.policy == 2 { 1 } else { 0 },
-            mask: if e.given { e.citation as u64 } else { 0 },
+            c: default_of(e),
+            mask: citation_of(e),
         };
         write_event(&mut events[place..], event);
         place = place + 12;

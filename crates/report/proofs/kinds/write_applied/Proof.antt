@@ -1,0 +1,114 @@
+-- `kinds::write_applied`: the events of the numbers left, put behind those written, make the whole.
+use mathlib.Core.Path.{_≡_, ap, ap₂, _∙_}
+use Prim.Native.Nat.{ℕ}
+use native.Mathlib.Omega.{arith}
+use lib.ListN.{length-take, length-drop}
+use borrow.Author.Needs.{needs}
+use Rattle.records.specs.Plan.{Plan, Cut}
+use Rattle.records.specs.Decoded.{caseOf, cutOf}
+use Rattle.expressions.specs.Coded.{cutsOf}
+use Rattle.expressions.specs.Rules.{cutCount, cut}
+use Rattle.report.specs.EventBytes.{Below}
+use Rattle.worlds.specs.Events.{event, electionActor, electionEvidence}
+use Rattle.report.specs.Happened.{appliedOver}
+use Rattle.report.proofs.EventLaws.{Writing, writing-none, writing-room, writing-next, writing-end, writes-listed, cut-read, writing-has}
+use Rattle.report.proofs.kinds.write_applied.Statement.{statement}
+use Rattle.report.proofs.kinds.write_applied.Tie as tie
+
+abbrev Inv-loop : tie.InvT-loop
+Inv-loop events₀ at case applied cuts place₀ m₀ events place m =
+    Writing (λ (x : (P : Plan) × (P .cuts ≡ cutsOf cuts) × Below applied (cutCount P)) i. event 2 i (electionActor (cut (x .0) i .election)) 0 (electionEvidence (caseOf case) (cut (x .0) i .election))) at applied events₀ m place events
+
+abbrev μ-loop : tie.MeasureT-loop
+μ-loop events₀ at case applied cuts place₀ m₀ events place m = m
+
+loop-holds : tie.Need-loop-holds Inv-loop μ-loop
+loop-holds c = writing-none _ _ _ _ (c .before .fits .applied .fits)
+
+low-requires : tie.Need-low-requires Inv-loop μ-loop
+low-requires c κs = c .loop-test .taken
+
+mul-c : tie.Need-mul-c Inv-loop μ-loop
+mul-c c = omega (arith, c .low .ensures .1)
+
+element-copy-out-c : tie.Need-element-copy-out-c Inv-loop μ-loop
+element-copy-out-c c = c .before .before .before .before .pre .1 _ (writing-has _ _ _ _ _ _ _ (c .before .before .loop .inv) (c .low .result) (c .before .loop-test .taken) (c .low .ensures))
+
+cast-t18 : tie.Need-cast-t18 Inv-loop μ-loop
+cast-t18 c = omega (arith, c .before .before .low .ensures .1)
+
+actor-of-requires : tie.Need-actor-of-requires Inv-loop μ-loop
+actor-of-requires c κs = search needs
+
+election-evidence-requires : tie.Need-election-evidence-requires Inv-loop μ-loop
+election-evidence-requires c κs = c .before .before .before .before .before .before .before .pre .2
+
+sub-write-event : tie.Need-sub-write-event Inv-loop μ-loop
+sub-write-event c =
+    let r = writing-room _ _ _ _ _ _ _ (c .before .before .before .before .before .before .loop .inv) (c .before .before .before .before .before .loop-test .taken) (c .before .before .before .before .before .before .before .before .pre .0) in
+    omega arith
+
+part-write-event-start : tie.Need-part-write-event-start Inv-loop μ-loop
+part-write-event-start c =
+    let r = writing-room _ _ _ _ _ _ _ (c .before .before .before .before .before .before .loop .inv) (c .before .before .before .before .before .loop-test .taken) (c .before .before .before .before .before .before .before .before .pre .0) in
+    omega arith
+
+part-write-event-end : tie.Need-part-write-event-end Inv-loop μ-loop
+part-write-event-end c = search needs
+
+write-event-requires : tie.Need-write-event-requires Inv-loop μ-loop
+write-event-requires c κs =
+    let r = writing-room _ _ _ _ _ _ _ (c .before .before .before .before .before .before .before .loop .inv) (c .before .before .before .before .before .before .loop-test .taken) (c .before .before .before .before .before .before .before .before .before .pre .0) in
+    simp (length-take, length-drop) (omega arith)
+
+add-place : tie.Need-add-place Inv-loop μ-loop
+add-place c =
+    let r = writing-room _ _ _ _ _ _ _ (c .before .before .before .before .before .before .before .before .before .before .loop .inv) (c .before .before .before .before .before .before .before .before .before .loop-test .taken) (c .before .before .before .before .before .before .before .before .before .before .before .before .pre .0) in
+    omega (arith, c .before .before .before .before .before .before .before .before .before .before .loop .inv .long)
+
+others-requires : tie.Need-others-requires Inv-loop μ-loop
+others-requires c κs = c .before .before .before .before .before .before .before .before .before .loop-test .taken
+
+loop-less : tie.Need-loop-less Inv-loop μ-loop
+loop-less c = c .others .ensures .1
+
+loop-again : tie.Need-loop-again Inv-loop μ-loop
+unfolding cutOf
+loop-again c =
+    let l = c .before .before .before .before .before .before .before .before .before .before .before .loop in
+    let t = c .before .before .before .before .before .before .before .before .before .low .result in
+    let r = writing-room _ _ _ _ _ _ _ (l .inv) (c .before .before .before .before .before .before .before .before .before .before .loop-test .taken) (c .before .before .before .before .before .before .before .before .before .before .before .before .before .pre .0) in
+    writing-next _ _ _ _ _ _ _ (l .inv) _ _ _ _ _ _ _ _ (c .before .before .before .before .before .before .before .before .before .low .ensures) (c .others .ensures) r (c .before .before .before .write-event .ensures)
+    (λ x. ap₂ (λ (y z : ℕ). event 2 t y 0 z) (c .before .before .before .before .before .before .actor-of .ensures) (c .before .before .before .before .before .election-evidence .ensures)
+    ∙ ap (λ (k : Cut). event 2 t (electionActor (k .election)) 0 (electionEvidence (caseOf (c .before .before .before .before .before .before .before .before .before .before .before .before .before .args .case)) (k .election))) (cut-read (x .0) t _ _ (x .1) (x .2 t (writing-has _ _ _ _ _ _ _ (l .inv) t (c .before .before .before .before .before .before .before .before .before .before .loop-test .taken) (c .before .before .before .before .before .before .before .before .before .low .ensures)))))
+
+same-length : tie.Need-same-length Inv-loop μ-loop
+same-length c = c .before .loop .inv .long
+
+returns : tie.Need-returns Inv-loop μ-loop
+unfolding appliedOver
+returns c = λ P e b. writes-listed _ _ _ _ (c .before .before .before .fits .applied .fits) b (writing-end _ _ _ _ _ _ _ (c .before .loop .inv) (c .loop-test .left) (P, e, b))
+
+pub write-applied-spec : {M : Type 1} → statement M
+write-applied-spec =
+    tie.close
+    (tie.spec
+    Inv-loop
+    μ-loop
+    loop-holds
+    low-requires
+    mul-c
+    element-copy-out-c
+    cast-t18
+    actor-of-requires
+    election-evidence-requires
+    sub-write-event
+    part-write-event-start
+    part-write-event-end
+    write-event-requires
+    add-place
+    others-requires
+    loop-less
+    loop-again
+    same-length
+    returns)

@@ -1,0 +1,109 @@
+-- `kinds::write_attachments`: the events of the numbers left, put behind those written, make the whole.
+use mathlib.Core.Path.{_≡_, ap, _∙_}
+use native.Mathlib.Omega.{arith}
+use lib.ListN.{length-take, length-drop}
+use borrow.Author.Needs.{needs}
+use Rattle.records.specs.Plan.{Plan, Attachment}
+use Rattle.records.specs.Decoded.{caseOf, attachmentOf}
+use Rattle.expressions.specs.Coded.{attachmentsOf}
+use Rattle.expressions.specs.Rules.{attachmentCount, attachment}
+use Rattle.report.specs.EventBytes.{Below}
+use Rattle.worlds.specs.Events.{event, electionEvidence}
+use Rattle.report.specs.Happened.{attachmentOver}
+use Rattle.report.proofs.EventLaws.{Writing, writing-none, writing-room, writing-next, writing-end, writes-listed, attachment-read, writing-has}
+use Rattle.report.proofs.kinds.write_attachments.Statement.{statement}
+use Rattle.report.proofs.kinds.write_attachments.Tie as tie
+
+abbrev Inv-loop : tie.InvT-loop
+Inv-loop events₀ at case moved attachments place₀ m₀ events place m =
+    Writing (λ (x : (P : Plan) × (P .attachments ≡ attachmentsOf attachments) × Below moved (attachmentCount P)) i. event 5 i (attachment (x .0) i .anchor) (attachment (x .0) i .actor) (electionEvidence (caseOf case) (attachment (x .0) i .election))) at moved events₀ m place events
+
+abbrev μ-loop : tie.MeasureT-loop
+μ-loop events₀ at case moved attachments place₀ m₀ events place m = m
+
+loop-holds : tie.Need-loop-holds Inv-loop μ-loop
+loop-holds c = writing-none _ _ _ _ (c .before .fits .moved .fits)
+
+low-requires : tie.Need-low-requires Inv-loop μ-loop
+low-requires c κs = c .loop-test .taken
+
+mul-a : tie.Need-mul-a Inv-loop μ-loop
+mul-a c = omega (arith, c .low .ensures .1)
+
+element-copy-out-a : tie.Need-element-copy-out-a Inv-loop μ-loop
+element-copy-out-a c = c .before .before .before .before .pre .1 _ (writing-has _ _ _ _ _ _ _ (c .before .before .loop .inv) (c .low .result) (c .before .loop-test .taken) (c .low .ensures))
+
+cast-t18 : tie.Need-cast-t18 Inv-loop μ-loop
+cast-t18 c = omega (arith, c .before .before .low .ensures .1)
+
+election-evidence-requires : tie.Need-election-evidence-requires Inv-loop μ-loop
+election-evidence-requires c κs = c .before .before .before .before .before .before .pre .2
+
+sub-write-event : tie.Need-sub-write-event Inv-loop μ-loop
+sub-write-event c =
+    let r = writing-room _ _ _ _ _ _ _ (c .before .before .before .before .before .loop .inv) (c .before .before .before .before .loop-test .taken) (c .before .before .before .before .before .before .before .pre .0) in
+    omega arith
+
+part-write-event-start : tie.Need-part-write-event-start Inv-loop μ-loop
+part-write-event-start c =
+    let r = writing-room _ _ _ _ _ _ _ (c .before .before .before .before .before .loop .inv) (c .before .before .before .before .loop-test .taken) (c .before .before .before .before .before .before .before .pre .0) in
+    omega arith
+
+part-write-event-end : tie.Need-part-write-event-end Inv-loop μ-loop
+part-write-event-end c = search needs
+
+write-event-requires : tie.Need-write-event-requires Inv-loop μ-loop
+write-event-requires c κs =
+    let r = writing-room _ _ _ _ _ _ _ (c .before .before .before .before .before .before .loop .inv) (c .before .before .before .before .before .loop-test .taken) (c .before .before .before .before .before .before .before .before .pre .0) in
+    simp (length-take, length-drop) (omega arith)
+
+add-place : tie.Need-add-place Inv-loop μ-loop
+add-place c =
+    let r = writing-room _ _ _ _ _ _ _ (c .before .before .before .before .before .before .before .before .before .loop .inv) (c .before .before .before .before .before .before .before .before .loop-test .taken) (c .before .before .before .before .before .before .before .before .before .before .before .pre .0) in
+    omega (arith, c .before .before .before .before .before .before .before .before .before .loop .inv .long)
+
+others-requires : tie.Need-others-requires Inv-loop μ-loop
+others-requires c κs = c .before .before .before .before .before .before .before .before .loop-test .taken
+
+loop-less : tie.Need-loop-less Inv-loop μ-loop
+loop-less c = c .others .ensures .1
+
+loop-again : tie.Need-loop-again Inv-loop μ-loop
+unfolding attachmentOf
+loop-again c =
+    let l = c .before .before .before .before .before .before .before .before .before .before .loop in
+    let t = c .before .before .before .before .before .before .before .before .low .result in
+    let r = writing-room _ _ _ _ _ _ _ (l .inv) (c .before .before .before .before .before .before .before .before .before .loop-test .taken) (c .before .before .before .before .before .before .before .before .before .before .before .before .pre .0) in
+    writing-next _ _ _ _ _ _ _ (l .inv) _ _ _ _ _ _ _ _ (c .before .before .before .before .before .before .before .before .low .ensures) (c .others .ensures) r (c .before .before .before .write-event .ensures)
+    (λ x. ap (event 5 t _ _) (c .before .before .before .before .before .election-evidence .ensures)
+    ∙ ap (λ (a : Attachment). event 5 t (a .anchor) (a .actor) (electionEvidence (caseOf (c .before .before .before .before .before .before .before .before .before .before .before .before .args .case)) (a .election))) (attachment-read (x .0) t _ _ (x .1) (x .2 t (writing-has _ _ _ _ _ _ _ (l .inv) t (c .before .before .before .before .before .before .before .before .before .loop-test .taken) (c .before .before .before .before .before .before .before .before .low .ensures)))))
+
+same-length : tie.Need-same-length Inv-loop μ-loop
+same-length c = c .before .loop .inv .long
+
+returns : tie.Need-returns Inv-loop μ-loop
+unfolding attachmentOver
+returns c = λ P e b. writes-listed _ _ _ _ (c .before .before .before .fits .moved .fits) b (writing-end _ _ _ _ _ _ _ (c .before .loop .inv) (c .loop-test .left) (P, e, b))
+
+pub write-attachments-spec : {M : Type 1} → statement M
+write-attachments-spec =
+    tie.close
+    (tie.spec
+    Inv-loop
+    μ-loop
+    loop-holds
+    low-requires
+    mul-a
+    element-copy-out-a
+    cast-t18
+    election-evidence-requires
+    sub-write-event
+    part-write-event-start
+    part-write-event-end
+    write-event-requires
+    add-place
+    others-requires
+    loop-less
+    loop-again
+    same-length
+    returns)

@@ -1,0 +1,114 @@
+-- `kinds::write_defaults`: the events of the numbers left, put behind those written, make the whole.
+use native.Mathlib.Omega.{arith}
+use lib.ListN.{length-take, length-drop}
+use borrow.Author.Needs.{needs}
+use Rattle.records.specs.Decoded.{planOf}
+use Rattle.expressions.specs.Rules.{factCount}
+use Rattle.expressions.specs.Bindings.{elections, defaultOf}
+use Rattle.report.specs.EventList.{numberOf, electionCitation}
+use Rattle.report.specs.EventBytes.{Below}
+use Rattle.worlds.specs.Events.{event, electionActor}
+use Rattle.report.specs.Happened.{defaultOver}
+use Rattle.report.proofs.EventLaws.{Writing, writing-none, writing-room, writing-next, writing-end, writes-listed, default-read}
+use Rattle.report.proofs.kinds.write_defaults.Statement.{statement}
+use Rattle.report.proofs.kinds.write_defaults.Tie as tie
+
+abbrev Inv-loop : tie.InvT-loop
+Inv-loop events₀ at plan defaults place₀ m₀ events place m =
+    Writing (λ (x : Below defaults (factCount (planOf plan))) i. event 8 i (electionActor (elections (planOf plan) i)) (numberOf (defaultOf (elections (planOf plan) i))) (electionCitation (elections (planOf plan) i))) at defaults events₀ m place events
+
+abbrev μ-loop : tie.MeasureT-loop
+μ-loop events₀ at plan defaults place₀ m₀ events place m = m
+
+loop-holds : tie.Need-loop-holds Inv-loop μ-loop
+loop-holds c = writing-none _ _ _ _ (c .before .fits .defaults .fits)
+
+low-requires : tie.Need-low-requires Inv-loop μ-loop
+low-requires c κs = c .loop-test .taken
+
+cast-election-on : tie.Need-cast-election-on Inv-loop μ-loop
+cast-election-on c = omega (arith, c .low .ensures .1)
+
+election-on-requires : tie.Need-election-on-requires Inv-loop μ-loop
+election-on-requires c κs = search needs
+
+cast-t11 : tie.Need-cast-t11 Inv-loop μ-loop
+cast-t11 c = omega (arith, c .before .low .ensures .1)
+
+actor-of-requires : tie.Need-actor-of-requires Inv-loop μ-loop
+actor-of-requires c κs = search needs
+
+default-of-requires : tie.Need-default-of-requires Inv-loop μ-loop
+default-of-requires c κs = search needs
+
+citation-of-requires : tie.Need-citation-of-requires Inv-loop μ-loop
+citation-of-requires c κs = search needs
+
+sub-write-event : tie.Need-sub-write-event Inv-loop μ-loop
+sub-write-event c =
+    let r = writing-room _ _ _ _ _ _ _ (c .before .before .before .before .before .before .loop .inv) (c .before .before .before .before .before .loop-test .taken) (c .before .before .before .before .before .before .before .before .pre) in
+    omega arith
+
+part-write-event-start : tie.Need-part-write-event-start Inv-loop μ-loop
+part-write-event-start c =
+    let r = writing-room _ _ _ _ _ _ _ (c .before .before .before .before .before .before .loop .inv) (c .before .before .before .before .before .loop-test .taken) (c .before .before .before .before .before .before .before .before .pre) in
+    omega arith
+
+part-write-event-end : tie.Need-part-write-event-end Inv-loop μ-loop
+part-write-event-end c = search needs
+
+write-event-requires : tie.Need-write-event-requires Inv-loop μ-loop
+write-event-requires c κs =
+    let r = writing-room _ _ _ _ _ _ _ (c .before .before .before .before .before .before .before .loop .inv) (c .before .before .before .before .before .before .loop-test .taken) (c .before .before .before .before .before .before .before .before .before .pre) in
+    simp (length-take, length-drop) (omega arith)
+
+add-place : tie.Need-add-place Inv-loop μ-loop
+add-place c =
+    let r = writing-room _ _ _ _ _ _ _ (c .before .before .before .before .before .before .before .before .before .before .loop .inv) (c .before .before .before .before .before .before .before .before .before .loop-test .taken) (c .before .before .before .before .before .before .before .before .before .before .before .before .pre) in
+    omega (arith, c .before .before .before .before .before .before .before .before .before .before .loop .inv .long)
+
+others-requires : tie.Need-others-requires Inv-loop μ-loop
+others-requires c κs = c .before .before .before .before .before .before .before .before .before .loop-test .taken
+
+loop-less : tie.Need-loop-less Inv-loop μ-loop
+loop-less c = c .others .ensures .1
+
+loop-again : tie.Need-loop-again Inv-loop μ-loop
+loop-again c =
+    let l = c .before .before .before .before .before .before .before .before .before .before .before .loop in
+    let t = c .before .before .before .before .before .before .before .before .before .low .result in
+    let r = writing-room _ _ _ _ _ _ _ (l .inv) (c .before .before .before .before .before .before .before .before .before .before .loop-test .taken) (c .before .before .before .before .before .before .before .before .before .before .before .before .before .pre) in
+    writing-next _ _ _ _ _ _ _ (l .inv) _ _ _ _ _ _ _ _ (c .before .before .before .before .before .before .before .before .before .low .ensures) (c .others .ensures) r (c .before .before .before .write-event .ensures)
+    (λ x. rw (c .before .before .before .before .before .before .before .actor-of .ensures, c .before .before .before .before .before .before .default-of .ensures, c .before .before .before .before .before .citation-of .ensures, c .before .before .before .before .before .before .before .before .election-on .ensures) (default-read t (elections (planOf (c .before .before .before .before .before .before .before .before .before .before .before .before .before .args .plan)) t)))
+
+same-length : tie.Need-same-length Inv-loop μ-loop
+same-length c = c .before .loop .inv .long
+
+returns : tie.Need-returns Inv-loop μ-loop
+unfolding defaultOver
+returns c = λ b. writes-listed _ _ _ _ (c .before .before .before .fits .defaults .fits) b (writing-end _ _ _ _ _ _ _ (c .before .loop .inv) (c .loop-test .left) b)
+
+pub write-defaults-spec : {M : Type 1} → statement M
+write-defaults-spec =
+    tie.close
+    (tie.spec
+    Inv-loop
+    μ-loop
+    loop-holds
+    low-requires
+    cast-election-on
+    election-on-requires
+    cast-t11
+    actor-of-requires
+    default-of-requires
+    citation-of-requires
+    sub-write-event
+    part-write-event-start
+    part-write-event-end
+    write-event-requires
+    add-place
+    others-requires
+    loop-less
+    loop-again
+    same-length
+    returns)
