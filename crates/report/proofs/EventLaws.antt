@@ -1,11 +1,6 @@
 -- Events as bytes: written one by one into a lent buffer, for the numbers of a set, and set after set.
 use mathlib.Core.Path.{_≡_, refl, sym, ap, ap₂, _∙_, subst}
-<<<<<<< HEAD
-use mathlib.Core.Bool.{Bool, true, false, cond, _||_, or-true, false≢true}
-use mathlib.Core.Logic.{⊎-elim}
-=======
 use mathlib.Core.Bool.{Bool, true, false, cond, _||_, or-true}
->>>>>>> h-kinds
 use mathlib.Core.List.{List, [], _∷_, _++_, append-assoc, append-nil, flatMap, map}
 use Prim.Native.Nat.{ℕ, zero, suc, _+_, _-_, _*_, _/_, _%_, _^_, _≤_, _<_}
 use native.Mathlib.Nat.{not-suc-le-zero, le-of-suc-le-suc, lt-trans, add-zero, zero-add}
@@ -22,10 +17,6 @@ use Rattle.records.specs.Sets.{odd, has, size, lowest, when, members, membersFr
 use Rattle.records.proofs.SetLaws.{has-zero, has-suc, has-none}
 use Rattle.records.proofs.MemberLaws.{members-length}
 use Rattle.expressions.proofs.ListLaws.{flat-append}
-<<<<<<< HEAD
-use Rattle.worlds.specs.Events.{event, littleBytes, listed}
-use Rattle.worlds.proofs.OverLaws.{members-next, members-none, and-less, turn-has}
-=======
 use Rattle.records.specs.Plan.{Plan, Election}
 use Rattle.records.specs.Decoded.{edgeOf, cutOf, attachmentOf, statusOf}
 use Rattle.records.specs.declared.plan.Edge.{Edge}
@@ -43,7 +34,6 @@ use Rattle.expressions.specs.Bindings.{defaultOf}
 use Rattle.worlds.specs.Events.{event, littleBytes, listed, electionActor}
 use Rattle.worlds.proofs.OverLaws.{members-next, members-none, and-less, turn-has}
 use Rattle.report.specs.EventList.{numberOf, electionCitation}
->>>>>>> h-kinds
 use Rattle.report.specs.EventBytes.{Below, Writes}
 
 -- ---- byte by byte
@@ -105,33 +95,19 @@ will-none : (place : ℕ) (b : List ℕ) → will place [] b ≡ b
 unfolding flatMap
 will-none place b = ap (λ (k : ℕ). take place b ++ drop k b) (add-zero place) ∙ take-append-drop place b
 
-<<<<<<< HEAD
--- a loop over the numbers of a set that writes an event for each: those of m are left
-pub record Writing (f : ℕ → List ℕ) (at all : ℕ) (before : List ℕ) (m place : ℕ) (after : List ℕ) : Type 0 where
-=======
 -- a loop over the numbers of a set that writes an event for each: those of m are left. What `X` says is not needed to write, only to tell what the
 -- events are.
 pub record Writing {X : Type 0} (f : X → ℕ → List ℕ) (at all : ℕ) (before : List ℕ) (m place : ℕ) (after : List ℕ) : Type 0 where
->>>>>>> h-kinds
   pub fits : m < 2 ^ 64
   pub within : (i : ℕ) → has m i ≡ true → has all i ≡ true
   pub long : length after ≡ length before
   pub room : place + 12 * size m ≡ at + 12 * size all
-<<<<<<< HEAD
-  pub same : will place (map f (members m)) after ≡ will at (map f (members all)) before
-
-pub writing-none : (f : ℕ → List ℕ) (at all : ℕ) (before : List ℕ) → all < 2 ^ 64 → Writing f at all before all at before
-writing-none f at all before h = record { fits = h; within = λ i e. e; long = refl; room = refl; same = refl }
-
-module _ (f : ℕ → List ℕ) (at all : ℕ) (before : List ℕ) (m place : ℕ) (after : List ℕ) (w : Writing f at all before m place after) where
-=======
   pub same : (x : X) → will place (map (f x) (members m)) after ≡ will at (map (f x) (members all)) before
 
 pub writing-none : {X : Type 0} (f : X → ℕ → List ℕ) (at all : ℕ) (before : List ℕ) → all < 2 ^ 64 → Writing f at all before all at before
 writing-none f at all before h = record { fits = h; within = λ i e. e; long = refl; room = refl; same = λ x. refl }
 
 module _ {X : Type 0} (f : X → ℕ → List ℕ) (at all : ℕ) (before : List ℕ) (m place : ℕ) (after : List ℕ) (w : Writing f at all before m place after) where
->>>>>>> h-kinds
   -- an event more fits
   pub writing-room : (m ≡ 0 → ⊥) → at + 12 * size all ≤ length before → place + 12 ≤ length after
   writing-room n h =
@@ -145,12 +121,6 @@ module _ {X : Type 0} (f : X → ℕ → List ℕ) (at all : ℕ) (before : List
       w .within t (turn-has m (bitAnd m (m - 1)) t (w .fits) e (members-next m (w .fits) n, and-less m n) t
       ∙ ap (λ (b : Bool). b || has (bitAnd m (m - 1)) t) (eq-eqb t t refl))
 
-<<<<<<< HEAD
-  pub writing-next : (t r : ℕ) (vs : List ℕ) → (t ≡ lowest m) × (t < 64) → (members m ≡ lowest m ∷ members r) × (r < m) → vs ≡ f t → length vs ≡ 12 → place + 12 ≤ length after
-      → Writing f at all before r (place + 12) (putMid place (length after - place) after (vs ++ drop 12 (take (length after - place) (drop place after))))
-  writing-next t r vs e o v l h =
-      let x = part-over place 12 vs after h in
-=======
   -- ONE EVENT MORE
   pub writing-next : (t r kind a b c mask : ℕ) (ys : List ℕ) → (t ≡ lowest m) × (t < 64) → (members m ≡ lowest m ∷ members r) × (r < m) → place + 12 ≤ length after
       → ys ≡ event kind a b c mask ++ drop 12 (take (length after - place) (drop place after)) → ((x : X) → event kind a b c mask ≡ f x t)
@@ -159,27 +129,12 @@ module _ {X : Type 0} (f : X → ℕ → List ℕ) (at all : ℕ) (before : List
       let vs = event kind a b c mask in
       let l = event-length kind a b c mask in
       let x = ap (putMid place (length after - place) after) y ∙ part-over place 12 vs after h in
->>>>>>> h-kinds
       let s : size m ≡ suc (size r) = sym (members-length m) ∙ ap length (o .0) ∙ ap suc (members-length r) in
       let left = turn-has m r t (w .fits) e o in record {
         fits = lt-trans (o .1) (w .fits);
         within = λ i h. w .within i (left i ∙ ap (λ (b : Bool). eqb t i || b) h ∙ or-true (eqb t i));
         long = ap length x ∙ over-long place 12 vs after l h ∙ w .long;
         room = omega (arith, w .room);
-<<<<<<< HEAD
-        same =
-            ap (will (place + 12) (map f (members r))) x ∙ will-next place vs (map f (members r)) after l h
-            ∙ ap (λ (v : List ℕ). will place (v ∷ map f (members r)) after) (v ∙ ap f (e .0))
-            ∙ ap (λ (ps : List ℕ). will place (map f ps) after) (sym (o .0)) ∙ w .same;
-      }
-
-  -- at the end all are written
-  pub writing-end : m ≡ 0 → Writes at (map f (members all)) before after place
-  writing-end e =
-      let z : size m ≡ 0 = sym (members-length m) ∙ ap length (members-none m e) in
-      let n : length (map f (members all)) ≡ size all = length-map (members all) f ∙ members-length all in record {
-        bytes = sym (will-none place after) ∙ ap (λ (ps : List ℕ). will place (map f ps) after) (sym (members-none m e)) ∙ w .same;
-=======
         same = λ u.
             ap (will (place + 12) (map (f u) (members r))) x ∙ will-next place vs (map (f u) (members r)) after l h
             ∙ ap (λ (v : List ℕ). will place (v ∷ map (f u) (members r)) after) (v u ∙ ap (f u) (e .0))
@@ -192,38 +147,20 @@ module _ {X : Type 0} (f : X → ℕ → List ℕ) (at all : ℕ) (before : List
       let z : size m ≡ 0 = sym (members-length m) ∙ ap length (members-none m e) in
       let n : length (map (f x) (members all)) ≡ size all = length-map (members all) (f x) ∙ members-length all in record {
         bytes = sym (will-none place after) ∙ ap (λ (ps : List ℕ). will place (map (f x) ps) after) (sym (members-none m e)) ∙ w .same x;
->>>>>>> h-kinds
         place = omega (arith, w .room);
       }
 
 -- ---- the numbers of a set, and the numbers below n that are of it
 
-<<<<<<< HEAD
-module _ (f g : ℕ → List ℕ) (test : ℕ → Bool) where
-  abbrev listedFrom : ℕ → ℕ → List (List ℕ)
-  listedFrom n p = flatMap (λ i. cond (test i) (g i ∷ []) []) (numbers n p)
-=======
 module _ (f : ℕ → List ℕ) (test : ℕ → Bool) where
   abbrev listedFrom : ℕ → ℕ → List (List ℕ)
   listedFrom n p = flatMap (λ i. cond (test i) (f i ∷ []) []) (numbers n p)
->>>>>>> h-kinds
 
   none-from : (n p : ℕ) → ((i : ℕ) → test (p + i) ≡ false) → [] ≡ listedFrom n p
   unfolding numbers flatMap
   none-from zero p t = refl
   none-from (suc n) p t =
       none-from n (suc p) (λ i. ap test (let z : suc p + i ≡ p + suc i = omega arith in z) ∙ t (suc i))
-<<<<<<< HEAD
-      ∙ ap (λ (b : Bool). cond b (g p ∷ []) [] ++ listedFrom n (suc p)) (sym (ap test (let z : p ≡ p + 0 = omega arith in z) ∙ t 0))
-
-  members-from : (k n p m : ℕ) → m < 2 ^ k → ((i : ℕ) → has m i ≡ true → i < n) → ((i : ℕ) → test (p + i) ≡ has m i) → ((i : ℕ) → has m i ≡ true → f (p + i) ≡ g (p + i))
-      → map f (membersFrom k p m) ≡ listedFrom n p
-  unfolding membersFrom numbers flatMap
-  members-from zero n p m h b t s = none-from n p (λ i. t i ∙ ap (λ (x : ℕ). has x i) (lt-one h) ∙ has-none i)
-  members-from (suc k) zero p m h b t s =
-      go (m % 2) refl (members-from k 0 (suc p) (m / 2) (omega arith) (λ i e. absurd (not-suc-le-zero (b (suc i) (has-suc m i ∙ e))))
-      (λ i. ap test (let z : suc p + i ≡ p + suc i = omega arith in z) ∙ t (suc i) ∙ has-suc m i) (λ i e. absurd (not-suc-le-zero (b (suc i) (has-suc m i ∙ e)))))
-=======
       ∙ ap (λ (b : Bool). cond b (f p ∷ []) [] ++ listedFrom n (suc p)) (sym (ap test (let z : p ≡ p + 0 = omega arith in z) ∙ t 0))
 
   members-from : (k n p m : ℕ) → m < 2 ^ k → ((i : ℕ) → has m i ≡ true → i < n) → ((i : ℕ) → test (p + i) ≡ has m i) → map f (membersFrom k p m) ≡ listedFrom n p
@@ -232,48 +169,10 @@ module _ (f : ℕ → List ℕ) (test : ℕ → Bool) where
   members-from (suc k) zero p m h b t =
       go (m % 2) refl (members-from k 0 (suc p) (m / 2) (omega arith) (λ i e. absurd (not-suc-le-zero (b (suc i) (has-suc m i ∙ e))))
       (λ i. ap test (let z : suc p + i ≡ p + suc i = omega arith in z) ∙ t (suc i) ∙ has-suc m i))
->>>>>>> h-kinds
     where
       go : (d : ℕ) → m % 2 ≡ d → map f (membersFrom k (suc p) (m / 2)) ≡ [] → map f (when (m % 2) p (membersFrom k (suc p) (m / 2))) ≡ []
       go zero e r = ap (λ (d : ℕ). map f (when d p (membersFrom k (suc p) (m / 2)))) e ∙ r
       go (suc d) e r = absurd (not-suc-le-zero (b 0 (has-zero m ∙ ap odd e)))
-<<<<<<< HEAD
-  members-from (suc k) (suc n) p m h b t s =
-      go (m % 2) refl (members-from k n (suc p) (m / 2) (omega arith) (λ i e. le-of-suc-le-suc (b (suc i) (has-suc m i ∙ e)))
-      (λ i. ap test (next i) ∙ t (suc i) ∙ has-suc m i)
-      (λ i e. ap f (next i) ∙ s (suc i) (has-suc m i ∙ e) ∙ ap g (sym (next i))))
-    where
-      next : (i : ℕ) → suc p + i ≡ p + suc i
-      next i = omega arith
-
-      here : p ≡ p + 0
-      here = omega arith
-
-      first : (x : Bool) → has m 0 ≡ x → test p ≡ x
-      first x e = ap test here ∙ t 0 ∙ e
-
-      go : (d : ℕ) → m % 2 ≡ d → map f (membersFrom k (suc p) (m / 2)) ≡ listedFrom n (suc p)
-          → map f (when (m % 2) p (membersFrom k (suc p) (m / 2))) ≡ cond (test p) (g p ∷ []) [] ++ listedFrom n (suc p)
-      go zero e r =
-          ap (λ (d : ℕ). map f (when d p (membersFrom k (suc p) (m / 2)))) e ∙ r
-          ∙ ap (λ (x : Bool). cond x (g p ∷ []) [] ++ listedFrom n (suc p)) (sym (first false (has-zero m ∙ ap odd e)))
-      go (suc d) e r =
-          let o = has-zero m ∙ ap odd e in
-          ap (λ (d : ℕ). map f (when d p (membersFrom k (suc p) (m / 2)))) e
-          ∙ ap₂ (λ (y : List ℕ) (ys : List (List ℕ)). y ∷ ys) (ap f here ∙ s 0 o ∙ ap g (sym here)) r
-          ∙ ap (λ (x : Bool). cond x (g p ∷ []) [] ++ listedFrom n (suc p)) (sym (first true o))
-
--- what is made for each number of a set of numbers below n
-pub listed-members : (f g : ℕ → List ℕ) (n m : ℕ) → m < 2 ^ 64 → Below m n → ((i : ℕ) → i < n → f i ≡ g i) → map f (members m) ≡ listed n (has m) g
-unfolding listed members
-listed-members f g n m h b s =
-    members-from f g (has m) 64 n 0 m h b (λ i. ap (has m) (zero-add i))
-    (λ i e. s (0 + i) (subst (λ (x : ℕ). x < n) (sym (zero-add i)) (b i e)))
-
-pub writes-listed : (f g : ℕ → List ℕ) (n at m : ℕ) {before after : List ℕ} {next : ℕ} → m < 2 ^ 64 → Below m n → ((i : ℕ) → i < n → f i ≡ g i)
-    → Writes at (map f (members m)) before after next → Writes at (listed n (has m) g) before after next
-writes-listed f g n at m {before} {after} {next} h b s = subst (λ (es : List (List ℕ)). Writes at es before after next) (listed-members f g n m h b s)
-=======
   members-from (suc k) (suc n) p m h b t =
       go (m % 2) refl (members-from k n (suc p) (m / 2) (omega arith) (λ i e. le-of-suc-le-suc (b (suc i) (has-suc m i ∙ e)))
       (λ i. ap test (let z : suc p + i ≡ p + suc i = omega arith in z) ∙ t (suc i) ∙ has-suc m i))
@@ -329,7 +228,6 @@ pub default-read : (i : ℕ) (es : List Election) → event 8 i (electionActor (
 unfolding defaultOf
 default-read i [] = refl
 default-read i (e ∷ es) = refl
->>>>>>> h-kinds
 
 -- ---- events behind events
 
