@@ -1,9 +1,10 @@
 -- Events as bytes: written one by one into a lent buffer, for the numbers of a set, and set after set.
 use mathlib.Core.Path.{_≡_, refl, sym, ap, ap₂, _∙_, subst}
 use mathlib.Core.Bool.{Bool, true, false, cond, _||_, or-true}
+use mathlib.Core.Logic.{⊎-elim}
 use mathlib.Core.List.{List, [], _∷_, _++_, append-assoc, append-nil, flatMap, map}
 use Prim.Native.Nat.{ℕ, zero, suc, _+_, _-_, _*_, _/_, _%_, _^_, _≤_, _<_}
-use native.Mathlib.Nat.{not-suc-le-zero, le-of-suc-le-suc, lt-trans, add-zero, zero-add}
+use native.Mathlib.Nat.{not-suc-le-zero, le-of-suc-le-suc, lt-trans, le-refl, add-zero, zero-add}
 use native.Mathlib.Numerals.{add-one}
 use native.Mathlib.Omega.{arith}
 use lib.Dec.{eqb}
@@ -14,7 +15,7 @@ use lib.Seq.{drop-cons, take-suc, set-at, length-take-le, append-snoc, take-at, 
 use borrow.Author.Tests.{eq-eqb}
 use borrow.Rule.Slice.PartMut.{putMid}
 use Rattle.records.specs.Sets.{odd, has, size, lowest, when, members, membersFrom, numbers}
-use Rattle.records.proofs.SetLaws.{has-zero, has-suc, has-none}
+use Rattle.records.proofs.SetLaws.{has-zero, has-suc, has-none, lt-or-le}
 use Rattle.records.proofs.MemberLaws.{members-length}
 use Rattle.expressions.proofs.ListLaws.{flat-append}
 use Rattle.records.specs.Plan.{Plan, Election}
@@ -34,7 +35,7 @@ use Rattle.expressions.specs.Bindings.{defaultOf}
 use Rattle.worlds.specs.Events.{event, littleBytes, listed, electionActor}
 use Rattle.worlds.proofs.OverLaws.{members-next, members-none, and-less, turn-has}
 use Rattle.report.specs.EventList.{numberOf, electionCitation}
-use Rattle.report.specs.EventBytes.{Below, Writes}
+use Rattle.report.specs.EventBytes.{Below, Writes, sizes}
 
 -- ---- byte by byte
 
@@ -260,3 +261,103 @@ long-map f h (x ∷ xs) = record { bytes = length-append (f x) (flatMap (λ e. e
 pub long-both : {es fs : List (List ℕ)} → Long es → Long fs → Long (es ++ fs)
 long-both {es} {fs} a b =
     record { bytes = ap length (flat-append (λ e. e) es fs) ∙ length-append (flatMap (λ e. e) es) (flatMap (λ e. e) fs) ∙ omega (arith, a .bytes, b .bytes, length-append es fs) }
+
+-- ---- set after set
+
+-- the events of each of the first n sets, one after another
+abbrev pub paired : (ℕ → ℕ → List ℕ) → (ℕ → ℕ) → ℕ → List (List ℕ)
+paired g sets n = flatMap (λ c. map (g c) (members (sets c))) (numbers n 0)
+
+numbers-last : (n k : ℕ) → numbers (suc n) k ≡ numbers n k ++ ((k + n) ∷ [])
+unfolding numbers
+numbers-last zero k = ap (λ (x : ℕ). x ∷ []) (sym (add-zero k))
+numbers-last (suc n) k = ap (λ (xs : List ℕ). k ∷ xs) (numbers-last n (suc k) ∙ ap (λ (x : ℕ). numbers n (suc k) ++ (x ∷ [])) (let z : suc k + n ≡ k + suc n = omega arith in z))
+
+flat-more : (h : ℕ → List (List ℕ)) (n : ℕ) → flatMap h (numbers (n + 1) 0) ≡ flatMap h (numbers n 0) ++ h n
+unfolding flatMap
+flat-more h n =
+    ap (λ (k : ℕ). flatMap h (numbers k 0)) (add-one n) ∙ ap (flatMap h) (numbers-last n 0 ∙ ap (λ (x : ℕ). numbers n 0 ++ (x ∷ [])) (zero-add n))
+    ∙ flat-append h (numbers n 0) (n ∷ []) ∙ ap (λ (l : List (List ℕ)). flatMap h (numbers n 0) ++ l) (append-nil (h n))
+
+pub sizes-more : (n : ℕ) (sets : ℕ → ℕ) → sizes (n + 1) sets ≡ sizes n sets + size (sets n)
+unfolding sizes
+sizes-more n sets = ap (λ (k : ℕ). sizes k sets) (add-one n)
+
+-- the sizes of fewer sets make no more
+pub sizes-le : (i n : ℕ) (sets : ℕ → ℕ) → i < n → sizes i sets + size (sets i) ≤ sizes n sets
+unfolding sizes
+sizes-le i zero sets h = absurd (not-suc-le-zero h)
+sizes-le i (suc n) sets h =
+    ⊎-elim (λ l. let r = sizes-le i n sets l in omega arith) (λ l. let e : i ≡ n = omega arith in subst (λ (k : ℕ). sizes i sets + size (sets i) ≤ sizes k sets + size (sets k)) e (le-refl _))
+    (lt-or-le i n)
+
+long-flat : (h : ℕ → List (List ℕ)) → ((c : ℕ) → Long (h c)) → (xs : List ℕ) → Long (flatMap h xs)
+unfolding flatMap
+long-flat h l [] = record { bytes = refl }
+long-flat h l (x ∷ xs) = long-both (l x) (long-flat h l xs)
+
+flat-same : (f g : ℕ → List (List ℕ)) (n k : ℕ) → ((c : ℕ) → c < k + n → f c ≡ g c) → flatMap f (numbers n k) ≡ flatMap g (numbers n k)
+unfolding flatMap numbers
+flat-same f g zero k h = refl
+flat-same f g (suc n) k h = ap₂ (λ (x y : List (List ℕ)). x ++ y) (h k (omega arith)) (flat-same f g n (suc k) (λ c l. h c (omega arith)))
+
+map-same : (f g : ℕ → List ℕ) → ((d : ℕ) → f d ≡ g d) → (xs : List ℕ) → map f xs ≡ map g xs
+map-same f g h [] = refl
+map-same f g h (x ∷ xs) = ap₂ (λ (y : List ℕ) (ys : List (List ℕ)). y ∷ ys) (h x) (map-same f g h xs)
+
+-- a loop over sets: the events of the first i are written. `X` as for `Writing`.
+pub record Pairing {X : Type 0} (g : X → ℕ → ℕ → List ℕ) (at : ℕ) (sets : ℕ → ℕ) (before : List ℕ) (i place : ℕ) (after : List ℕ) : Type 0 where
+  pub fits : (c : ℕ) → c < i → sets c < 2 ^ 64
+  pub long : length after ≡ length before
+  pub room : place ≡ at + 12 * sizes i sets
+  pub done : (x : X) → Writes at (paired (g x) sets i) before after place
+
+pub pairing-none : {X : Type 0} (g : X → ℕ → ℕ → List ℕ) (at : ℕ) (sets : ℕ → ℕ) (before : List ℕ) → Pairing g at sets before 0 at before
+unfolding sizes numbers flatMap
+pairing-none g at sets before =
+    record { fits = λ c l. absurd (not-suc-le-zero l); long = refl; room = omega arith; done = λ x. writes-none at before }
+
+module _ {X : Type 0} (g : X → ℕ → ℕ → List ℕ) (at : ℕ) (sets : ℕ → ℕ) (before : List ℕ) (i place : ℕ) (after : List ℕ) (p : Pairing g at sets before i place after) where
+  -- the events of one set more fit
+  pub pairing-room : (n : ℕ) → i < n → at + 12 * sizes n sets ≤ length before → place + 12 * size (sets i) ≤ length after
+  pairing-room n l h = let s = sizes-le i n sets l in omega (arith, p .long, p .room)
+
+  fits-more : sets i < 2 ^ 64 → (c : ℕ) → c < i + 1 → sets c < 2 ^ 64
+  fits-more f c l = ⊎-elim (p .fits c) (λ h. subst (λ (k : ℕ). sets k < 2 ^ 64) (let z : i ≡ c = omega arith in z) f) (lt-or-le c i)
+
+  -- an empty set adds none
+  pub pairing-skip : sets i ≡ 0 → Pairing g at sets before (i + 1) place after
+  pairing-skip e =
+      let z : size (sets i) ≡ 0 = sym (members-length (sets i)) ∙ ap length (members-none (sets i) e) in record {
+        fits = fits-more (omega (arith, e));
+        long = p .long;
+        room = omega (arith, p .room, sizes-more i sets);
+        done = λ x. subst (λ (es : List (List ℕ)). Writes at es before after place)
+            (sym (flat-more (λ c. map (g x c) (members (sets c))) i ∙ ap (λ (ps : List ℕ). paired (g x) sets i ++ map (g x i) ps) (members-none (sets i) e) ∙ append-nil (paired (g x) sets i)))
+            (p .done x);
+      }
+
+  -- ONE SET MORE
+  pub pairing-next : (n next : ℕ) (f : ℕ → List ℕ) (last : List ℕ) → i < n → at + 12 * sizes n sets ≤ length before → ((x : X) (c d : ℕ) → length (g x c d) ≡ 12) → ((d : ℕ) → length (f d) ≡ 12)
+      → sets i < 2 ^ 64 → Writes place (map f (members (sets i))) after last next → ((x : X) (d : ℕ) → f d ≡ g x i d) → Pairing g at sets before (i + 1) next last
+  pairing-next n next f last l h lg lf fit w same =
+      let m : length (map f (members (sets i))) ≡ size (sets i) = length-map (members (sets i)) f ∙ members-length (sets i) in
+      let r = pairing-room n l h in
+      let s = sizes-le i n sets l in record {
+        fits = fits-more fit;
+        long = writes-long (long-map f lf (members (sets i))) (omega arith) w ∙ p .long;
+        room = omega (arith, p .room, sizes-more i sets, w .place);
+        done = λ x.
+            let q = p .done x in
+            subst (λ (es : List (List ℕ)). Writes at es before last next)
+            (ap (λ (es : List (List ℕ)). paired (g x) sets i ++ es) (map-same f (g x i) (same x) (members (sets i))) ∙ sym (flat-more (λ c. map (g x c) (members (sets c))) i))
+            (writes-both at place next (paired (g x) sets i) (map f (members (sets i))) before after last
+            (long-flat (λ c. map (g x c) (members (sets c))) (λ c. long-map (g x c) (lg x c) (members (sets c))) (numbers i 0)) (omega (arith, q .place, p .room)) q w);
+      }
+
+  -- at the end all are written
+  pub pairing-end : (j k : ℕ) → i ≡ j → ((c : ℕ) → Below (sets c) k) → (x : X) → Writes at (flatMap (λ c. listed k (has (sets c)) (g x c)) (numbers j 0)) before after place
+  pairing-end j k e b x =
+      subst (λ (es : List (List ℕ)). Writes at es before after place)
+      (flat-same (λ c. map (g x c) (members (sets c))) (λ c. listed k (has (sets c)) (g x c)) i 0 (λ c l. listed-members (g x c) k (sets c) (p .fits c (omega arith)) (b c))
+      ∙ ap (λ (n : ℕ). flatMap (λ c. listed k (has (sets c)) (g x c)) (numbers n 0)) e) (p .done x)

@@ -2,7 +2,7 @@
 use mathlib.Core.Path.{_≡_}
 use mathlib.Core.Bool.{true}
 use mathlib.Core.List.{List, [], _∷_, _++_, flatMap}
-use Prim.Native.Nat.{ℕ, zero, suc, _+_, _*_, _<_, _≤_}
+use Prim.Native.Nat.{ℕ, zero, suc, _+_, _*_, _^_, _<_}
 use lib.ListN.{length, take, drop}
 use Rattle.records.specs.Sets.{has, size, members}
 use mathlib.Core.List.{map}
@@ -28,6 +28,7 @@ unfoldable pub sizes : ℕ → (ℕ → ℕ) → ℕ
 sizes zero sets = 0
 sizes (suc n) sets = sizes n sets + size (sets n)
 
--- one event for each second number
+-- one event for each second number; the numbers are of a mask
 pub record PairsWritten (at : ℕ) (first : Event) (seconds : ℕ) (before after : List ℕ) (next : ℕ) : Type 0 where
+  pub fits : seconds < 2 ^ 64
   pub written : Writes at (map (λ b. event (first .kind) (first .a) b (first .c) (first .mask)) (members seconds)) before after next

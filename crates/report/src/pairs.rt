@@ -5,12 +5,13 @@ use crate::kinds::actor_of;
 use crate::kinds::election_evidence;
 use records::case::Case;
 use records::plan::Cuts;
+use records::sets::size;
 use worlds::over::low;
 use worlds::over::others;
 ghost use mathlib.Core.Path.{_≡_};
-ghost use Prim.Native.Nat.{ℕ, _+_, _*_, _<_, _≤_};
+ghost use Prim.Native.Nat.{ℕ, _+_, _*_, _≤_};
 ghost use lib.ListN.{length};
-ghost use Rattle.records.specs.Sets.{has, size};
+ghost use Rattle.records.specs.Sets.{size as many};
 ghost use Rattle.records.specs.Plan.{Plan as Paper};
 ghost use Rattle.records.specs.Decoded.{caseOf};
 ghost use Rattle.expressions.specs.Coded.{cutsOf};
@@ -22,7 +23,7 @@ ghost use Rattle.report.specs.EventBytes.{Writes, Below, sizes, PairsWri
 
 // Events of one kind and one first number, for each second number of a set.
 fn write_pairs(events: &mut [u8], at: usize, first: Event, seconds: u64) -> usize
-    requires { ⌜ at + 12 * size seconds ≤ length (now events) ⌝ }
+    requires { ⌜ at + 12 * many seconds ≤ length (now events) ⌝ }
     ensures { λ r. ⌜ PairsWritten at first seconds (now (events .entry)) (now (events .exit)) r ⌝ }
 {
     let mut place = at;
@@ -105,7 +106,7 @@ pub fn count_pairs(sets: &[u64; 64], n: usize) -> usize
     let mut count: usize = 0;
     let mut i: usize = 0;
     while i < n {
-        count = count + u64::count_ones(sets[i]) as usize;
+        count = count + size(sets[i]) as usize;
         i = i + 1;
     }
     count

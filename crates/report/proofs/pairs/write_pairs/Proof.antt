@@ -65,7 +65,7 @@ same-length : tie.Need-same-length Inv-loop μ-loop
 same-length c = c .before .loop .inv .long
 
 returns : tie.Need-returns Inv-loop μ-loop
-returns c = record { written = writing-end _ _ _ _ _ _ _ (c .before .loop .inv) (c .loop-test .left) tt }
+returns c = record { fits = c .before .before .before .fits .seconds .fits; written = writing-end _ _ _ _ _ _ _ (c .before .loop .inv) (c .loop-test .left) tt }
 
 pub write-pairs-spec : {M : Type 1} → statement M
 write-pairs-spec =

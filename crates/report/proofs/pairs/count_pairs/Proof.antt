@@ -1,0 +1,71 @@
+-- `pairs::count_pairs`: the sizes of the sets passed, at most 64 each.
+use mathlib.Core.Path.{_≡_, refl, sym, ap, ap₂, _∙_}
+use Prim.Native.Nat.{ℕ, _+_, _-_, _*_, _≤_}
+use native.Mathlib.Omega.{arith}
+use borrow.Author.Needs.{needs}
+use Rattle.records.proofs.SetLaws.{size-le}
+use Rattle.worlds.specs.Over.{entry}
+use Rattle.report.specs.EventBytes.{sizes}
+use Rattle.report.proofs.EventLaws.{sizes-more}
+use Rattle.report.proofs.pairs.count_pairs.Statement.{statement}
+use Rattle.report.proofs.pairs.count_pairs.Tie as tie
+
+abbrev Inv-loop : tie.InvT-loop
+Inv-loop sets n count₀ i₀ count i = (i ≤ n) × (count ≡ sizes i (entry sets)) × (count ≤ 64 * i)
+
+abbrev μ-loop : tie.MeasureT-loop
+μ-loop sets n count₀ i₀ count i = n - i
+
+loop-holds : tie.Need-loop-holds Inv-loop μ-loop
+unfolding sizes
+loop-holds c = (omega arith, refl, omega arith)
+
+mul-size : tie.Need-mul-size Inv-loop μ-loop
+mul-size c = search needs
+
+element-copy-out-size : tie.Need-element-copy-out-size Inv-loop μ-loop
+element-copy-out-size c = search needs
+
+size-requires : tie.Need-size-requires Inv-loop μ-loop
+size-requires c κs = search needs
+
+cast-count : tie.Need-cast-count Inv-loop μ-loop
+cast-count c = omega (arith, c .size .ensures, size-le (entry (c .before .before .before .before .args .sets .now) (c .before .before .before .loop .i)))
+
+add-count : tie.Need-add-count Inv-loop μ-loop
+add-count c = omega (arith, c .size .ensures, size-le (entry (c .before .before .before .before .args .sets .now) (c .before .before .before .loop .i)))
+
+add-i : tie.Need-add-i Inv-loop μ-loop
+add-i c = search needs
+
+loop-less : tie.Need-loop-less Inv-loop μ-loop
+loop-less c = search needs
+
+loop-again : tie.Need-loop-again Inv-loop μ-loop
+loop-again c =
+    let l = c .before .before .before .loop in
+    let sets = entry (c .before .before .before .before .args .sets .now) in
+    (omega arith, ap₂ _+_ (l .inv .1) (c .size .ensures) ∙ sym (sizes-more (l .i) sets), omega (arith, c .size .ensures, size-le (sets (l .i))))
+
+returns : tie.Need-returns Inv-loop μ-loop
+returns c =
+    let l = c .before .loop in
+    let e : l .i ≡ c .before .before .args .n = omega arith in
+    (l .inv .1 ∙ ap (λ (k : ℕ). sizes k (entry (c .before .before .args .sets .now))) e, omega arith)
+
+pub count-pairs-spec : {M : Type 1} → statement M
+count-pairs-spec =
+    tie.close
+    (tie.spec
+    Inv-loop
+    μ-loop
+    loop-holds
+    mul-size
+    element-copy-out-size
+    size-requires
+    cast-count
+    add-count
+    add-i
+    loop-less
+    loop-again
+    returns)

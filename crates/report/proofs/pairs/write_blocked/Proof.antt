@@ -1,0 +1,113 @@
+-- `pairs::write_blocked`: the pairs of the cuts passed are written; a cut that nothing blocked has none.
+use mathlib.Core.Path.{_≡_, ap, ap₂, _∙_}
+use mathlib.Core.Logic.{⊎-elim}
+use Prim.Native.Nat.{ℕ, _≤_, _<_, _-_}
+use native.Mathlib.Omega.{arith}
+use borrow.Author.Needs.{needs}
+use Rattle.records.specs.Plan.{Plan, Cut}
+use Rattle.records.specs.Decoded.{caseOf, cutOf}
+use Rattle.expressions.specs.Coded.{cutsOf}
+use Rattle.expressions.specs.Rules.{cutCount, cut}
+use Rattle.worlds.specs.Over.{entry}
+use Rattle.worlds.specs.Events.{event, electionActor, electionEvidence}
+use Rattle.report.specs.Happened.{blockedOver}
+use Rattle.report.proofs.EventLaws.{event-length, cut-read, Pairing, pairing-none, pairing-room, pairing-next, pairing-skip, pairing-end}
+use Rattle.report.proofs.pairs.write_blocked.Statement.{statement}
+use Rattle.report.proofs.pairs.write_blocked.Tie as tie
+
+abbrev Inv-loop : tie.InvT-loop
+Inv-loop events₀ at case blockings n cuts place₀ i₀ events place i =
+    (i ≤ n)
+    × Pairing (λ (x : (P : Plan) × (P .cuts ≡ cutsOf cuts) × (n ≡ cutCount P)) c e. event 3 c e (electionActor (cut (x .0) c .election)) (electionEvidence (caseOf case) (cut (x .0) c .election)))
+    at (entry blockings) events₀ i place events
+
+abbrev μ-loop : tie.MeasureT-loop
+μ-loop events₀ at case blockings n cuts place₀ i₀ events place i = n - i
+
+loop-holds : tie.Need-loop-holds Inv-loop μ-loop
+loop-holds c = (omega arith, pairing-none _ _ _ _)
+
+mul-c : tie.Need-mul-c Inv-loop μ-loop
+mul-c c = search needs
+
+element-copy-out-c : tie.Need-element-copy-out-c Inv-loop μ-loop
+element-copy-out-c c = search needs
+
+mul-if1 : tie.Need-mul-if1 Inv-loop μ-loop
+mul-if1 c = search needs
+
+element-copy-out-if1 : tie.Need-element-copy-out-if1 Inv-loop μ-loop
+element-copy-out-if1 c = search needs
+
+cast-t21 : tie.Need-cast-t21 Inv-loop μ-loop
+cast-t21 c = search needs
+
+actor-of-requires : tie.Need-actor-of-requires Inv-loop μ-loop
+actor-of-requires c κs = search needs
+
+election-evidence-requires : tie.Need-election-evidence-requires Inv-loop μ-loop
+election-evidence-requires c κs = c .before .before .before .before .before .before .before .before .pre .2
+
+mul-write-pairs : tie.Need-mul-write-pairs Inv-loop μ-loop
+mul-write-pairs c = search needs
+
+element-copy-out-write-pairs : tie.Need-element-copy-out-write-pairs Inv-loop μ-loop
+element-copy-out-write-pairs c = search needs
+
+write-pairs-requires : tie.Need-write-pairs-requires Inv-loop μ-loop
+write-pairs-requires c κs = pairing-room _ _ _ _ _ _ _ (c .before .before .before .before .before .before .before .before .before .loop .inv .1) _ (c .before .before .before .before .before .before .before .before .loop-test .taken) (c .before .before .before .before .before .before .before .before .before .before .before .pre .1)
+
+add-i : tie.Need-add-i Inv-loop μ-loop
+add-i c = search needs
+
+loop-less : tie.Need-loop-less Inv-loop μ-loop
+loop-less c = search needs
+
+loop-again : tie.Need-loop-again Inv-loop μ-loop
+unfolding cutOf
+loop-again c =
+    let l = c .before .before .before .before .before .loop in
+    let i = l .i in
+    let s = c .before .before .before .before .before .before .before .args in
+    let taken = c .before .before .before .before .loop-test .taken in
+    let here : (x : (P : Plan) × (P .cuts ≡ cutsOf (s .t3)) × (s .n ≡ cutCount P)) → i < cutCount (x .0) = λ x. omega (arith, x .2) in (
+      omega arith,
+      ⊎-elim
+          (λ w. rw (w .8, w .9)
+          (pairing-next _ _ _ _ _ _ _ (l .inv .1) _ _ (λ d. event 3 i d (w .1 .result) (w .2 .result)) _ taken (c .before .before .before .before .before .before .before .pre .1) (λ x c d. event-length 3 c d _ _) (λ d. event-length 3 i d _ _)
+          (w .5 .ensures .fits) (w .5 .ensures .written)
+          (λ x d. ap₂ (λ (y z : ℕ). event 3 i d y z) (w .1 .ensures) (w .2 .ensures)
+          ∙ ap (λ (k : Cut). event 3 i d (electionActor (k .election)) (electionEvidence (caseOf (s .case)) (k .election))) (cut-read (x .0) i _ _ (x .1) (here x)))))
+          (λ w. rw (w .1, w .2) (pairing-skip _ _ _ _ _ _ _ (l .inv .1) (w .0 .left)))
+          (c .if1 .came),
+    )
+
+same-length : tie.Need-same-length Inv-loop μ-loop
+same-length c = c .before .loop .inv .1 .long
+
+returns : tie.Need-returns Inv-loop μ-loop
+unfolding blockedOver
+returns c = λ P e k b. pairing-end _ _ _ _ _ _ _ (c .before .loop .inv .1) _ _ (omega arith) b (P, e, k)
+
+pub write-blocked-spec : {M : Type 1} → statement M
+write-blocked-spec =
+    tie.close
+    (tie.spec
+    Inv-loop
+    μ-loop
+    loop-holds
+    mul-c
+    element-copy-out-c
+    mul-if1
+    element-copy-out-if1
+    cast-t21
+    actor-of-requires
+    election-evidence-requires
+    mul-write-pairs
+    element-copy-out-write-pairs
+    write-pairs-requires
+    add-i
+    loop-less
+    loop-again
+    same-length
+    returns)
