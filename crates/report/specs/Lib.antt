@@ -13,3 +13,8 @@ pub mod Free
 pub mod Known
 pub mod Opening
 pub mod EventsWritten
+pub mod Run
+pub mod Finish
+pub mod Ready
+pub mod Operate
+pub mod Private

@@ -1,6 +1,7 @@
 // The three operations: check a plan, answer a case, show a world.
 pub mod clear;
 pub mod event;
+pub mod finish;
 pub mod fold;
 pub mod free;
 pub mod happened;
@@ -11,8 +12,13 @@ pub mod known;
 pub mod line;
 pub mod lines;
 pub mod nine;
+pub mod operate;
+pub mod operations;
 pub mod pairs;
+pub mod ready;
+pub mod run;
 pub mod sums;
+pub mod two;
 pub mod walk;
 
 // What an operation answers; `specs/Operations.antt` gives document 01's numbers for each.

@@ -1,0 +1,53 @@
+-- A case that is bound, with no more worlds than its heading allows.
+use mathlib.Core.Path.{_≡_}
+use mathlib.Core.Bool.{Bool, true, false, _&&_, cond}
+use mathlib.Core.List.{List, []}
+use Prim.Native.Nat.{ℕ, _*_, _<_, _≤_}
+use lib.ListN.{length, getD, replicate}
+use lib.Dec.{ltb}
+use Rattle.records.specs.Sets.{has, size, subset}
+use Rattle.records.specs.Sound.{Sound, SoundCase}
+use Rattle.records.specs.Decoded.{planOf, caseOf}
+use Rattle.records.specs.declared.plan.Plan.{Plan}
+use Rattle.records.specs.declared.case.Case.{Case}
+use Rattle.expressions.specs.Rules.{factCount, rulePersons}
+use Rattle.expressions.specs.Bindings.{bindings, bindingAt, tookDefaultBy}
+use Rattle.expressions.specs.Codes.{boundOf}
+use Rattle.expressions.specs.Variables.{worldCount}
+use Rattle.expressions.specs.Coded.{frameBy}
+use Rattle.expressions.specs.Reached.{Reached}
+use Rattle.expressions.specs.declared.reach.Reach.{Reach}
+use Rattle.expressions.specs.declared.influence.Influence.{Influence}
+use Rattle.report.specs.Operations.{Outcome, allWorlds, answerReady, showReady}
+use Rattle.report.specs.declared.Answer.{Answer}
+use Rattle.report.specs.declared.finish.Opens.{Opens}
+use Rattle.report.specs.declared.run.Wanted.{Wanted}
+
+pub record Defaulted (plan : Plan) (c : Case) (bound r : ℕ) : Type 0 where
+  pub at : (f : ℕ) → has r f ≡ (ltb f (factCount (planOf plan)) && tookDefaultBy (planOf plan) (caseOf c) bound f)
+
+pub record Concerns (plan : Plan) (c : Case) (reach : Reach) (influence : Influence) (all : Bool) (r : Opens) : Type 0 where
+  pub yes : all ≡ true → (r .influence ≡ influence) × (r .facts ≡ reach .count) × Defaulted plan c (reach .bound) (r .defaults)
+  pub no : all ≡ false → (r .facts ≡ 0) × (r .influence .count ≡ 0) × (r .defaults ≡ 0)
+
+-- all that has passed before the worlds are looked at; the lent buffers are all zero
+pub record IsReady (plan : Plan) (c : Case) (reach : Reach) (codes lines events : List ℕ) : Type 0 where
+  pub sound : Sound (planOf plan)
+  pub sane : SoundCase (planOf plan) (caseOf c)
+  pub named : subset (rulePersons (planOf plan)) (c .heading .roster) ≡ true
+  pub reached : Reached (frameBy plan (c .heading .roster) (c .constraints)) reach
+  pub bound : (f : ℕ) → boundOf (getD codes f 0) ≡ bindingAt (bindings (planOf plan) (caseOf c)) f
+  pub few : worldCount (planOf plan) (bindings (planOf plan) (caseOf c)) ≤ 4096
+  pub room : 29 * size (c .heading .roster) ≤ length lines
+  pub zeros : lines ≡ replicate (length lines) 0
+  pub none : events ≡ replicate (length events) 0
+
+-- the outcome of answering, or of showing a world, once a case is ready
+unfoldable pub readyOutcome : Wanted → ℕ → ℕ → Plan → Case → Outcome
+readyOutcome w lineRoom eventRoom plan c =
+    let bs = bindings (planOf plan) (caseOf c) in
+    cond (w .all) (answerReady lineRoom eventRoom (planOf plan) (caseOf c) bs (allWorlds (planOf plan) (caseOf c) bs))
+    (showReady (w .number) lineRoom eventRoom (planOf plan) (caseOf c) bs (allWorlds (planOf plan) (caseOf c) bs))
+
+pub record AnswersReady (plan : Plan) (c : Case) (w : Wanted) (lines₀ lines₁ events₀ events₁ : List ℕ) (r : Answer) : Type 0 where
+  pub outcome : record { answer = r; lines = lines₁; events = events₁ } ≡ readyOutcome w (length lines₀) (length events₀) plan c

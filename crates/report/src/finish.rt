@@ -1,0 +1,94 @@
+// The answer, once all worlds are looked at: lines and events are written, or one of 13 and 14 is refused.
+use crate::Answer;
+use crate::clear::clear;
+use crate::happened::count_events;
+use crate::happened::write_events;
+use crate::line::write_bare;
+use crate::lines::write_lines;
+use crate::run::Wanted;
+use crate::sums::BEGUN;
+use crate::sums::Sums;
+use crate::sums::TALLY;
+use crate::walk::Walked;
+use expressions::counts::upto;
+use expressions::influence::Influence;
+use records::case::Case;
+use records::plan::Plan;
+use records::sets::size;
+use worlds::tables::Noted;
+ghost use Prim.Native.Nat.{_*_, _≤_};
+ghost use lib.ListN.{length};
+ghost use Rattle.records.specs.Sets.{size as ones};
+ghost use Rattle.report.specs.Finish.{Ends, Finishes};
+
+// What the lines of open persons need: the sets of influence, `facts` of them of facts; none of them for a shown world.
+pub struct Opens {
+    pub influence: Influence,
+    pub facts: usize,
+    pub defaults: u64,
+}
+
+pub fn finish(
+    plan: Plan,
+    case: Case,
+    opens: Opens,
+    wanted: Wanted,
+    walked: Walked,
+    noted: &Noted,
+    sums: &Sums,
+    lines: &mut [u8],
+    events: &mut [u8],
+) -> Answer
+    requires { ⌜ Ends plan case opens walked (now noted) (now sums) (now lines) (now events) ⌝ }
+    ensures { λ r. ⌜ Finishes plan case opens wanted walked (now (noted .entry)) (now (sums .entry)) (now (lines .entry)) (now (lines .exit)) (now (events .entry)) (now (events .exit)) r ⌝ }
+{
+    let heading = case.heading;
+    let roster = heading.roster;
+    let people = size(roster) as usize;
+    let listing = walked.listing;
+    if sums[TALLY][BEGUN] == 0 {
+        if wanted.all {
+            write_bare(lines, roster, 6);
+            return Answer::Answered {
+                lines: people,
+                events: 0,
+                worlds: 0,
+            };
+        }
+        return Answer::Refused {
+            number: 14,
+            record: 0,
+        };
+    }
+    let cuts = plan.cuts;
+    let count = count_events(sums, noted, opens.defaults, upto(cuts.count, 16));
+    let listed = listing.count;
+    let total = count + listed;
+    if listing.full || events.len() < 12 * total {
+        clear(events);
+        return Answer::Refused {
+            number: 13,
+            record: 0,
+        };
+    }
+    let influence = opens.influence;
+    let sets = influence.sets;
+    let known = opens.facts;
+    let all = influence.count;
+    write_lines(lines, sums, roster, &sets[..known], &sets[known..all]);
+    write_events(
+        events,
+        plan,
+        case,
+        sums,
+        noted,
+        opens.defaults,
+        count,
+        listed,
+    );
+    Answer::Answered {
+        lines: people,
+        events: total,
+        worlds: walked.worlds,
+    }
+}

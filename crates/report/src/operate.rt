@@ -1,0 +1,129 @@
+// A case answered, or one of its worlds shown: the refusals in their order, then the worlds.
+use crate::Answer;
+use crate::clear::clear;
+use crate::heading::heading_fault;
+use crate::heading::rule_persons;
+use crate::line::write_bare;
+use crate::ready::answer_ready;
+use crate::run::Wanted;
+use expressions::bindable::bindable;
+use expressions::bindings::bindings;
+use expressions::reach::Reach;
+use expressions::reach::reach_of;
+use expressions::variables::count_worlds;
+use records::case::Case;
+use records::check::decode_plan;
+use records::checked::Checked;
+use records::plan::Plan;
+use records::read_case::read_case;
+use records::sets::size;
+ghost use mathlib.Core.Path.{_≡_};
+ghost use lib.ListN.{length, replicate};
+ghost use Rattle.records.specs.Sound.{Sound, SoundCase};
+ghost use Rattle.records.specs.Decoded.{planOf, caseOf};
+ghost use Rattle.report.specs.Operations.{opened};
+ghost use Rattle.report.specs.Operate.{judged, headed, Operates, Binding, Opening};
+
+// The binding of the facts, refusals 5, 10 and 11, and the worlds.
+fn operate_bound(
+    plan: Plan,
+    case: Case,
+    reach: Reach,
+    wanted: Wanted,
+    lines: &mut [u8],
+    events: &mut [u8],
+) -> Answer
+    requires { ⌜ Binding plan case reach (now lines) (now events) ⌝ }
+    ensures { λ r. ⌜ Operates wanted (judged plan case) (now (lines .entry)) (now (lines .exit)) (now (events .entry)) (now (events .exit)) r ⌝ }
+{
+    let found = bindable(case);
+    if let Checked::Refused { number, record } = found {
+        return Answer::Refused {
+            number: number,
+            record: record,
+        };
+    }
+    let heading = case.heading;
+    let undecided = reach.undecided;
+    let codes = bindings(plan, case, reach.bound);
+    let count = count_worlds(codes, reach.count, undecided.count, heading.most_worlds);
+    if count.refused {
+        return Answer::TooManyWorlds {
+            count: count.count,
+            most: count.maximum,
+        };
+    }
+    answer_ready(plan, case, reach, codes, wanted, lines, events)
+}
+
+// The heading's refusals, and a roster that is not complete.
+fn operate_case(
+    plan: Plan,
+    case: Case,
+    wanted: Wanted,
+    lines: &mut [u8],
+    events: &mut [u8],
+) -> Answer
+    requires { ⌜ Opening plan case (now lines) (now events) ⌝ }
+    ensures { λ r. ⌜ Operates wanted (headed plan case (length (now (lines .entry)))) (now (lines .entry)) (now (lines .exit)) (now (events .entry)) (now (events .exit)) r ⌝ }
+{
+    let heading = case.heading;
+    let constraints = case.constraints;
+    let statuses = plan.statuses;
+    let reach = reach_of(plan, heading.roster, constraints);
+    let groups = reach.groups;
+    let persons = rule_persons(groups, statuses);
+    let fault = heading_fault(heading, plan.relation, persons, lines.len());
+    if fault != 0 {
+        return Answer::Refused {
+            number: fault,
+            record: 0,
+        };
+    }
+    if heading.complete {
+        return operate_bound(plan, case, reach, wanted, lines, events);
+    }
+    if !wanted.all {
+        return Answer::Refused {
+            number: 14,
+            record: 0,
+        };
+    }
+    write_bare(lines, heading.roster, 5);
+    Answer::Answered {
+        lines: size(heading.roster) as usize,
+        events: 0,
+        worlds: 0,
+    }
+}
+
+// Bytes to plan and case, with their refusals.
+pub fn operate(
+    plan: &[u8],
+    case: &[u8],
+    wanted: Wanted,
+    lines: &mut [u8],
+    events: &mut [u8],
+) -> Answer
+    ensures { λ r. ⌜ Operates wanted (opened (now (plan .entry)) (now (case .entry)) (length (now (lines .entry)))) (now (lines .entry)) (now (lines .exit)) (now (events .entry)) (now (events .exit)) r ⌝ }
+{
+    clear(lines);
+    clear(events);
+    let read = decode_plan(plan);
+    if read.number != 0 {
+        return Answer::Refused {
+            number: read.number,
+            record: read.record,
+        };
+    }
+    let p = read.plan;
+    let got = read_case(p, case);
+    if got.number != 0 {
+        return Answer::Refused {
+            number: got.number,
+            record: got.record,
+        };
+    }
+    let c = got.case;
+    operate_case(p, c, wanted, lines, events)
+}

@@ -1,0 +1,120 @@
+// A case that is bound over its plan, with no more worlds than its heading allows: its worlds, then its answer.
+use crate::Answer;
+use crate::finish::Opens;
+use crate::finish::finish;
+use crate::free::free_variables;
+use crate::run::Wanted;
+use crate::run::run;
+use crate::run::started;
+use expressions::bindings::took_default;
+use expressions::counts::upto;
+use expressions::influence::Influence;
+use expressions::influence::influence_of;
+use expressions::influence::variables_of;
+use expressions::reach::Reach;
+use expressions::slots::boolean_count;
+use expressions::slots::variable_order;
+use records::case::Case;
+use records::plan::Plan;
+use records::sets::bit;
+use worlds::make::common_of;
+use worlds::make::lay_tables;
+ghost use mathlib.Core.Path.{_≡_};
+ghost use Prim.Native.Nat.{ℕ, _<_};
+ghost use Rattle.records.specs.Sets.{has};
+ghost use Rattle.records.specs.Decoded.{planOf, caseOf};
+ghost use Rattle.expressions.specs.Rules.{factCount};
+ghost use Rattle.expressions.specs.Bindings.{tookDefaultBy};
+ghost use Rattle.report.specs.Ready.{Defaulted, Concerns, IsReady, AnswersReady};
+
+// The bound facts that took their default.
+fn defaults(plan: Plan, case: Case, bound: u64) -> u64
+    ensures { λ r. ⌜ Defaulted plan case bound r ⌝ }
+{
+    let n = upto(plan.facts.count, 64);
+    let mut found: u64 = 0;
+    let mut i: usize = 0;
+    while i < n {
+        if took_default(plan, case, bound, i as u8) {
+            found = found | bit(i as u8);
+        }
+        i = i + 1;
+    }
+    found
+}
+
+// What open persons' lines and events 8 need; nothing of it for a shown world.
+fn concerns(plan: Plan, case: Case, reach: Reach, influence: Influence, all: bool) -> Opens
+    ensures { λ r. ⌜ Concerns plan case reach influence all r ⌝ }
+{
+    if all {
+        return Opens {
+            influence: influence,
+            facts: reach.count,
+            defaults: defaults(plan, case, reach.bound),
+        };
+    }
+    Opens {
+        influence: Influence {
+            count: 0,
+            sets: [0; 80],
+        },
+        facts: 0,
+        defaults: 0,
+    }
+}
+
+// The worlds of the case, and its lines and events.
+pub fn answer_ready(
+    plan: Plan,
+    case: Case,
+    reach: Reach,
+    codes: [u8; 64],
+    wanted: Wanted,
+    lines: &mut [u8],
+    events: &mut [u8],
+) -> Answer
+    requires { ⌜ IsReady plan case reach codes (now lines) (now events) ⌝ }
+    ensures { λ r. ⌜ AnswersReady plan case wanted (now (lines .entry)) (now (lines .exit)) (now (events .entry)) (now (events .exit)) r ⌝ }
+{
+    let heading = case.heading;
+    let roster = heading.roster;
+    let constraints = case.constraints;
+    let undecided = reach.undecided;
+    let groups = reach.groups;
+    let influence = influence_of(reach, variables_of(codes));
+    let mut t = [[0u64; 64]; 21];
+    lay_tables(&mut t, plan, undecided, groups, influence, roster);
+    let common = common_of(plan, roster);
+    let facts = plan.facts;
+    let order = variable_order(boolean_count(facts), undecided.count, reach.count);
+    let mut free = [0u8; 16];
+    let n = free_variables(order, codes, &mut free);
+    let mut sums = started(roster);
+    let mut noted = [[0u64; 64]; 3];
+    let walked = run(
+        &t,
+        common,
+        plan,
+        constraints,
+        codes,
+        &free,
+        n,
+        wanted,
+        &mut noted,
+        &mut sums,
+        events,
+    );
+    let opens = concerns(plan, case, reach, influence, wanted.all);
+    finish(
+        plan,
+        case,
+        opens,
+        wanted,
+        walked,
+        &noted,
+        &sums,
+        lines,
+        events,
+    )
+}
