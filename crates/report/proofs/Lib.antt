@@ -23,3 +23,5 @@ pub mod RisingKinds
 pub mod HappenedAll
 pub mod FoldLaws
 pub mod WriteLaws
+pub mod FreeLaws
+pub mod KnownLaws
