@@ -27,3 +27,5 @@ pub mod NineLaws
 pub mod EventLaws
 pub mod KeptLaws
 pub mod WalkLaws
+pub mod FreeLaws
+pub mod KnownLaws
