@@ -29,3 +29,4 @@ pub mod KeptLaws
 pub mod WalkLaws
 pub mod FreeLaws
 pub mod KnownLaws
+pub mod HeadingLaws

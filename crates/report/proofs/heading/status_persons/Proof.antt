@@ -1,0 +1,89 @@
+-- `heading::status_persons`: what is there, with the persons of the statuses left, is the whole.
+use Prim.Native.Nat.{_-_, _≤_}
+use mathlib.Core.Path.{_≡_, refl, sym, _∙_}
+use lib.ListN.{length, drop, length-map}
+use borrow.Author.Needs.{needs}
+use Rattle.records.proofs.plan.Status.{the-type}
+use Rattle.records.specs.Sets.{union, unionOf}
+use Rattle.records.specs.Decoded.{statusOf}
+use Rattle.expressions.specs.Coded.{statusesOf, PersonFits}
+use Rattle.expressions.specs.Listed.{statusHolds}
+use Rattle.expressions.proofs.ListLaws.{made-each}
+use Rattle.expressions.proofs.UnionLaws.{none-union, union-first, union-end}
+use Rattle.report.proofs.HeadingLaws.{made-rest, made-end}
+use Rattle.report.proofs.heading.status_persons.Statement.{statement}
+use Rattle.report.proofs.heading.status_persons.Tie as tie
+
+abbrev Inv-loop : tie.InvT-loop
+Inv-loop statuses n all₀ i₀ all i = (i ≤ n) × (union all (unionOf statusHolds (drop i (statusesOf statuses))) ≡ unionOf statusHolds (statusesOf statuses))
+
+abbrev μ-loop : tie.MeasureT-loop
+μ-loop statuses n all₀ i₀ all i = n - i
+
+long : (c : tie.Start Inv-loop μ-loop) → length (c .args .t1 .items) ≡ 32
+long c = sym (length-map (c .args .t1 .items) (the-type .to)) ∙ c .good .0 .1 .1 .1 .0 .1 .0 .1
+
+upto-requires : tie.Need-upto-requires Inv-loop μ-loop
+upto-requires c κs = search needs
+
+loop-holds : tie.Need-loop-holds Inv-loop μ-loop
+loop-holds c = (search needs, none-union _)
+
+mul-s : tie.Need-mul-s Inv-loop μ-loop
+mul-s c = search needs
+
+element-copy-out-s : tie.Need-element-copy-out-s Inv-loop μ-loop
+element-copy-out-s c = search needs
+
+bit-requires : tie.Need-bit-requires Inv-loop μ-loop
+unfolding statusesOf statusOf
+bit-requires c κs =
+    let l = c .before .before in
+    let a = l .before in
+    let s = a .before in
+    made-each statusOf (s .args .t1 .items) (s .args .t1 .count) 32 (a .upto .result) (long s) (a .upto .ensures .0) PersonFits (l .loop .i) _ (search needs) (s .pre)
+
+add-i : tie.Need-add-i Inv-loop μ-loop
+add-i c = search needs
+
+loop-less : tie.Need-loop-less Inv-loop μ-loop
+loop-less c = search needs
+
+loop-again : tie.Need-loop-again Inv-loop μ-loop
+unfolding statusesOf statusOf union
+loop-again c =
+    let l = c .before .before .before in
+    let a = l .before in
+    let s = a .before in (
+      search needs,
+      union-first statusHolds (l .loop .all) _ (c .bit .result) _ _ _
+          (made-rest statusOf (s .args .t1 .items) (s .args .t1 .count) 32 (a .upto .result) (long s) (a .upto .ensures .0) (l .loop .i) _ (search needs)) refl
+          (c .bit .ensures)
+          ∙ l .loop .inv .1,
+    )
+
+returns : tie.Need-returns Inv-loop μ-loop
+unfolding statusesOf
+returns c =
+    let l = c .before in
+    let a = l .before in
+    let s = a .before in
+    sym (union-end statusHolds (l .loop .all) _
+    (made-end statusOf (s .args .t1 .items) (s .args .t1 .count) 32 (a .upto .result) (long s) (a .upto .ensures .0) (l .loop .i) (search needs)))
+    ∙ l .loop .inv .1
+
+pub status-persons-spec : {M : Type 1} → statement M
+status-persons-spec =
+    tie.close
+    (tie.spec
+    Inv-loop
+    μ-loop
+    upto-requires
+    loop-holds
+    mul-s
+    element-copy-out-s
+    bit-requires
+    add-i
+    loop-less
+    loop-again
+    returns)
