@@ -27,3 +27,4 @@ pub mod NineLaws
 pub mod EventLaws
 pub mod KeptLaws
 pub mod WalkLaws
+pub mod HappenedLaws
