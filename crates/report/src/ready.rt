@@ -48,8 +48,13 @@ fn concerns(plan: Plan, case: Case, reach: Reach, influence: Influence, all: boo
     ensures { λ r. ⌜ Concerns plan case reach influence all r ⌝ }
 {
     if all {
+        let sets = influence.sets;
+        let used = Influence {
+            count: upto(influence.count, 80),
+            sets: sets,
+        };
         return Opens {
-            influence: influence,
+            influence: used,
             facts: reach.count,
             defaults: defaults(plan, case, reach.bound),
         };
