@@ -33,6 +33,7 @@ use Rattle.expressions.specs.Influences.{setsOf, influenceBy}
 use Rattle.expressions.specs.declared.influence.Influence.{Influence}
 use Rattle.expressions.specs.declared.reach.Reach.{Reach}
 use Rattle.expressions.specs.declared.slots.Slots.{Slots}
+use Rattle.expressions.proofs.ListLaws.{filled-at}
 use Rattle.expressions.proofs.SlotLaws.{variable-from, order-of}
 use Rattle.expressions.proofs.CountLaws.{boolean-few}
 use Rattle.expressions.proofs.OpenLaws.{opens-number}
@@ -61,6 +62,17 @@ use Rattle.report.specs.declared.run.Wanted.{Wanted}
 use Rattle.report.specs.declared.walk.Walked.{Walked}
 use Rattle.report.proofs.FreeLaws.{order-small, few-free}
 use Rattle.report.proofs.WalkLaws.{wanted-all, wanted-one}
+
+-- ---- nothing but zeros
+
+pub rows-clean : (m n i j : ℕ) → row (replicate m (replicate n 0)) i j ≡ 0
+rows-clean zero n i j = refl
+rows-clean (suc m) n zero j = filled-at n j 0
+rows-clean (suc m) n (suc i) j = rows-clean m n i j
+
+pub zeros-small : (n : ℕ) → All (λ v. v < 80) (replicate n 0)
+zeros-small zero = tt
+zeros-small (suc n) = (omega arith, zeros-small n)
 
 -- ---- the rules that a world shows have numbers below their counts
 

@@ -25,11 +25,11 @@ returns c =
     let long : length (i .sets) ≡ 80 = sym (length-map (i .sets) (λ v. v)) ∙ s .good .1 .1 .1 .0 .1 .1 .1 .0 .1 .0 .1 in
     record {
       yes = λ e. (
-            used-take (i .sets) (i .count) 80 (u .upto .result) long (u .upto .ensures .0),
-            sym (used-length (i .sets) (i .count) 80 (u .upto .result) long (u .upto .ensures .0)),
-            refl,
-            c .defaults .ensures,
-          );
+        used-take (i .sets) (i .count) 80 (u .upto .result) long (u .upto .ensures .0),
+        sym (used-length (i .sets) (i .count) 80 (u .upto .result) long (u .upto .ensures .0)),
+        refl,
+        c .defaults .ensures,
+      );
       no = λ e. absurd (false≢true (sym e ∙ u .before .before .if1 .taken));
     }
 
