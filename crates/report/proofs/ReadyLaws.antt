@@ -1,15 +1,15 @@
 -- A case that is ready: the tables stand for it, the worlds looked at are document 01's, and what is kept of them is what the end of an operation asks for.
 use mathlib.Core.Path.{_≡_, refl, sym, ap, ap₂, _∙_, subst}
-use mathlib.Core.Bool.{Bool, true, false, _&&_, _||_, not, cond, false≢true}
+use mathlib.Core.Bool.{Bool, true, false, _&&_, _||_, cond, false≢true}
 use mathlib.Core.List.{List, [], _∷_, _++_, map}
-use Prim.Native.Nat.{ℕ, zero, suc, _+_, _*_, _<_, _≤_}
+use Prim.Native.Nat.{ℕ, zero, suc, _+_, _^_, _<_, _≤_}
 use native.Mathlib.Nat.{le-trans}
 use native.Mathlib.Omega.{arith}
 use lib.ListN.{length, getD, take, drop, replicate, length-map, length-append}
 use lib.Seq.{take-at, drop-at}
 use lib.Dec.{leb, ltb}
 use borrow.Author.Tests.{ltb-true, lt-ltb}
-use Rattle.records.specs.Sets.{has, anyOf, below}
+use Rattle.records.specs.Sets.{has, anyOf, subset}
 use Rattle.records.specs.Plan as paper
 use Rattle.records.specs.Case as paper-case
 use Rattle.records.specs.Sound.{All}
@@ -19,14 +19,13 @@ use Rattle.records.specs.declared.case.Case.{Case}
 use Rattle.records.proofs.SetLaws.{and-parts, has-none}
 use Rattle.records.proofs.LoopLaws.{all-at, length-below}
 use Rattle.records.proofs.BelowLaws.{flag-set}
-use Rattle.expressions.specs.Rules.{factCount, edgeCount, cutCount, attachmentCount, barCount, statusCount, edge}
+use Rattle.expressions.specs.Rules.{factCount, edgeCount, cutCount, attachmentCount, barCount, statusCount, edge, rulePersons}
 use Rattle.expressions.specs.Nodes.{on}
-use Rattle.expressions.specs.Influence.{Frame, openDecisions, decisionCount, boundFacts}
-use Rattle.expressions.specs.Bindings.{Bound, bindings, bindingAt, bindingOf, frameOf, tookDefault, tookDefaultBy}
+use Rattle.expressions.specs.Influence.{Frame, openDecisions, decisionCount}
+use Rattle.expressions.specs.Bindings.{Bound, bindings, bindingOf, frameOf, tookDefault, tookDefaultBy}
 use Rattle.expressions.specs.Variables as variables
 use Rattle.expressions.specs.Variables.{Values, slots, worlds, booleanCount, isVariable, factInfluence, decisionInfluence, influence}
 use Rattle.expressions.specs.Coded.{frameBy}
-use Rattle.expressions.specs.Codes.{boundOf}
 use Rattle.expressions.specs.Slots.{slotOf, slotsOf, slotsBy, booleansIn}
 use Rattle.expressions.specs.Reached.{Reached}
 use Rattle.expressions.specs.Influences.{setsOf, influenceBy}
@@ -50,17 +49,18 @@ use Rattle.worlds.proofs.AttachLaws.{moved-is}
 use Rattle.report.specs.EventBytes.{Below}
 use Rattle.report.specs.Kept.{Kept}
 use Rattle.report.specs.Walked.{worldAt, wanted}
-use Rattle.report.specs.Free.{freeIn, FreeList}
-use Rattle.report.specs.Operations.{Outcome, influences, allWorlds, answerReady, showFrom}
+use Rattle.report.specs.Free.{FreeList}
+use Rattle.report.specs.Operations.{influences, allWorlds, answerReady, showFrom}
 use Rattle.report.specs.Run.{Started, Runs}
-use Rattle.report.specs.Finish.{Ends, ended, Finishes}
-use Rattle.report.specs.Ready.{Defaulted, Concerns, IsReady, readyOutcome, AnswersReady}
+use Rattle.report.specs.Finish.{Ends, Placed, ended, Finishes}
+use Rattle.report.specs.Ready.{Concerns, IsReady, readyOutcome, AnswersReady}
 use Rattle.report.specs.declared.Answer.{Answer}
 use Rattle.report.specs.declared.finish.Opens.{Opens}
 use Rattle.report.specs.declared.nine.Listing.{Listing}
 use Rattle.report.specs.declared.run.Wanted.{Wanted}
 use Rattle.report.specs.declared.walk.Walked.{Walked}
 use Rattle.report.proofs.FreeLaws.{order-small, few-free}
+use Rattle.report.proofs.FinishLaws.{worlds-placed}
 use Rattle.report.proofs.WalkLaws.{wanted-all, wanted-one}
 
 -- ---- nothing but zeros
@@ -184,7 +184,7 @@ module _ (P : paper.Plan) (I : variables.Influence) (k : Common) (t : List (List
 
 -- ---- a case that is ready
 
-module _ (plan : Plan) (c : Case) (reach : Reach) (codes lines events : List ℕ) (h : IsReady plan c reach codes lines events) where
+module _ {plan : Plan} {c : Case} {reach : Reach} {codes lines events : List ℕ} (h : IsReady plan c reach codes lines events) where
   abbrev P : paper.Plan
   P = planOf plan
 
@@ -219,7 +219,7 @@ module _ (plan : Plan) (c : Case) (reach : Reach) (codes lines events : List ℕ
   decisions-are : reach .undecided .count ≡ decisionCount P
   decisions-are = opens-number (reach .undecided) (openDecisions P) (over .opens)
 
-  module _ (booleans : ℕ) (b : booleans ≡ booleansIn (plan .facts)) where
+  module _ {booleans : ℕ} (b : booleans ≡ booleansIn (plan .facts)) where
     booleans-are : booleans ≡ booleanCount P
     unfolding booleansIn booleanCount planOf
     booleans-are = b
@@ -251,8 +251,8 @@ module _ (plan : Plan) (c : Case) (reach : Reach) (codes lines events : List ℕ
         sets ∙ influence-list F reach over bs variables (λ f l.
         varied f (le-trans l (h .sound .factLimit)) ∙ sym (variable-from (getD codes f 0)) ∙ ap isVariable (h .bound f))
 
-    pub stands : (k : Common) (t : List (List ℕ)) → Made plan i (c .heading .roster) t → CommonFor plan (c .heading .roster) k → Stands P (influences P C bs) k t
-    stands k t m f = m .stands (influences P C bs) k (sym sets-are) f (h .named)
+    pub stands : {k : Common} {t : List (List ℕ)} → Made plan i (c .heading .roster) t → CommonFor plan (c .heading .roster) k → Stands P (influences P C bs) k t
+    stands {k} {t} m f = m .stands (influences P C bs) k (sym sets-are) f (h .named)
 
   facts-long : length (influences P C bs .facts) ≡ reach .count
   unfolding influences influence
@@ -283,8 +283,8 @@ module _ (plan : Plan) (c : Case) (reach : Reach) (codes lines events : List ℕ
   bindings-long = let e = length-below (factCount P) (bindingOf P C) in omega arith
 
   -- WHAT IS KEPT is that of the wanted worlds, and all of them are counted
-  module _ (w : Wanted) (k : Common) (t : List (List ℕ)) (S : Stands P (influences P C bs) k t) (people : k .roster ≡ c .heading .roster)
-      (free : List ℕ) (n : ℕ) (order : List ℕ) (ordered : map slotOf order ≡ slots P) (listed : FreeList codes order n free)
+  module _ {w : Wanted} {k : Common} {t : List (List ℕ)} (S : Stands P (influences P C bs) k t) (people : k .roster ≡ c .heading .roster)
+      {free : List ℕ} {n : ℕ} {order : List ℕ} (ordered : map slotOf order ≡ slots P) (listed : FreeList codes order n free)
       {noted₀ noted₁ sums₀ sums₁ : List (List ℕ)} {events₁ : List ℕ} {r : Walked} (runs : Runs t k plan (c .constraints) codes free n w noted₀ noted₁ sums₀ sums₁ events events₁ r)
       (started : Started (c .heading .roster) sums₀) (clean : (i j : ℕ) → row noted₀ i j ≡ 0) where
     abbrev Gone : Frame → ℕ → Type 0
@@ -292,7 +292,7 @@ module _ (plan : Plan) (c : Case) (reach : Reach) (codes lines events : List ℕ
 
     gone : Gone (frameBy plan (k .roster) (c .constraints)) (k .roster)
     gone =
-        runs .at (influences P C bs) bs order S known-named (h .bound) ordered listed (le-trans (few-free bs codes (h .bound) P order ordered (h .few)) (omega arith))
+        runs .at (influences P C bs) bs order S known-named bindings-long (h .bound) ordered listed (le-trans (few-free bs codes (h .bound) P order ordered (h .few)) (omega arith))
         (subst (λ (x : ℕ). Started x sums₀) (sym people) started) clean (h .none)
 
     over-case : Gone F (k .roster)
@@ -305,7 +305,7 @@ module _ (plan : Plan) (c : Case) (reach : Reach) (codes lines events : List ℕ
     pub all-counted : r .worlds ≡ length (allWorlds P C bs)
     all-counted = over-case .1 ∙ sym (ap length worlds-are ∙ length-map (worlds F bs) made)
 
-    module _ (i : Influence) (sets : setsOf i ≡ influences P C bs .facts ++ influences P C bs .decisions) (o : Opens) (concerns : Concerns plan c reach i (w .all) o) where
+    module _ {i : Influence} (sets : setsOf i ≡ influences P C bs .facts ++ influences P C bs .decisions) {o : Opens} (concerns : Concerns plan c reach i (w .all) o) where
       -- the sets are within their array, those of the facts first
       fits : (b : Bool) → w .all ≡ b → (o .facts ≤ o .influence .count) × (o .facts ≤ 64) × (o .influence .count ≤ o .facts + 16) × (o .influence .count ≤ 80)
       fits true e =
@@ -349,6 +349,12 @@ module _ (plan : Plan) (c : Case) (reach : Reach) (codes lines events : List ℕ
               (roster-is ∙ sym people) (over-case .0)
 
       module _ {lines₁ events₂ : List ℕ} {a : Answer} (finishes : Finishes plan c o w r noted₁ sums₁ lines lines₁ events₁ events₂ a) where
+        placed : All (Placed P (c .heading .roster)) (map made (seen w))
+        placed =
+            subst (λ (x : ℕ). All (Placed P x) (map made (seen w))) roster-is
+            (worlds-placed F (influences P C bs) (subst (λ (x : ℕ). x < 2 ^ 64) (people ∙ sym roster-is) (S .roster))
+            (subst (λ (x : ℕ). subset (rulePersons P) x ≡ true) (sym roster-is) (h .named)) (seen w))
+
         all-seen : w .all ≡ true → seen w ≡ worlds F bs
         all-seen e = ap (λ (b : Bool). wanted b (w .number) 0 (worlds F bs)) e ∙ wanted-all (w .number) 0 (worlds F bs)
 
@@ -387,7 +393,7 @@ module _ (plan : Plan) (c : Case) (reach : Reach) (codes lines events : List ℕ
         unfolding ended readyOutcome
         answers = record {
           outcome =
-              finishes .at bs (map made (seen w)) seen-kept (h .zeros)
+              finishes .at bs (map made (seen w)) (h .peopled) placed seen-kept (h .zeros)
               (λ e. all-counted ∙ ap length (worlds-are ∙ ap (map made) (sym (all-seen e)))) few-seen opens-are (concerns .no)
               ∙ ended-so (w .all) refl (length lines) (length events₁)
               ∙ ap (λ (n : ℕ). cond (w .all) (answerReady (length lines) n P C bs (allWorlds P C bs)) (showFrom (length lines) n P C bs (length (allWorlds P C bs)) (drop (w .number) (allWorlds P C bs)))) (runs .long);

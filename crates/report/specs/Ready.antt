@@ -1,8 +1,8 @@
 -- A case that is bound, with no more worlds than its heading allows.
 use mathlib.Core.Path.{_≡_}
 use mathlib.Core.Bool.{Bool, true, false, _&&_, cond}
-use mathlib.Core.List.{List, []}
-use Prim.Native.Nat.{ℕ, _*_, _<_, _≤_}
+use mathlib.Core.List.{List}
+use Prim.Native.Nat.{ℕ, _*_, _≤_}
 use lib.ListN.{length, getD, replicate}
 use lib.Dec.{ltb}
 use Rattle.records.specs.Sets.{has, size, subset}
@@ -36,6 +36,7 @@ pub record Concerns (plan : Plan) (c : Case) (reach : Reach) (influence : Influe
 pub record IsReady (plan : Plan) (c : Case) (reach : Reach) (codes lines events : List ℕ) : Type 0 where
   pub sound : Sound (planOf plan)
   pub sane : SoundCase (planOf plan) (caseOf c)
+  pub peopled : c .heading .roster ≡ 0 → ⊥
   pub named : subset (rulePersons (planOf plan)) (c .heading .roster) ≡ true
   pub reached : Reached (frameBy plan (c .heading .roster) (c .constraints)) reach
   pub bound : (f : ℕ) → boundOf (getD codes f 0) ≡ bindingAt (bindings (planOf plan) (caseOf c)) f

@@ -19,12 +19,6 @@ use records::plan::Plan;
 use records::sets::bit;
 use worlds::make::common_of;
 use worlds::make::lay_tables;
-ghost use mathlib.Core.Path.{_≡_};
-ghost use Prim.Native.Nat.{ℕ, _<_};
-ghost use Rattle.records.specs.Sets.{has};
-ghost use Rattle.records.specs.Decoded.{planOf, caseOf};
-ghost use Rattle.expressions.specs.Rules.{factCount};
-ghost use Rattle.expressions.specs.Bindings.{tookDefaultBy};
 ghost use Rattle.report.specs.Ready.{Defaulted, Concerns, IsReady, AnswersReady};
 
 // The bound facts that took their default.

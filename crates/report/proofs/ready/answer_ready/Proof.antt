@@ -1,16 +1,15 @@
 -- `ready::answer_ready`: what is kept of the wanted worlds makes the answer.
-use Prim.Native.Nat.{ℕ, _≤_, _<_}
-use mathlib.Core.Path.{_≡_, refl, sym, ap, _∙_}
-use mathlib.Core.List.{List, _++_}
-use native.Mathlib.Omega.{arith}
-use lib.ListN.{length, take}
+use mathlib.Core.Path.{_≡_}
+use mathlib.Core.List.{_++_, map}
+use lib.ListN.{take}
 use borrow.Author.Needs.{needs}
 use Rattle.records.specs.Decoded.{planOf, caseOf}
 use Rattle.expressions.specs.Bindings.{bindings}
 use Rattle.expressions.specs.Influences.{setsOf}
+use Rattle.expressions.specs.Slots.{slotOf}
+use Rattle.expressions.specs.Variables.{Influence, slots}
 use Rattle.worlds.specs.Tables.{Stands}
 use Rattle.report.specs.Operations.{influences}
-use Rattle.report.specs.Ready.{IsReady}
 use Rattle.report.proofs.ReadyLaws.{rows-clean, zeros-small, tables-ready, facts-few, decisions-few, booleans-fit, order-is, order-fits, sets-are, stands, ends, answers}
 use Rattle.report.proofs.ready.answer_ready.Statement.{statement}
 use Rattle.report.proofs.ready.answer_ready.Tie as tie
@@ -19,16 +18,10 @@ variables-of-requires : tie.Need-variables-of-requires
 variables-of-requires c κs = search needs
 
 influence-of-requires : tie.Need-influence-of-requires
-influence-of-requires c κs =
-    let a = c .before .before .before .before .before .before .before in
-    let z = a .args in
-    (facts-few (z .plan) (z .case) (z .reach) (z .codes) (z .lines .now) (z .events .now) (a .pre), decisions-few (z .plan) (z .case) (z .reach) (z .codes) (z .lines .now) (z .events .now) (a .pre))
+influence-of-requires c κs = let s = c .before .before .before .before .before .before .before in (facts-few (s .pre), decisions-few (s .pre))
 
 lay-tables-requires : tie.Need-lay-tables-requires
-lay-tables-requires c κs =
-    let a = c .before .before .before .before .before .before .before .before .before in
-    let z = a .args in
-    tables-ready (z .plan) (z .case) (z .reach) (z .codes) (z .lines .now) (z .events .now) (a .pre)
+lay-tables-requires c κs = tables-ready (c .before .before .before .before .before .before .before .before .before .pre)
 
 common-of-requires : tie.Need-common-of-requires
 common-of-requires c κs = c .before .before .before .before .before .before .before .before .before .before .pre .sound
@@ -38,70 +31,67 @@ boolean-count-requires c κs = search needs
 
 variable-order-requires : tie.Need-variable-order-requires
 variable-order-requires c κs =
-    let a = c .before .before .before .before .before .before .before .before .before .before .before .before .before in
-    let z = a .args in (
-      booleans-fit (z .plan) (z .case) (z .reach) (z .codes) (z .lines .now) (z .events .now) (a .pre) (c .boolean-count .result) (c .boolean-count .ensures .0),
-      facts-few (z .plan) (z .case) (z .reach) (z .codes) (z .lines .now) (z .events .now) (a .pre),
-      decisions-few (z .plan) (z .case) (z .reach) (z .codes) (z .lines .now) (z .events .now) (a .pre),
-    )
+    let s = c .before .before .before .before .before .before .before .before .before .before .before .before .before in
+    (booleans-fit (s .pre) (c .boolean-count .ensures .0), facts-few (s .pre), decisions-few (s .pre))
 
 free-variables-requires : tie.Need-free-variables-requires
 free-variables-requires c κs =
     let v = c .before in
-    let n = v .before in
-    let a = c .before .before .before .before .before .before .before .before .before .before .before .before .before .before .before in
-    let z = a .args in (
-      order-fits (z .plan) (z .case) (z .reach) (z .codes) (z .lines .now) (z .events .now) (a .pre) (n .boolean-count .result) (n .boolean-count .ensures .0)
-          (v .variable-order .result) (v .variable-order .ensures),
-      zeros-small 16,
-    )
+    (order-fits (c .before .before .before .before .before .before .before .before .before .before .before .before .before .before .before .pre) (v .before .boolean-count .ensures .0) (v .variable-order .result) (v .variable-order .ensures), zeros-small 16)
 
 started-requires : tie.Need-started-requires
 started-requires c κs = search needs
 
 run-requires : tie.Need-run-requires
 run-requires c κs =
-    let f = c .before .before .before .before .before .before .free-variables in
-    (c .before .before .before .before .before .before .before .before .before .before .before .before .before .before .before .before .before .before .before .before .before .before .pre .sound, f .ensures .few, f .ensures .small)
+    let f = c .before .before .before .before .before .before in
+    (f .before .before .before .before .before .before .before .before .before .before .before .before .before .before .before .before .pre .sound, f .free-variables .ensures .few, f .free-variables .ensures .small)
 
 concerns-requires : tie.Need-concerns-requires
 concerns-requires c κs = search needs
 
--- once the worlds are looked at: the sets of influence are those of the bindings, and the tables stand for the case
-influenced : (x : tie.After-run) →
-    let z = x .before .before .before .before .before .before .before .before .before .before .before .before .before .before .before .before .before .before .before .before .before .before .before .args in
-    let I = influences (planOf (z .plan)) (caseOf (z .case)) (bindings (planOf (z .plan)) (caseOf (z .case))) in
-    setsOf (x .before .before .before .before .before .before .before .before .before .before .before .before .before .before .before .influence-of .result) ≡ I .facts ++ I .decisions
-influenced x =
-    let i = x .before .before .before .before .before .before .before .before .before .before .before .before .before .before .before in
-    let a = x .before .before .before .before .before .before .before .before .before .before .before .before .before .before .before .before .before .before .before .before .before .before .before in
-    let z = a .args in
-    sets-are (z .plan) (z .case) (z .reach) (z .codes) (z .lines .now) (z .events .now) (a .pre) (i .before .variables-of .result) (i .before .variables-of .ensures)
-    (i .influence-of .result) (i .influence-of .ensures)
+-- ---- once the worlds are looked at
 
-standing : (x : tie.After-run) →
-    let z = x .before .before .before .before .before .before .before .before .before .before .before .before .before .before .before .before .before .before .before .before .before .before .before .args in
-    let I = influences (planOf (z .plan)) (caseOf (z .case)) (bindings (planOf (z .plan)) (caseOf (z .case))) in
-    Stands (planOf (z .plan)) I (x .before .before .before .before .before .before .before .before .before .before .before .before .common-of .result) (x .before .before .before .before .before .before .before .before .before .before .before .before .before .lay-tables .last .0)
+abbrev free-at : tie.After-run → tie.After-free-variables
+free-at x = x .before .before .before .before .before .before .before
+
+abbrev order-at : tie.After-run → tie.After-variable-order
+order-at x = free-at x .before .before
+
+abbrev common-at : tie.After-run → tie.After-common-of
+common-at x = order-at x .before .before .before
+
+abbrev influence-at : tie.After-run → tie.After-influence-of
+influence-at x = common-at x .before .before .before
+
+abbrev start : tie.After-run → tie.Start
+start x = influence-at x .before .before .before .before .before .before .before .before
+
+abbrev I : tie.After-run → Influence
+I x =
+    let P = planOf (start x .args .plan) in
+    let C = caseOf (start x .args .case) in
+    influences P C (bindings P C)
+
+-- the sets of influence are those of the bindings, the tables stand for the case, and the order is document 01's
+influenced : (x : tie.After-run) → setsOf (influence-at x .influence-of .result) ≡ I x .facts ++ I x .decisions
+influenced x =
+    let i = influence-at x in
+    sets-are (start x .pre) (i .before .variables-of .result) (i .before .variables-of .ensures) (i .influence-of .result) (i .influence-of .ensures)
+
+standing : (x : tie.After-run) → Stands (planOf (start x .args .plan)) (I x) (common-at x .common-of .result) (common-at x .before .lay-tables .last .0)
 standing x =
-    let i = x .before .before .before .before .before .before .before .before .before .before .before .before .before .before .before in
-    let a = x .before .before .before .before .before .before .before .before .before .before .before .before .before .before .before .before .before .before .before .before .before .before .before in
-    let z = a .args in
-    stands (z .plan) (z .case) (z .reach) (z .codes) (z .lines .now) (z .events .now) (a .pre) (i .before .variables-of .result) (i .before .variables-of .ensures)
-    (i .influence-of .result) (i .influence-of .ensures) (x .before .before .before .before .before .before .before .before .before .before .before .before .common-of .result) _ (x .before .before .before .before .before .before .before .before .before .before .before .before .before .lay-tables .ensures) (x .before .before .before .before .before .before .before .before .before .before .before .before .common-of .ensures)
+    let i = influence-at x in
+    stands (start x .pre) (i .before .variables-of .result) (i .before .variables-of .ensures) (i .influence-of .result) (i .influence-of .ensures) (common-at x .before .lay-tables .ensures) (common-at x .common-of .ensures)
+
+ordered : (x : tie.After-run) → let o = order-at x .variable-order .result in map slotOf (take (o .count) (o .items)) ≡ slots (planOf (start x .args .plan))
+ordered x = order-is (start x .pre) (order-at x .before .boolean-count .ensures .0) (order-at x .variable-order .result) (order-at x .variable-order .ensures)
 
 finish-requires : tie.Need-finish-requires
 finish-requires c κs =
     let x = c .before .before .before .before .before .before .before in
-    let f = x .before .before .before .before .before .before .before in
-    let v = x .before .before .before .before .before .before .before .before .before in
-    let a = x .before .before .before .before .before .before .before .before .before .before .before .before .before .before .before .before .before .before .before .before .before .before .before in
-    let z = a .args in
-    let o = order-is (z .plan) (z .case) (z .reach) (z .codes) (z .lines .now) (z .events .now) (a .pre) (v .before .boolean-count .result) (v .before .boolean-count .ensures .0)
-    (v .variable-order .result) (v .variable-order .ensures) in
-    ends (z .plan) (z .case) (z .reach) (z .codes) (z .lines .now) (z .events .now) (a .pre) (z .wanted) (x .before .before .before .before .before .before .before .before .before .before .before .before .common-of .result) _ (standing x)
-    (x .before .before .before .before .before .before .before .before .before .before .before .before .common-of .ensures .people) _ (f .free-variables .result) _ o (f .free-variables .ensures) (x .run .ensures) (x .before .before .before .before .before .before .started .ensures)
-    (rows-clean 3 64) (x .before .before .before .before .before .before .before .before .before .before .before .before .before .before .before .influence-of .result) (influenced x) (c .before .before .before .before .concerns .result) (c .before .before .before .before .concerns .ensures)
+    ends (start x .pre) (standing x) (common-at x .common-of .ensures .people) (ordered x) (free-at x .free-variables .ensures) (x .run .ensures) (x .before .before .before .before .before .before .started .ensures) (rows-clean 3 64)
+    (influenced x) (c .before .before .before .before .concerns .ensures)
 
 same-length : tie.Need-same-length
 same-length c = search needs
@@ -112,15 +102,8 @@ same-length-2 c = search needs
 returns : tie.Need-returns
 returns c =
     let x = c .before .before .before .before .before .before .before .before .before .before .before .before in
-    let f = x .before .before .before .before .before .before .before in
-    let v = x .before .before .before .before .before .before .before .before .before in
-    let a = x .before .before .before .before .before .before .before .before .before .before .before .before .before .before .before .before .before .before .before .before .before .before .before in
-    let z = a .args in
-    let o = order-is (z .plan) (z .case) (z .reach) (z .codes) (z .lines .now) (z .events .now) (a .pre) (v .before .boolean-count .result) (v .before .boolean-count .ensures .0)
-    (v .variable-order .result) (v .variable-order .ensures) in
-    answers (z .plan) (z .case) (z .reach) (z .codes) (z .lines .now) (z .events .now) (a .pre) (z .wanted) (x .before .before .before .before .before .before .before .before .before .before .before .before .common-of .result) _ (standing x)
-    (x .before .before .before .before .before .before .before .before .before .before .before .before .common-of .ensures .people) _ (f .free-variables .result) _ o (f .free-variables .ensures) (x .run .ensures) (x .before .before .before .before .before .before .started .ensures)
-    (rows-clean 3 64) (x .before .before .before .before .before .before .before .before .before .before .before .before .before .before .before .influence-of .result) (influenced x) (c .before .before .before .before .before .before .before .before .before .concerns .result) (c .before .before .before .before .before .before .before .before .before .concerns .ensures) (c .before .before .before .before .finish .ensures)
+    answers (start x .pre) (standing x) (common-at x .common-of .ensures .people) (ordered x) (free-at x .free-variables .ensures) (x .run .ensures) (x .before .before .before .before .before .before .started .ensures) (rows-clean 3 64)
+    (influenced x) (c .before .before .before .before .before .before .before .before .before .concerns .ensures) (c .before .before .before .before .finish .ensures)
 
 pub answer-ready-spec : {M : Type 1} → statement M
 answer-ready-spec =
