@@ -31,3 +31,4 @@ pub mod FreeLaws
 pub mod KnownLaws
 pub mod HeadingLaws
 pub mod HappenedLaws
+pub mod FinishLaws
