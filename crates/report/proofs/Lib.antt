@@ -31,3 +31,5 @@ pub mod FreeLaws
 pub mod KnownLaws
 pub mod HeadingLaws
 pub mod RunLaws
+pub mod HappenedLaws
+pub mod FinishLaws
