@@ -33,3 +33,4 @@ pub mod HeadingLaws
 pub mod RunLaws
 pub mod HappenedLaws
 pub mod FinishLaws
+pub mod ReadyLaws
