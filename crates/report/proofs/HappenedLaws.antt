@@ -218,6 +218,18 @@ module _ (plan : Plan) (c : Case) (sums noted : List (List ℕ)) (defaults : ℕ
     pub frozen-room : 0 + 12 * size (row sums 4 4) ≤ length before
     frozen-room = let f = fits in omega arith
 
+    -- HOW MANY THERE ARE BY RULE
+    pub rules-many : Many (byRules (planOf plan) (caseOf c) sums noted defaults) (countOf sums noted defaults (cutCount (planOf plan)))
+    unfolding byRules happened discretionOver countOf flatMap
+    rules-many =
+        let none : Many [] 0 = record { count = refl; each = record { bytes = refl } } in
+        let m =
+            many-both many-frozen
+            (many-both many-applied
+            (many-both many-blocked
+            (many-both many-clashed (many-both many-attached (many-both many-barred (many-both many-excluded (many-both many-defaulted none))))))) in
+        record { count = let n = m .count in omega arith; each = m .each }
+
     pub frozen-next : {after : List ℕ} {next : ℕ} → Writes 0 frozen before after next → Frozen after next
     frozen-next = upto-first many-frozen (let f = fits in omega arith)
 

@@ -32,3 +32,6 @@ pub mod KnownLaws
 pub mod HeadingLaws
 pub mod HappenedLaws
 pub mod RunLaws
+pub mod HappenedLaws
+pub mod FinishLaws
+pub mod ReadyLaws
