@@ -30,3 +30,4 @@ pub mod WalkLaws
 pub mod FreeLaws
 pub mod KnownLaws
 pub mod HeadingLaws
+pub mod OperateLaws
