@@ -11,7 +11,6 @@ pub mod Blocks
 pub mod SameViews
 pub mod Answered
 pub mod LinePrivate
-pub mod Private
 pub mod Privacy
 pub mod Places
 pub mod Weaker
