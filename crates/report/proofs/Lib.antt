@@ -11,7 +11,6 @@ pub mod Blocks
 pub mod SameViews
 pub mod Answered
 pub mod LinePrivate
-pub mod Private
 pub mod Privacy
 pub mod Places
 pub mod Weaker
@@ -35,3 +34,4 @@ pub mod RunLaws
 pub mod HappenedLaws
 pub mod FinishLaws
 pub mod ReadyLaws
+pub mod OperateLaws
