@@ -31,7 +31,6 @@ pub mod KnownLaws
 pub mod HeadingLaws
 pub mod HappenedLaws
 pub mod RunLaws
-pub mod HappenedLaws
 pub mod FinishLaws
 pub mod ReadyLaws
 pub mod OperateLaws
