@@ -17,3 +17,7 @@ pub mod Places
 pub mod Weaker
 pub mod Sanity
 pub mod Needed
+pub mod AmongLaws
+pub mod RisingSet
+pub mod RisingKinds
+pub mod HappenedAll

@@ -32,6 +32,10 @@ abbrev pub electionEvidence : Case → List Election → ℕ
 electionEvidence C [] = 0
 electionEvidence C (e ∷ es) = evidenceOf C (e .fact)
 
+-- the lowest of the merged cuts
+unfoldable pub leastOfMerged : Plan → World → ℕ → Bool
+leastOfMerged P w c = on (w .kept) c && not (anyBelow c (λ d. on (w .kept) d && sameMembers P c d))
+
 module _ (P : Plan) (C : Case) (roster : ℕ) (w : World) where
   -- "1 frozen: rule, left, right"
   unfoldable pub frozenEvents : List (List ℕ)
@@ -48,15 +52,11 @@ module _ (P : Plan) (C : Case) (roster : ℕ) (w : World) where
       flatMap (λ c. listed (edgeCount P) (λ e. standing (w .kept) (w .overlapping) c && blockedBy P (w .active) c e)
       (λ e. event 3 c e (electionActor (cut P c .election)) (electionEvidence C (cut P c .election)))) (numbers (cutCount P) 0)
 
-  -- the lowest of the merged cuts
-  unfoldable pub leastOfMerged : ℕ → Bool
-  leastOfMerged c = on (w .kept) c && not (anyBelow c (λ d. on (w .kept) d && sameMembers P c d))
-
   -- "4 overlap: lowest cut of the earlier set, then of the later"; "Sets are ordered as rising person lists"
   unfoldable pub overlapEvents : List (List ℕ)
   overlapEvents =
       flatMap (λ c. listed (cutCount P)
-      (λ d. (leastOfMerged c && leastOfMerged d) && (meets (cut P c .members) (cut P d .members) && risingLess (cut P c .members) (cut P d .members)))
+      (λ d. (leastOfMerged P w c && leastOfMerged P w d) && (meets (cut P c .members) (cut P d .members) && risingLess (cut P c .members) (cut P d .members)))
       (λ d. event 4 c d 0 0)) (numbers (cutCount P) 0)
 
   -- "5 attachment: rule, anchor, actor, evidence"
