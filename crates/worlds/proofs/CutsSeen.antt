@@ -33,7 +33,21 @@ pub flags-below : (C : ℕ → Bool) (persons : ℕ → ℕ) (n : ℕ) (f g : �
     → ((i q : ℕ) → i < n → has (persons i) q ≡ true → C q ≡ true → f i ≡ g i) → Flag C persons (on (below n f)) (on (below n g))
 flags-below C persons n f g h i q x y = below-at n f g false i (λ l. h i q l x y)
 
--- ---- step 1: rules of persons of the circle use facts that touch it
+-- ---- step 1: what an edge says follows from the facts that it uses
+
+-- it is active, and no defeater of it is
+abbrev pub freezes : Plan → ℕ → ℕ → Bool
+freezes P facts i = on (values P facts) (edge P i .condition) && not (anyOf (on (values P facts)) (edge P i .defeaters))
+
+pub freezes-follow : (P : Plan) (v w i : ℕ) → On (edgeUses P i) v w → freezes P v i ≡ freezes P w i
+unfolding edgeUses
+freezes-follow P v w i o =
+    ap₂ (λ (x y : Bool). x && not y)
+    (node-follows v w P (edge P i .condition) (on-left (usesAt P (edge P i .condition)) (unionOf (usesAt P) (edge P i .defeaters)) o))
+    (any-follows v w (usesAt P) (on (values P v)) (on (values P w)) (node-follows v w P) (edge P i .defeaters)
+    (on-right (usesAt P (edge P i .condition)) (unionOf (usesAt P) (edge P i .defeaters)) o))
+
+-- rules of persons of the circle use facts that touch it
 
 module _ (F : Frame) (C : ℕ → Bool) (v w : Values) (S : Similar F C v w) where
   abbrev P : Plan
@@ -45,16 +59,8 @@ module _ (F : Frame) (C : ℕ → Bool) (v w : Values) (S : Similar F C v w) whe
   node : (i : ℕ) → On (usesAt P i) (v .facts) (w .facts) → on (values P (v .facts)) i ≡ on (values P (w .facts)) i
   node = node-follows (v .facts) (w .facts) P
 
-  frozen-same : (i q : ℕ) → i < edgeCount P → has (pair P i) q ≡ true → C q ≡ true
-      → (on (values P (v .facts)) (edge P i .condition) && not (anyOf (on (values P (v .facts))) (edge P i .defeaters)))
-      ≡ (on (values P (w .facts)) (edge P i .condition) && not (anyOf (on (values P (w .facts))) (edge P i .defeaters)))
-  unfolding edgeUses
-  frozen-same i q l h e =
-      let o : On (edgeUses P i) (v .facts) (w .facts) = by q e (edgeUses P i) (pair P i) h (λ f x. touch-edge F f i l x) in
-      ap₂ (λ (x y : Bool). x && not y)
-      (node (edge P i .condition) (on-left (usesAt P (edge P i .condition)) (unionOf (usesAt P) (edge P i .defeaters)) o))
-      (any-follows (v .facts) (w .facts) (usesAt P) (on (values P (v .facts))) (on (values P (w .facts))) node (edge P i .defeaters)
-      (on-right (usesAt P (edge P i .condition)) (unionOf (usesAt P) (edge P i .defeaters)) o))
+  frozen-same : (i q : ℕ) → i < edgeCount P → has (pair P i) q ≡ true → C q ≡ true → freezes P (v .facts) i ≡ freezes P (w .facts) i
+  frozen-same i q l h e = freezes-follow P (v .facts) (w .facts) i (by q e (edgeUses P i) (pair P i) h (λ f x. touch-edge F f i l x))
 
   pub active-same : Same C P (active P v) (active P w)
   unfolding active flags cutUses attachmentUses barUses statusUses

@@ -32,7 +32,7 @@ module _ (P : Plan) (a : Active) (kept : List Bool) where
   abbrev pub applied : List Bool
   applied = appliedCuts P a kept (overlappingCuts P kept)
 
-  applied-parts : (c : ℕ) → on applied c ≡ true → (c < cutCount P) × (on kept c ≡ true) × (overlappingCut P kept c ≡ false)
+  pub applied-parts : (c : ℕ) → on applied c ≡ true → (c < cutCount P) × (on kept c ≡ true) × (overlappingCut P kept c ≡ false)
   unfolding appliedCuts overlappingCuts
   applied-parts c e =
       let f = flag-set (cutCount P) (λ c. standing kept (overlappingCuts P kept) c && not (blockedCut P a kept c)) c e in
@@ -40,7 +40,7 @@ module _ (P : Plan) (a : Active) (kept : List Bool) where
       let k = and-parts (on kept c) (not (on (overlappingCuts P kept) c)) (s .0) in
       (f .0, k .0, sym (getD-below (cutCount P) (overlappingCut P kept) false c (f .0)) ∙ not-true (on (overlappingCuts P kept) c) (k .1))
 
-  cuts-same : (c d q : ℕ) → on applied c ≡ true → on applied d ≡ true → has (cut P c .members) q ≡ true → has (cut P d .members) q ≡ true
+  pub cuts-same : (c d q : ℕ) → on applied c ≡ true → on applied d ≡ true → has (cut P c .members) q ≡ true → has (cut P d .members) q ≡ true
       → cut P c .members ≡ cut P d .members
   unfolding overlappingCut about meets
   cuts-same c d q x y h k =
@@ -60,7 +60,7 @@ module _ (P : Plan) (a : Active) (kept : List Bool) where
       other d = meets mc (cut P d .members) && (on kept d && not (sameMembers P c d))
 
   -- a person of an applied cut has its members, and nobody else's
-  applied-to : (c p : ℕ) → on applied c ≡ true → has (cut P c .members) p ≡ true → appliedTo P applied p ≡ cut P c .members
+  pub applied-to : (c p : ℕ) → on applied c ≡ true → has (cut P c .members) p ≡ true → appliedTo P applied p ≡ cut P c .members
   unfolding appliedTo
   applied-to c p x h =
       antisym (appliedTo P applied p) (cut P c .members) (record { at = found })
@@ -77,14 +77,14 @@ module _ (P : Plan) (a : Active) (kept : List Bool) where
           let w = and-parts (on applied d) (has (cut P d .members) p) (t .0) in
           ap (λ (m : ℕ). has m q) (cuts-same c d p x (w .0) h (w .1)) ∙ t .1
 
-  of-cuts : (p : ℕ) → has (cutMembers P applied) p ≡ true → (c : ℕ) × (on applied c ≡ true) × (has (cut P c .members) p ≡ true)
+  pub of-cuts : (p : ℕ) → has (cutMembers P applied) p ≡ true → (c : ℕ) × (on applied c ≡ true) × (has (cut P c .members) p ≡ true)
   unfolding cutMembers
   of-cuts p e =
       let r = union-find (cutCount P) (λ c. only (on applied c) (cut P c .members)) p e in
       let t = of-only (on applied (r .0)) (cut P (r .0) .members) p (r .2) in
       (r .0, t .0, t .1)
 
-  in-cuts : (c : ℕ) → on applied c ≡ true → Within (cut P c .members) (cutMembers P applied)
+  pub in-cuts : (c : ℕ) → on applied c ≡ true → Within (cut P c .members) (cutMembers P applied)
   unfolding cutMembers
   in-cuts c x =
       thru (in-only (on applied c) (cut P c .members) x)
@@ -106,23 +106,23 @@ out-of-blocks live s B p e = empty (blockOf s p) (λ q h. true≢false (sym (B .
 
 module _ (P : Plan) (roster marks : ℕ) (a : Active) (kept : List Bool) (fits : roster < 2 ^ 64)
     (inside : (c : ℕ) → Within (cut P c .members) roster) where
-  abbrev live : ℕ
+  abbrev pub live : ℕ
   live = minus roster marks
 
-  abbrev cuts : ℕ
+  abbrev pub cuts : ℕ
   cuts = cutMembers P (applied P a kept)
 
-  abbrev rest : ℕ
+  abbrev pub rest : ℕ
   rest = minus live cuts
 
-  abbrev sets : List ℕ
+  abbrev pub sets : List ℕ
   sets = restSets P a rest
 
-  abbrev first : ℕ → ℕ
+  abbrev pub first : ℕ → ℕ
   first p = firstBlock P roster marks (applied P a kept) sets p
 
   -- by who is live and who is in a cut
-  first-by : (p : ℕ) (l c : Bool) → has live p ≡ l → has cuts p ≡ c
+  pub first-by : (p : ℕ) (l c : Bool) → has live p ≡ l → has cuts p ≡ c
       → first p ≡ only l (cond c (minus (appliedTo P (applied P a kept) p) marks) (closeOf sets (one p)))
   unfolding firstBlock
   first-by p l c x y =
@@ -174,20 +174,22 @@ module _ (P : Plan) (roster marks : ℕ) (a : Active) (kept : List Bool) (fits :
       pick true e = e
       pick false e = absurd (false≢true (sym (has-none q) ∙ sym (ap (λ (x : ℕ). has x q) (first-by p false (has cuts p) e refl)) ∙ h))
 
+  -- a person's block at the start; past the roster there is none
+  pub first-is : (p : ℕ) → blockOf (firstState P roster marks a (applied P a kept)) p ≡ first p
+  unfolding firstState
+  first-is = getD-below-all 64 first (λ p h. empty (first p) (λ q e. true≢false (sym (of-minus roster marks p (first-live p q e) .0) ∙ has-high 64 roster p fits h)))
+
   pub first-blocks : Blocks live (firstState P roster marks a (applied P a kept))
   unfolding firstState
   first-blocks = record {
     self = λ p l. at p p ∙ start p (has cuts p) l refl .self;
     owner = λ p q h. first-live p q (sym (at p q) ∙ h);
     alive = λ p q h. later p q (sym (at p q) ∙ h) .0;
-    agreed = λ p q h. is q ∙ later p q (sym (at p q) ∙ h) .1 ∙ sym (is p);
+    agreed = λ p q h. first-is q ∙ later p q (sym (at p q) ∙ h) .1 ∙ sym (first-is p);
   }
     where
-      is : (p : ℕ) → getD (below 64 first) p 0 ≡ first p
-      is = getD-below-all 64 first (λ p h. empty (first p) (λ q e. true≢false (sym (of-minus roster marks p (first-live p q e) .0) ∙ has-high 64 roster p fits h)))
-
       at : (p q : ℕ) → has (getD (below 64 first) p 0) q ≡ has (first p) q
-      at p q = ap (λ (x : ℕ). has x q) (is p)
+      at p q = ap (λ (x : ℕ). has x q) (first-is p)
 
       later : (p q : ℕ) → has (first p) q ≡ true → (has live q ≡ true) × (first q ≡ first p)
       later p q h = start p (has cuts p) (first-live p q h) refl .others q h

@@ -3,9 +3,9 @@ use mathlib.Core.Path.{_≡_, refl, sym, ap, _∙_}
 use mathlib.Core.Bool.{Bool, true, false, _&&_, not, cond, true≢false}
 use mathlib.Core.Logic.{_⊎_, inl, inr, ⊎-elim}
 use Prim.Native.Nat.{ℕ, _≤_, _<_, _^_}
-use lib.ListN.{getD, List·getD-eq-default}
+use lib.ListN.{List·getD-eq-default}
 use lib.Dec.{eqb}
-use Rattle.records.specs.Sets.{has, one, union, minus, disjoint, subset, below, unionBelow}
+use Rattle.records.specs.Sets.{has, one, union, minus, disjoint, subset, unionBelow}
 use Rattle.records.specs.Plan.{Plan, Cut, Attachment}
 use Rattle.records.proofs.SetLaws.{Within, has-none, has-high, thru, in-union-l, in-union-r, of-union, in-minus, of-minus, empty, subset-true, disjoint-false, lt-or-le}
 use Rattle.records.proofs.BelowLaws.{in-below, getD-below-all, fold-keeps}
@@ -16,7 +16,7 @@ use Rattle.worlds.specs.Active.{Active}
 use Rattle.worlds.specs.World.{State, Marks, marked, blockOf, keptCuts, firstState, move, attach, lastState, marksOf, afterMarks, worldOf}
 use Rattle.worlds.proofs.FirstBlocks.{Blocks, out-of-blocks, applied, first-blocks}
 
-not-set : (b : Bool) → (b ≡ true → ⊥) → b ≡ false
+pub not-set : (b : Bool) → (b ≡ true → ⊥) → b ≡ false
 not-set true h = absurd (h refl)
 not-set false h = refl
 
@@ -69,22 +69,25 @@ module _ (live : ℕ) (high : (p : ℕ) → 64 ≤ p → has live p ≡ false) (
   own p false e l = ap (λ (x : ℕ). has x p) (by p false e) ∙ in-minus (blockOf s p) movers p (B .self p l)
       (not-set (has movers p) (λ k. true≢false (sym (in-union-r (blockOf s anchor) movers .at p k) ∙ e)))
 
-  move-blocks : Blocks live (move i target movers s)
+  -- each block afterwards, nobody's past the sixty-four among them
+  pub moved-block : (p : ℕ)
+      → blockOf (move i (union (blockOf s anchor) movers) movers s) p
+      ≡ cond (has (union (blockOf s anchor) movers) p) (union (blockOf s anchor) movers) (minus (blockOf s p) movers)
   unfolding move
+  moved-block = getD-below-all 64 after (λ p h. empty (after p) (λ q e. true≢false (sym (held p q (has target p) refl e .owner) ∙ high p h)))
+
+  move-blocks : Blocks live (move i target movers s)
   move-blocks = record {
     self = λ p l. at p p ∙ own p (has target p) refl l;
     owner = λ p q h. then p q h .owner;
     alive = λ p q h. then p q h .alive;
-    agreed = λ p q h. is q ∙ then p q h .agreed ∙ sym (is p);
+    agreed = λ p q h. moved-block q ∙ then p q h .agreed ∙ sym (moved-block p);
   }
     where
-      is : (p : ℕ) → getD (below 64 after) p 0 ≡ after p
-      is = getD-below-all 64 after (λ p h. empty (after p) (λ q e. true≢false (sym (held p q (has target p) refl e .owner) ∙ high p h)))
+      at : (p q : ℕ) → has (blockOf (move i target movers s) p) q ≡ has (after p) q
+      at p q = ap (λ (x : ℕ). has x q) (moved-block p)
 
-      at : (p q : ℕ) → has (getD (below 64 after) p 0) q ≡ has (after p) q
-      at p q = ap (λ (x : ℕ). has x q) (is p)
-
-      then : (p q : ℕ) → has (getD (below 64 after) p 0) q ≡ true → Held p q
+      then : (p q : ℕ) → has (blockOf (move i target movers s) p) q ≡ true → Held p q
       then p q h = held p q (has target p) refl (sym (at p q) ∙ h)
 
 -- ---- the world
@@ -110,7 +113,7 @@ module _ (P : Plan) (roster : ℕ) (on-roster : subset (rulePersons P) roster �
   unfolding rulePersons edges cuts spans others
   persons = subset-true (rulePersons P) roster on-roster
 
-  cut-on : (c : ℕ) → Within (cut P c .members) roster
+  pub cut-on : (c : ℕ) → Within (cut P c .members) roster
   unfolding cuts cut
   cut-on c = ⊎-elim named past (lt-or-le c (cutCount P))
     where
@@ -122,7 +125,7 @@ module _ (P : Plan) (roster : ℕ) (on-roster : subset (rulePersons P) roster �
       past : cutCount P ≤ c → Within (cut P c .members) roster
       past l = nobody (cut P c .members) roster (ap (λ (x : Cut). x .members) (List·getD-eq-default (P .cuts) _ l))
 
-  attachment-on : (i : ℕ) → Within (attachment P i .members) roster
+  pub attachment-on : (i : ℕ) → Within (attachment P i .members) roster
   unfolding spans span attachment
   attachment-on i = ⊎-elim named past (lt-or-le i (attachmentCount P))
     where
@@ -139,25 +142,26 @@ module _ (P : Plan) (roster : ℕ) (on-roster : subset (rulePersons P) roster �
     abbrev live : ℕ
     live = minus roster (marked m)
 
-    high : (p : ℕ) → 64 ≤ p → has live p ≡ false
-    high p h = not-set (has live p) (λ e. true≢false (sym (of-minus roster (marked m) p e .0) ∙ has-high 64 roster p fits h))
+    pub live-below : (p : ℕ) → 64 ≤ p → has (minus roster (marked m)) p ≡ false
+    live-below p h = not-set (has live p) (λ e. true≢false (sym (of-minus roster (marked m) p e .0) ∙ has-high 64 roster p fits h))
 
-    attach-blocks : (i : ℕ) (s : State) → Blocks live s → Blocks live (attach P (marked m) a i s)
+    -- the unmarked members of an attachment
+    pub movers-live : (i : ℕ) → Within (minus (attachment P i .members) (marked m)) (minus roster (marked m))
+    movers-live i = record {
+      at = λ q h.
+          let t = of-minus (attachment P i .members) (marked m) q h in
+          in-minus roster (marked m) q (attachment-on i .at q (t .0)) (t .1);
+    }
+
+    pub attach-blocks : (i : ℕ) (s : State) → Blocks (minus roster (marked m)) s → Blocks (minus roster (marked m)) (attach P (marked m) a i s)
     unfolding attach
     attach-blocks i s B = pick (on (a .attachments) i && not (eqb (blockOf s (attachment P i .anchor)) 0))
       where
         movers : ℕ
         movers = minus (attachment P i .members) (marked m)
 
-        movers-live : Within movers live
-        movers-live = record {
-          at = λ q h.
-              let t = of-minus (attachment P i .members) (marked m) q h in
-              in-minus roster (marked m) q (attachment-on i .at q (t .0)) (t .1);
-        }
-
         pick : (b : Bool) → Blocks live (cond b (move i (union (blockOf s (attachment P i .anchor)) movers) movers s) s)
-        pick true = move-blocks live high i (attachment P i .anchor) movers movers-live s B
+        pick true = move-blocks live live-below i (attachment P i .anchor) movers (movers-live i) s B
         pick false = B
 
     pub world-blocks : Blocks (minus roster (marked m)) (afterMarks P roster a m .state)

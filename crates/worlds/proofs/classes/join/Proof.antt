@@ -1,0 +1,58 @@
+-- `classes::join`: a set joins nobody new where it is empty or lies within one class; else the classes of its persons become one.
+use borrow.Author.Needs.{needs}
+use mathlib.Core.Path.{sym, ap, _∙_}
+use borrow.Author.Tests.{not-false}
+use Rattle.records.specs.Sets.{has, lowest}
+use Rattle.records.proofs.SetLaws.{trailing-member}
+use Rattle.worlds.proofs.ClassLaws.{joins-nobody, joins-inside, joins-whole}
+use Rattle.worlds.proofs.classes.join.Statement.{statement}
+use Rattle.worlds.proofs.classes.join.Tie as tie
+
+low-requires : tie.Need-low-requires
+low-requires c κs = search needs
+
+mul-first : tie.Need-mul-first
+mul-first c = search needs
+
+element-copy-out-first : tie.Need-element-copy-out-first
+element-copy-out-first c = search needs
+
+subset-requires : tie.Need-subset-requires
+subset-requires c κs = search needs
+
+gather-requires : tie.Need-gather-requires
+gather-requires c κs = search needs
+
+put-requires : tie.Need-put-requires
+put-requires c κs = search needs
+
+returns : tie.Need-returns
+returns c =
+    let s = c .before .before .before .before .before .before .before .before .before in
+    joins-whole (s .args .set) (c .before .before .gather .result) (s .args .classes .now) (c .put .last .0) (s .fits .set .fits) (c .before .before .gather .ensures) (c .put .ensures)
+
+returns-2 : tie.Need-returns-2
+unfolding lowest
+returns-2 c =
+    let s = c .before .before .before .before .before in
+    let low = c .before .before .before .low in
+    joins-inside (s .args .set) (low .result) (s .args .classes .now)
+    (ap (has (s .args .set)) (low .ensures .0) ∙ trailing-member 64 (s .args .set) (s .fits .set .fits) (c .before .before .before .before .if1 .taken))
+    (sym (c .before .subset .ensures) ∙ not-false (c .before .subset .result) (c .if2 .left))
+
+returns-3 : tie.Need-returns-3
+returns-3 c = joins-nobody (c .before .args .set) (c .before .args .classes .now) (c .if1 .left)
+
+pub join-spec : {M : Type 1} → statement M
+join-spec =
+    tie.close
+    (tie.spec
+    low-requires
+    mul-first
+    element-copy-out-first
+    subset-requires
+    gather-requires
+    put-requires
+    returns
+    returns-2
+    returns-3)

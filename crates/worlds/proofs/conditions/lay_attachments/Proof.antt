@@ -1,0 +1,88 @@
+-- `conditions::lay_attachments`: after i attachments the row holds the conditions of the first i, and the other rows are as they were.
+use mathlib.Core.Path.{_≡_, refl, sym, ap, _∙_}
+use mathlib.Core.List.{[], _∷_}
+use Prim.Native.Nat.{ℕ, _+_, _≤_, _-_}
+use native.Mathlib.Omega.{arith}
+use borrow.Author.Needs.{needs}
+use lib.ListN.{length, getD, length-map}
+use Rattle.records.specs.Sets.{anyOf}
+use Rattle.records.specs.Plan.{Attachment}
+use Rattle.records.specs.Decoded.{attachmentOf}
+use Rattle.records.specs.declared.plan.Attachment.{Attachment as Coded}
+use Rattle.records.proofs.plan.Attachment.{the-type}
+use Rattle.expressions.specs.Coded.{attachmentsOf}
+use Rattle.expressions.specs.Rules.{attachment}
+use Rattle.expressions.proofs.ListLaws.{made-length, made-at}
+use Rattle.worlds.specs.Laid.{Same}
+use Rattle.worlds.proofs.LayLaws.{Each, each-none, each-next, each-row, same-start, same-next}
+use Rattle.worlds.proofs.conditions.lay_attachments.Statement.{statement}
+use Rattle.worlds.proofs.conditions.lay_attachments.Tie as tie
+
+abbrev none : Attachment
+none = record { members = 0; anchor = 64; condition = 256; citation = 0; actor = 0; election = [] }
+
+abbrev condition : Attachment → ℕ → Type 0
+condition x v = v ≡ x .condition
+
+abbrev Inv-loop : tie.InvT-loop
+Inv-loop t₀ attachments n i₀ t i = (i ≤ n) × Each condition none (attachmentsOf attachments) t 2 i × Same (2 ∷ []) t₀ t
+
+abbrev μ-loop : tie.MeasureT-loop
+μ-loop t₀ attachments n i₀ t i = n - i
+
+long : (c : tie.Start Inv-loop μ-loop) → length (c .args .t2 .items) ≡ 32
+long c = sym (length-map (c .args .t2 .items) (the-type .to)) ∙ c .good .1 .0 .1 .1 .1 .0 .1 .0 .1
+
+-- the one at i, as the plan has it
+here : (c : tie.In-loop Inv-loop μ-loop) (d : Coded) →
+    let a = c .before .before in
+    getD (attachmentsOf (a .before .args .t2)) (c .before .loop .i) none ≡ attachmentOf (getD (a .before .args .t2 .items) (c .before .loop .i) d)
+unfolding attachmentsOf
+here c d =
+    let a = c .before .before in
+    made-at attachmentOf (a .before .args .t2 .items) (a .before .args .t2 .count) 32 (a .upto .result) (long (a .before)) (a .upto .ensures .0) (c .before .loop .i) d none (search needs)
+
+upto-requires : tie.Need-upto-requires Inv-loop μ-loop
+upto-requires c κs = search needs
+
+loop-holds : tie.Need-loop-holds Inv-loop μ-loop
+loop-holds c = (search needs, each-none _ _ _ _ _, same-start _ _)
+
+mul-a : tie.Need-mul-a Inv-loop μ-loop
+mul-a c = search needs
+
+element-copy-out-a : tie.Need-element-copy-out-a Inv-loop μ-loop
+element-copy-out-a c = search needs
+
+lay-condition-requires : tie.Need-lay-condition-requires Inv-loop μ-loop
+lay-condition-requires c κs = search needs
+
+add-i : tie.Need-add-i Inv-loop μ-loop
+add-i c = search needs
+
+loop-less : tie.Need-loop-less Inv-loop μ-loop
+loop-less c = search needs
+
+loop-again : tie.Need-loop-again Inv-loop μ-loop
+unfolding attachmentOf anyOf
+loop-again c =
+    let k = c .before .before .before in
+    let inv = k .before .loop .inv in
+    let more : k .before .loop .i + 1 ≤ k .before .before .upto .result = search needs in
+    let xs = attachmentsOf (k .before .before .before .args .t2) in
+    let laid = c .lay-condition .ensures in
+    (more, each-next condition none xs laid (ap (λ (x : Attachment). x .condition) (sym (here k _))) (inv .1), same-next (2 ∷ []) refl laid (inv .2))
+
+returns : tie.Need-returns Inv-loop μ-loop
+unfolding attachmentsOf attachment
+returns c =
+    let l = c .before in
+    let a = l .before in
+    let s = a .before in
+    let xs = attachmentsOf (s .args .t2) in
+    let end : length xs ≤ l .loop .i = omega (arith, made-length attachmentOf (s .args .t2 .items) (s .args .t2 .count) 32 (a .upto .result) (long s) (a .upto .ensures .0), c .loop-test .left) in
+    record { conditions = λ P e. each-row (λ (x : Attachment). x .condition) none xs (P .attachments) (l .loop .conditions) 2 (l .loop .i) e end (l .loop .inv .1); same = l .loop .inv .2 }
+
+pub lay-attachments-spec : {M : Type 1} → statement M
+lay-attachments-spec =
+    tie.close (tie.spec Inv-loop μ-loop upto-requires loop-holds mul-a element-copy-out-a lay-condition-requires add-i loop-less loop-again returns)

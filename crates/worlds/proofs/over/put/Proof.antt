@@ -1,0 +1,73 @@
+-- `over::put`: with the value at the numbers left, the table is the one asked for.
+use mathlib.Core.Path.{_≡_, refl, sym, _∙_}
+use mathlib.Core.Bool.{cond}
+use Prim.Native.Nat.{ℕ, _<_, _^_}
+use native.Mathlib.Nat.{lt-trans}
+use native.Mathlib.Omega.{arith}
+use lib.ListN.{length, length-set}
+use Rattle.records.specs.Sets.{has}
+use Rattle.worlds.specs.Over.{entry}
+use Rattle.worlds.proofs.OverLaws.{turn-has, change-next, change-end}
+use Rattle.worlds.proofs.over.put.Statement.{statement}
+use Rattle.worlds.proofs.over.put.Tie as tie
+
+abbrev Inv-loop : tie.InvT-loop
+Inv-loop table₀ set value m₀ table m = (m < 2 ^ 64) × (length table ≡ 64) × ((i : ℕ) → cond (has m i) value (entry table i) ≡ cond (has set i) value (entry table₀ i))
+
+abbrev μ-loop : tie.MeasureT-loop
+μ-loop table₀ set value m₀ table m = m
+
+whole-requires : tie.Need-whole-requires Inv-loop μ-loop
+whole-requires c κs = tt
+
+loop-holds : tie.Need-loop-holds Inv-loop μ-loop
+loop-holds c = (c .before .before .fits .set .fits, c .whole .ensures, λ i. refl)
+
+low-requires : tie.Need-low-requires Inv-loop μ-loop
+low-requires c κs = c .loop-test .taken
+
+mul-table : tie.Need-mul-table Inv-loop μ-loop
+mul-table c = omega (arith, c .low .ensures .1)
+
+element-write-table : tie.Need-element-write-table Inv-loop μ-loop
+element-write-table c = c .low .ensures .1
+
+others-requires : tie.Need-others-requires Inv-loop μ-loop
+others-requires c κs = c .before .loop-test .taken
+
+loop-less : tie.Need-loop-less Inv-loop μ-loop
+loop-less c = c .others .ensures .1
+
+loop-again : tie.Need-loop-again Inv-loop μ-loop
+loop-again c =
+    let l = c .before .before .before in
+    let lies = c .before .low .ensures in
+    let value = l .before .before .before .args .value in (
+      lt-trans (c .others .ensures .1) (l .loop .inv .0),
+      simp length-set (l .loop .inv .1),
+      λ i. change-next (λ (x : ℕ). value) (λ x. refl) (l .loop .m) (c .others .result) (c .before .low .result) value (l .loop .table)
+          (turn-has _ _ _ (l .loop .inv .0) lies (c .others .ensures))
+          (omega (arith, lies .1, l .loop .inv .1)) refl i
+          ∙ l .loop .inv .2 i,
+    )
+
+returns : tie.Need-returns Inv-loop μ-loop
+returns c =
+    let l = c .before in
+    record { at = λ i. sym (change-end (λ (x : ℕ). l .before .before .before .args .value) (l .loop .m) i (l .loop .table) (c .loop-test .left)) ∙ l .loop .inv .2 i }
+
+pub put-spec : {M : Type 1} → statement M
+put-spec =
+    tie.close
+    (tie.spec
+    Inv-loop
+    μ-loop
+    whole-requires
+    loop-holds
+    low-requires
+    mul-table
+    element-write-table
+    others-requires
+    loop-less
+    loop-again
+    returns)

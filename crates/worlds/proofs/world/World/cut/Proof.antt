@@ -1,0 +1,60 @@
+-- `World::cut`: marks of overlap and roles by what `mark` does, blocks by the laws of step 6.
+use mathlib.Core.Path.{ap, _∙_}
+use mathlib.Core.Bool.{cond}
+use borrow.Author.Needs.{needs}
+use Rattle.records.specs.Sets.{has, one}
+use Rattle.worlds.proofs.PlaceLaws.{first-placed}
+use Rattle.worlds.proofs.world.World.cut.Statement.{statement}
+use Rattle.worlds.proofs.world.World.cut.Tie as tie
+
+mark-requires : tie.Need-mark-requires
+mark-requires c κs = tt
+
+mark-requires-2 : tie.Need-mark-requires-2
+mark-requires-2 c κs = tt
+
+alone-requires : tie.Need-alone-requires
+alone-requires c κs = tt
+
+index-1-cut-blocks : tie.Need-index-1-cut-blocks
+index-1-cut-blocks c = search needs
+
+cut-blocks-requires : tie.Need-cut-blocks-requires
+cut-blocks-requires c κs = tt
+
+index-1-join-pairs : tie.Need-index-1-join-pairs
+index-1-join-pairs c = search needs
+
+join-pairs-requires : tie.Need-join-pairs-requires
+join-pairs-requires c κs = tt
+
+returns : tie.Need-returns
+returns c =
+    let cuts = c .before .before .before in
+    let lone = cuts .before .before .before in
+    let roles = lone .before .before in
+    let kinds = roles .before .before in
+    let s = kinds .before .before in
+    let a = s .args in
+    record {
+      kinds = kinds .mark .ensures;
+      roles = roles .mark2 .ensures;
+      blocks = λ P I k w S none p.
+          first-placed P I k w (a .t .now) (a .frozen) (a .applied) (a .placed) (s .fits .frozen .fits) (s .fits .applied .fits) S
+          (lone .alone .last .0) (cuts .cut-blocks .last .0) (c .join-pairs .last .0) (cuts .cut-blocks .result)
+          (λ q. lone .alone .ensures .at q ∙ ap (cond (has (a .placed) q) (one q)) (none q))
+          (cuts .cut-blocks .ensures) (c .join-pairs .ensures) p;
+    }
+
+pub cut-spec : {M : Type 1} → statement M
+cut-spec =
+    tie.close
+    (tie.spec
+    mark-requires
+    mark-requires-2
+    alone-requires
+    index-1-cut-blocks
+    cut-blocks-requires
+    index-1-join-pairs
+    join-pairs-requires
+    returns)
