@@ -280,10 +280,10 @@ events-filled rs es count listed before after m long n b a =
     let lm = m .each .bytes in
     let lc = m .count in
     let t : take (12 * listed) before ≡ fs =
-        ap (take (12 * listed)) b ∙ take-at fs (replicate z 0) (12 * listed) (let q : length fs ≡ 12 * listed = omega arith in q) in
+    ap (take (12 * listed)) b ∙ take-at fs (replicate z 0) (12 * listed) (let q : length fs ≡ 12 * listed = omega arith in q) in
     let j : 12 * (count + listed) ≡ length fs + 12 * count = omega arith in
     let d : drop (12 * (count + listed)) before ≡ replicate (z - 12 * count) 0 =
-        ap₂ drop j b ∙ drop-append-add fs (replicate z 0) (12 * count) ∙ zeros-drop z (12 * count) in
+    ap₂ drop j b ∙ drop-append-add fs (replicate z 0) (12 * count) ∙ zeros-drop z (12 * count) in
     let f : flatMap (λ e. e) (rs ++ es) ≡ gs ++ fs = flat-append (λ e. e) rs es in
     let lf : length (flatMap (λ e. e) (rs ++ es)) ≡ length gs + length fs = ap length f ∙ length-append gs fs in
     let k : z - 12 * count ≡ length before - length (flatMap (λ e. e) (rs ++ es)) = omega arith in

@@ -224,10 +224,10 @@ module _ (plan : Plan) (c : Case) (sums noted : List (List ℕ)) (defaults : ℕ
     rules-many =
         let none : Many [] 0 = record { count = refl; each = record { bytes = refl } } in
         let m =
-            many-both many-frozen
-            (many-both many-applied
-            (many-both many-blocked
-            (many-both many-clashed (many-both many-attached (many-both many-barred (many-both many-excluded (many-both many-defaulted none))))))) in
+        many-both many-frozen
+        (many-both many-applied
+        (many-both many-blocked
+        (many-both many-clashed (many-both many-attached (many-both many-barred (many-both many-excluded (many-both many-defaulted none))))))) in
         record { count = let n = m .count in omega arith; each = m .each }
 
     pub frozen-next : {after : List ℕ} {next : ℕ} → Writes 0 frozen before after next → Frozen after next
