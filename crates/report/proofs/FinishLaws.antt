@@ -5,12 +5,12 @@ use mathlib.Core.List.{List, [], _∷_, _++_, map, flatMap, append-assoc, append
 use mathlib.Core.Logic.{_⊎_, inl, inr, ⊎-elim}
 use Prim.Native.Nat.{ℕ, zero, suc, _+_, _*_, _-_, _^_, _≤_, _<_}
 use native.Mathlib.Omega.{arith}
-use lib.ListN.{length, getD, take, drop, replicate, length-map, length-append, length-replicate}
+use lib.ListN.{length, take, drop, replicate, length-map, length-append, length-replicate}
 use lib.Seq.{take-at, drop-append-add}
-use lib.Dec.{eqb, ltb}
+use lib.Dec.{eqb}
 use borrow.Author.Tests.{eq-eqb, ne-eqb, lt-ltb, le-ltb}
 use Rattle.records.specs.Sets.{has, size, members, union, subset, allOf, anyOf, unionOf, unionBelow, lexLess}
-use Rattle.records.specs.Sound.{All, Sound, SoundCase}
+use Rattle.records.specs.Sound.{All}
 use Rattle.records.specs.Plan as paper
 use Rattle.records.specs.Case as case
 use Rattle.records.specs.Case.{caseHeading}
@@ -21,7 +21,7 @@ use Rattle.records.proofs.SetLaws.{ext, has-union, has-none, member}
 use Rattle.records.proofs.Local.{clash}
 use Rattle.records.proofs.Every.{all-tested, all-map}
 use Rattle.records.proofs.MemberLaws.{members-same, members-length}
-use Rattle.expressions.specs.Rules.{factCount, edgeCount, cutCount, attachmentCount, barCount, statusCount, rulePersons}
+use Rattle.expressions.specs.Rules.{factCount, cutCount, rulePersons}
 use Rattle.expressions.specs.Influence.{Frame}
 use Rattle.expressions.specs.Variables.{Influence, Values}
 use Rattle.expressions.specs.Bindings.{Bound, tookDefault}
@@ -34,7 +34,7 @@ use Rattle.worlds.specs.View.{View, view, roleOf}
 use Rattle.worlds.specs.Events.{littleBytes, event, eventsOf}
 use Rattle.worlds.specs.Settled.{blocks, clashes}
 use Rattle.worlds.specs.Tables.{row}
-use Rattle.report.specs.Line.{Line, lineBytes, bareLine, lineOver, lineIn, lineBy, firstKind, holding}
+use Rattle.report.specs.Line.{Line, lineBytes, bareLine, lineOver, lineIn, firstKind, holding}
 use Rattle.report.specs.EventList.{insert, rising, defaultEvents}
 use Rattle.report.specs.Happened.{Rises, Gathered, defaultOver, discretionOver, happened}
 use Rattle.report.specs.EventsWritten.{byRules, countOf, RuleEvents, AllWritten}
@@ -54,11 +54,10 @@ use Rattle.report.proofs.AmongLaws.{Among, in-left, in-right, of-both}
 use Rattle.report.proofs.RisingSet.{Same, rising-rises, of-rising, in-rising, rises-rising}
 use Rattle.report.proofs.RisingKinds.{happened-rising}
 use Rattle.report.proofs.HappenedAll.{happened-same, defaults-asked, defaults-none}
-use Rattle.report.proofs.EventLaws.{Long, event-length}
 use Rattle.report.proofs.HappenedLaws.{Many, rules-many}
 use Rattle.report.proofs.NineLaws.{rising-twelve, flat-length}
 use Rattle.report.proofs.LinesAt.{line-length}
-use Rattle.report.proofs.LineBlocks.{PartedIn, Without, With, world-parted}
+use Rattle.report.proofs.LineBlocks.{PartedIn, world-parted}
 
 -- ---- masks of kind 9 in the order of their events
 
@@ -343,7 +342,7 @@ ended-one b e lineRoom eventRoom plan c bs n ws = rw e
 outcome-same : (a : Answer) {l k e d : List ℕ} → l ≡ k → e ≡ d → _≡_ {A = Outcome} (record { answer = a; lines = l; events = e }) (record { answer = a; lines = k; events = d })
 outcome-same a p q = ap₂ (λ (l e : List ℕ). record { answer = a; lines = l; events = e }) p q
 
-module _ (plan : Plan) (c : Case) (o : Opens) (w : Wanted) (walked : Walked) (noted sums : List (List ℕ)) (lines₀ events₀ : List ℕ)
+module _ {plan : Plan} {c : Case} {o : Opens} (w : Wanted) {walked : Walked} {noted sums : List (List ℕ)} {lines₀ events₀ : List ℕ}
     (E : Ends plan c o walked noted sums lines₀ events₀) where
   abbrev P : paper.Plan
   P = planOf plan

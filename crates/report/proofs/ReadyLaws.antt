@@ -1,15 +1,15 @@
 -- A case that is ready: the tables stand for it, the worlds looked at are document 01's, and what is kept of them is what the end of an operation asks for.
 use mathlib.Core.Path.{_≡_, refl, sym, ap, ap₂, _∙_, subst}
-use mathlib.Core.Bool.{Bool, true, false, _&&_, _||_, cond, false≢true}
+use mathlib.Core.Bool.{Bool, true, false, _&&_, _||_, not, cond, false≢true}
 use mathlib.Core.List.{List, [], _∷_, _++_, map}
-use Prim.Native.Nat.{ℕ, zero, suc, _+_, _^_, _<_, _≤_}
+use Prim.Native.Nat.{ℕ, zero, suc, _+_, _*_, _^_, _<_, _≤_}
 use native.Mathlib.Nat.{le-trans}
 use native.Mathlib.Omega.{arith}
 use lib.ListN.{length, getD, take, drop, replicate, length-map, length-append}
 use lib.Seq.{take-at, drop-at}
-use lib.Dec.{leb, ltb}
-use borrow.Author.Tests.{ltb-true, lt-ltb}
-use Rattle.records.specs.Sets.{has, anyOf, subset}
+use lib.Dec.{leb, ltb, eqb}
+use borrow.Author.Tests.{ltb-true, lt-ltb, eqb-false}
+use Rattle.records.specs.Sets.{has, anyOf, subset, size}
 use Rattle.records.specs.Plan as paper
 use Rattle.records.specs.Case as paper-case
 use Rattle.records.specs.Sound.{All}
@@ -50,7 +50,8 @@ use Rattle.report.specs.EventBytes.{Below}
 use Rattle.report.specs.Kept.{Kept}
 use Rattle.report.specs.Walked.{worldAt, wanted}
 use Rattle.report.specs.Free.{FreeList}
-use Rattle.report.specs.Operations.{influences, allWorlds, answerReady, showFrom}
+use Rattle.report.specs.Operations.{relationOf, mismatched, headingFault, influences, allWorlds, answerReady, showFrom}
+use Rattle.report.specs.Line.{lineLength}
 use Rattle.report.specs.Run.{Started, Runs}
 use Rattle.report.specs.Finish.{Ends, Placed, ended, Finishes}
 use Rattle.report.specs.Ready.{Concerns, IsReady, readyOutcome, AnswersReady}
@@ -73,6 +74,27 @@ rows-clean (suc m) n (suc i) j = rows-clean m n i j
 pub zeros-small : (n : ℕ) → All (λ v. v < 80) (replicate n 0)
 zeros-small zero = tt
 zeros-small (suc n) = (omega arith, zeros-small n)
+
+-- ---- refusal 9 keeps somebody on the roster
+
+pub somebody : (P : paper.Plan) (h : paper-case.CaseHeading) (room : ℕ) → headingFault P h room ≡ 0 → h .roster ≡ 0 → ⊥
+unfolding headingFault mismatched
+somebody P h room e z =
+    eqb-false (h .roster) 0
+    (last (not (eqb (h .relation) (relationOf P))) (eqb (h .scope) 0) (eqb (h .segment) 0) (eqb (h .roster) 0) (not (subset (rulePersons P) (h .roster)))
+    (pick (h .segmentComplete) (mismatched P h) (ltb room (lineLength * size (h .roster))) e)) z
+  where
+    pick : (a b c : Bool) → _≡_ {A = ℕ} (cond a (cond b 9 (cond c 12 0)) 8) 0 → b ≡ false
+    pick true true c e = absurd (omega arith)
+    pick true false c e = refl
+    pick false b c e = absurd (omega arith)
+
+    last : (a b c d s : Bool) → (a || (b || (c || (d || s)))) ≡ false → d ≡ false
+    last true b c d s e = absurd (false≢true (sym e))
+    last false true c d s e = absurd (false≢true (sym e))
+    last false false true d s e = absurd (false≢true (sym e))
+    last false false false true s e = absurd (false≢true (sym e))
+    last false false false false s e = refl
 
 -- ---- the rules that a world shows have numbers below their counts
 

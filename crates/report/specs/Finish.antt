@@ -1,9 +1,9 @@
 -- The end of an operation: lines and events, or refusal 13 or 14.
 use mathlib.Core.Path.{_≡_}
 use mathlib.Core.Bool.{Bool, true, false, cond}
-use mathlib.Core.List.{List, [], _∷_, _++_}
+use mathlib.Core.List.{List}
 use Prim.Native.Nat.{ℕ, _+_, _*_, _<_, _≤_}
-use lib.ListN.{length, getD, take, drop, replicate}
+use lib.ListN.{length, take, drop, replicate}
 use Rattle.records.specs.Sets.{has, size}
 use Rattle.records.specs.Sound.{All, Sound, SoundCase}
 use Rattle.records.specs.Plan as paper

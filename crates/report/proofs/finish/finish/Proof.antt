@@ -36,6 +36,10 @@ taken c = length-take-le (c .args .opens .influence .count) (c .args .opens .inf
 cuts-long : (c : tie.Start) → length (c .args .plan .cuts .items) ≡ 16
 cuts-long c = sym (length-map (c .args .plan .cuts .items) (the-type .to)) ∙ c .good .0 .1 .1 .1 .1 .1 .1 .1 .1 .1 .0 .1 .1 .1 .0 .1 .0 .1
 
+-- back from the place where the events by rule are counted
+abbrev start : tie.After-count-events → tie.Start
+start c = c .before .before .before .before .before .before .before .before .before .before
+
 -- the number of cuts, and so the events by rule
 cuts-counted : (c : tie.After-upto) → c .upto .result ≡ cutCount (planOf (c .before .before .before .before .before .before .before .before .before .args .plan))
 unfolding planOf
@@ -44,9 +48,9 @@ cuts-counted c =
     let p = s .args .plan in
     sym (made-length cutOf (p .cuts .items) (p .cuts .count) 16 (c .upto .result) (cuts-long s) (c .upto .ensures .0))
 
-counted : (c : tie.After-count-events) → let s = c .before .before .before .before .before .before .before .before .before .before in
+counted : (c : tie.After-count-events) → let s = start c in
     c .count-events .result ≡ countOf (s .args .sums .now) (s .args .noted .now) (s .args .opens .defaults) (cutCount (planOf (s .args .plan)))
-counted c = let s = c .before .before .before .before .before .before .before .before .before .before in c .count-events .ensures .0 ∙ ap (countOf (s .args .sums .now) (s .args .noted .now) (s .args .opens .defaults)) (cuts-counted (c .before))
+counted c = let s = start c in c .count-events .ensures .0 ∙ ap (countOf (s .args .sums .now) (s .args .noted .now) (s .args .opens .defaults)) (cuts-counted (c .before))
 
 size-requires : tie.Need-size-requires
 size-requires c κs = search needs
@@ -69,13 +73,13 @@ same-length c = search needs
 returns : tie.Need-returns
 returns c =
     let s = c .before .before .before .before .before .before .before .before .before .before .before .before in
-    none-all (s .args .plan) (s .args .case) (s .args .opens) (s .args .wanted) (s .args .walked) (s .args .noted .now) (s .args .sums .now) (s .args .lines .now) (s .args .events .now) (s .pre) (c .before .before .write-bare .last .0) (c .before .before .before .before .before .before .before .before .size .result) (c .before .before .before .before .before .if1 .taken) (c .before .before .before .before .if2 .taken)
+    none-all (s .args .wanted) (s .pre) (c .before .before .write-bare .last .0) (c .before .before .before .before .before .before .before .before .size .result) (c .before .before .before .before .before .if1 .taken) (c .before .before .before .before .if2 .taken)
     (c .before .before .write-bare .ensures) (c .before .before .before .before .before .before .before .before .size .ensures)
 
 returns-2 : tie.Need-returns-2
 returns-2 c =
     let s = c .before .before .before .before .before .before .before .before in
-    none-one (s .args .plan) (s .args .case) (s .args .opens) (s .args .wanted) (s .args .walked) (s .args .noted .now) (s .args .sums .now) (s .args .lines .now) (s .args .events .now) (s .pre) (c .before .if1 .taken) (c .if2 .left)
+    none-one (s .args .wanted) (s .pre) (c .before .if1 .taken) (c .if2 .left)
 
 upto-requires : tie.Need-upto-requires
 upto-requires c κs = search needs
@@ -85,11 +89,11 @@ count-events-requires c κs = search needs
 
 add-total : tie.Need-add-total
 add-total c =
-    let s = c .before .before .before .before .before .before .before .before .before .before in
+    let s = start c in
     omega (arith, s .good .1 .1 .1 .1 .1 .1 .1 .1 .0, s .pre .listed, c .count-events .ensures .1)
 
 -- too much: one did not fit, or all do not
-much : (c : tie.Joined3) → let s = c .before .before .before .before .before .before .before .before .before .before .before in
+much : (c : tie.Joined3) → let s = start (c .before) in
     (s .args .walked .listing .full ≡ true) ⊎ (length (s .args .events .now) < 12 * (c .before .count-events .result + s .args .walked .listing .count))
 much c = ⊎-elim (λ t. inl (t .taken)) (λ t. inr (less-over _ _ (t .1 .taken))) (c .if3 .came)
 
@@ -101,8 +105,10 @@ same-length-2 c = search needs
 
 returns-3 : tie.Need-returns-3
 returns-3 c =
-    let s = c .before .before .before .before .before .before .before .before .before .before .before .before .before .before .before in
-    over (s .args .plan) (s .args .case) (s .args .opens) (s .args .wanted) (s .args .walked) (s .args .noted .now) (s .args .sums .now) (s .args .lines .now) (s .args .events .now) (s .pre) (c .before .before .before .before .before .count-events .result) (c .before .before .clear .last .0) (c .before .before .before .before .before .before .before .before .if1 .left) (counted (c .before .before .before .before .before)) (much (c .before .before .before .before)) (c .before .before .clear .ensures)
+    let z = c .before .before .before .before .before in
+    let s = start z in
+    over (s .args .wanted) (s .pre) (z .count-events .result) (c .before .before .clear .last .0) (z .before .before .before .if1 .left) (counted z) (much (c .before .before .before .before))
+    (c .before .before .clear .ensures)
 
 array-share-prefix-sets : tie.Need-array-share-prefix-sets
 array-share-prefix-sets c = omega (arith, long (c .before .before .before .before .before .before .before .before .before .before .before .before .before .before .before))
@@ -119,10 +125,11 @@ write-open-requires c κs =
 
 write-events-requires : tie.Need-write-events-requires
 write-events-requires c κs =
-    let s = c .before .before .before .before .before .before .before .before .before .before .before .before .before .before .before .before .before .before .before .before in
-    let z = counted (c .before .before .before .before .before .before .before .before .before .before) in
-    let h = over-less (length (s .args .events .now)) (c .before .before .before .before .before .before .before .before .before .before .count-events .result + s .args .walked .listing .count) (c .before .before .before .before .before .before .before .before .if4 .left) in
-    (rule-events (s .args .plan) (s .args .case) (s .args .opens) (s .args .wanted) (s .args .walked) (s .args .noted .now) (s .args .sums .now) (s .args .lines .now) (s .args .events .now) (s .pre) (length (s .args .events .now)) (omega arith), h)
+    let z = c .before .before .before .before .before .before .before .before .before .before in
+    let s = start z in
+    let e = counted z in
+    let h = over-less (length (s .args .events .now)) (z .count-events .result + s .args .walked .listing .count) (c .before .before .before .before .before .before .before .before .if4 .left) in
+    (rule-events (s .args .wanted) (s .pre) (length (s .args .events .now)) (omega arith), h)
 
 same-length-3 : tie.Need-same-length-3
 same-length-3 c = search needs
@@ -133,12 +140,14 @@ same-length-4 c = search needs
 returns-4 : tie.Need-returns-4
 unfolding setsOf
 returns-4 c =
-    let s = c .before .before .before .before .before .before .before .before .before .before .before .before .before .before .before .before .before .before .before .before .before .before .before in
     let z = c .before .before .before .before .before .before .before .before .before .before .before .before .before in
+    let s = start z in
+    let n = z .before .before .before .before .before .before .size in
+    let w = c .before .before .before .before .before .before .write-open in
+    let e = c .before .before .write-events in
     let h = over-less (length (s .args .events .now)) (z .count-events .result + s .args .walked .listing .count) (c .before .before .before .before .before .before .before .before .before .before .before .if4 .left) in
-    told (s .args .plan) (s .args .case) (s .args .opens) (s .args .wanted) (s .args .walked) (s .args .noted .now) (s .args .sums .now) (s .args .lines .now) (s .args .events .now) (s .pre) (z .count-events .result) (s .args .walked .listing .count) (c .before .before .before .before .before .before .write-open .last .0) (c .before .before .write-events .last .0)
-    (c .before .before .before .before .before .before .before .before .before .before .before .before .before .before .before .before .before .before .before .size .result) (c .before .before .before .before .before .before .before .before .before .before .before .before .before .before .before .before .if1 .left) (counted z) refl (c .before .before .before .before .before .before .before .before .before .before .before .before .if3 .left) h (c .before .before .before .before .before .before .write-open .ensures) (c .before .before .write-events .ensures)
-    (c .before .before .before .before .before .before .before .before .before .before .before .before .before .before .before .before .before .before .before .size .ensures)
+    told (s .args .wanted) (s .pre) (z .count-events .result) (s .args .walked .listing .count) (w .last .0) (e .last .0) (n .result) (z .before .before .before .if1 .left) (counted z) refl
+    (c .before .before .before .before .before .before .before .before .before .before .before .before .if3 .left) h (w .ensures) (e .ensures) (n .ensures)
 
 pub finish-spec : {M : Type 1} → statement M
 finish-spec =
