@@ -15,9 +15,9 @@ const MARGIN: usize = 16;
 /// What is asked of both: an answer, or the world of a number.
 #[derive(Clone, Copy)]
 pub struct Asked<'a> {
-    pub plan: &'a [u8],
-    pub case: &'a [u8],
-    pub world: Option<u64>,
+    plan: &'a [u8],
+    case: &'a [u8],
+    world: Option<u64>,
 }
 
 /// Where they differ.
@@ -67,7 +67,18 @@ impl Lent {
     }
 }
 
-impl Asked<'_> {
+impl<'a> Asked<'a> {
+    pub fn answer(plan: &'a [u8], case: &'a [u8]) -> Asked<'a> {
+        let world = None;
+        Asked { plan, case, world }
+    }
+
+    /// A world of the same plan and case.
+    pub fn show(self, number: u64) -> Asked<'a> {
+        let world = Some(number);
+        Asked { world, ..self }
+    }
+
     fn model(self, lines: &mut [u8], events: &mut [u8]) -> Outcome {
         match self.world {
             None => model::answer(self.plan, self.case, lines, events),
@@ -128,10 +139,12 @@ impl Asked<'_> {
     }
 
     /// Compares both in buffers of random lengths, most of which suffice.
-    pub fn compare(self, random: &mut Random) -> Result<Outcome, Difference> {
+    pub fn compare(self, random: &mut Random, tally: &mut Tally) -> Result<(), Difference> {
         let (lines, events) = self.needed();
         let (lines, events) = (any_length(lines, random), any_length(events, random));
-        self.within(lines, events, random)
+        let outcome = self.within(lines, events, random)?;
+        tally.add(self.world, outcome);
+        Ok(())
     }
 
     /// Compares both in buffers of all lengths that matter.
@@ -168,7 +181,7 @@ pub struct Tally {
 }
 
 impl Tally {
-    pub fn add(&mut self, world: Option<u64>, outcome: Outcome) {
+    fn add(&mut self, world: Option<u64>, outcome: Outcome) {
         match world {
             None => self.answers += 1,
             Some(_) => self.shown += 1,

@@ -8,41 +8,26 @@ use port::alike::{Asked, Difference, Tally};
 use port::cases::{self, Sample};
 use port::smallest::smallest;
 
-/// All worlds of an answer, or one of many; then one past the last.
-fn worlds(count: u64, random: &mut Random) -> Vec<u64> {
-    if count <= 64 {
-        return (0..=count).collect();
+/// The answer; all its worlds, or one of many; one past the last.
+fn all<'a>(plan: &'a [u8], case: &'a [u8], random: &mut Random) -> Vec<Asked<'a>> {
+    let answer = Asked::answer(plan, case);
+    let worlds = answer.expected().worlds;
+    let mut all = vec![answer];
+    match worlds {
+        0..=64 => all.extend((0..worlds).map(|number| answer.show(number))),
+        _ => all.push(answer.show(random.below(worlds as usize) as u64)),
     }
-    vec![random.below(count as usize) as u64, count]
+    all.push(answer.show(worlds));
+    all
 }
 
-fn compare(
-    plan: &[u8],
-    case: &[u8],
-    random: &mut Random,
-    tally: &mut Tally,
-) -> Result<(), Difference> {
-    let world = None;
-    let asked = Asked { plan, case, world };
-    tally.add(world, asked.compare(random)?);
-    for number in worlds(asked.expected().worlds, random) {
-        let world = Some(number);
-        tally.add(world, Asked { world, ..asked }.compare(random)?);
-    }
-    Ok(())
-}
-
-/// The same in buffers of all lengths, so that a smaller input shows what a larger one did.
+/// In buffers of all lengths, so that a smaller input shows what a larger one did.
 fn compare_all(plan: &[u8], case: &[u8]) -> Result<(), Difference> {
     let random = &mut Random::new(1);
-    let world = None;
-    let asked = Asked { plan, case, world };
-    asked.compare_all(random)?;
-    for number in worlds(asked.expected().worlds, random) {
-        let world = Some(number);
-        Asked { world, ..asked }.compare_all(random)?;
-    }
-    Ok(())
+    let asked = all(plan, case, random);
+    asked
+        .into_iter()
+        .try_for_each(|asked| asked.compare_all(random))
 }
 
 /// The smallest input found that differs, or the one given if only its own buffers show it.
@@ -62,7 +47,11 @@ fn main() {
     for number in 0..count {
         let random = &mut Random::stream(seed, number);
         let sample = cases::answerable(random);
-        if let Err(first) = compare(&sample.plan, &sample.case, random, &mut tally) {
+        let asked = all(&sample.plan, &sample.case, random);
+        let alike = asked
+            .into_iter()
+            .try_for_each(|asked| asked.compare(random, &mut tally));
+        if let Err(first) = alike {
             report(sample, first);
             std::process::exit(1);
         }

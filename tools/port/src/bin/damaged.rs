@@ -19,15 +19,12 @@ fn damage(random: &mut Random, records: &[Vec<u8>]) -> Vec<u8> {
 fn compare(plan: &[u8], case: &[u8], random: &mut Random, tally: &mut Tally) {
     let same = port::check(plan) == model::check(plan);
     assert!(same, "the checks differ: plan {}", to_hex(plan));
-    let number = random.pick(&[0, 0, 1, 2, 5, 63, 4095, 4096, u64::MAX]);
-    for world in [None, Some(number)] {
-        match (Asked { plan, case, world }).compare(random) {
-            Ok(outcome) => tally.add(world, outcome),
-            Err(difference) => panic!(
-                "{difference} differ: plan {} case {}",
-                to_hex(plan),
-                to_hex(case)
-            ),
+    let world = random.pick(&[0, 0, 1, 2, 5, 63, 4095, 4096, u64::MAX]);
+    let answer = Asked::answer(plan, case);
+    for asked in [answer, answer.show(world)] {
+        if let Err(difference) = asked.compare(random, tally) {
+            let (plan, case) = (to_hex(plan), to_hex(case));
+            panic!("{difference} differ: plan {plan} case {case}");
         }
     }
 }
