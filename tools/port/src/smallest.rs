@@ -4,11 +4,17 @@ use inputs::shrink::shrink;
 
 use crate::cases::Sample;
 
-/// Record by record, or byte by byte where the bytes were damaged. So many tries and no more: an input at a limit has very many neighbours.
+/// So many tries and no more: an input at a limit has very many neighbours.
+const TRIES: u32 = 20_000;
+
+/// As many bytes as most records have, and more.
+const RUN: usize = 48;
+
+/// Record by record, or byte by byte where the bytes were damaged.
 pub fn smallest(sample: Sample, differ: impl Fn(&[u8], &[u8]) -> bool) -> (Vec<u8>, Vec<u8>) {
-    let mut left = 5_000;
+    let mut left = TRIES;
     let mut shows = |plan: &[u8], case: &[u8]| {
-        left -= 1;
+        left = left.saturating_sub(1);
         left > 0 && differ(plan, case)
     };
     if let Some(input) = sample.source {
@@ -18,20 +24,28 @@ pub fn smallest(sample: Sample, differ: impl Fn(&[u8], &[u8]) -> bool) -> (Vec<u
         return (least.plan.encode(), least.case.encode());
     }
     let (mut plan, mut case) = (sample.plan, sample.case);
-    while let Some(next) = without(&plan, |next| shows(next, &case)) {
-        plan = next;
+    loop {
+        let before = plan.len() + case.len();
+        plan = shorten(plan, |next| shows(next, &case));
+        case = shorten(case, |next| shows(&plan, next));
+        if plan.len() + case.len() == before {
+            return (plan, case);
+        }
     }
-    while let Some(next) = without(&case, |next| shows(&plan, next)) {
-        case = next;
-    }
-    (plan, case)
 }
 
-/// The bytes without some of them, up to eight in a row, where that still shows it.
-fn without(bytes: &[u8], mut shows: impl FnMut(&[u8]) -> bool) -> Option<Vec<u8>> {
-    let cuts = (1..=8)
-        .rev()
-        .flat_map(|run| (run..=bytes.len()).map(move |end| (end - run, end)));
-    cuts.map(|(start, end)| [&bytes[..start], &bytes[end..]].concat())
-        .find(|next| shows(next))
+/// Leaves out bytes in a row, many before few, where that still shows it.
+fn shorten(mut bytes: Vec<u8>, mut shows: impl FnMut(&[u8]) -> bool) -> Vec<u8> {
+    for run in (1..=RUN).rev() {
+        let mut start = 0;
+        while start + run <= bytes.len() {
+            let next = [&bytes[..start], &bytes[start + run..]].concat();
+            if shows(&next) {
+                bytes = next;
+            } else {
+                start += 1;
+            }
+        }
+    }
+    bytes
 }
