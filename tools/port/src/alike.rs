@@ -114,7 +114,8 @@ impl<'a> Asked<'a> {
         lines: usize,
         events: usize,
         random: &mut Random,
-    ) -> Result<Outcome, Difference> {
+        tally: &mut Tally,
+    ) -> Result<(), Difference> {
         let (mut lines_wanted, mut events_wanted) = (vec![0; lines], vec![0; events]);
         let wanted = self.model(&mut lines_wanted, &mut events_wanted);
         let mut lines_lent = Lent::new(lines, random);
@@ -127,7 +128,8 @@ impl<'a> Asked<'a> {
         } else if !events_lent.holds(&events_wanted) {
             "the events"
         } else {
-            return Ok(wanted);
+            tally.add(self.world, wanted, &lines_wanted, &events_wanted);
+            return Ok(());
         };
         let world = self.world;
         Err(Difference {
@@ -142,9 +144,7 @@ impl<'a> Asked<'a> {
     pub fn compare(self, random: &mut Random, tally: &mut Tally) -> Result<(), Difference> {
         let (lines, events) = self.needed();
         let (lines, events) = (any_length(lines, random), any_length(events, random));
-        let outcome = self.within(lines, events, random)?;
-        tally.add(self.world, outcome);
-        Ok(())
+        self.within(lines, events, random, tally)
     }
 
     /// Compares both in buffers of all lengths that matter.
@@ -152,7 +152,7 @@ impl<'a> Asked<'a> {
         let needed = self.needed();
         for lines in lengths(needed.0, random) {
             for events in lengths(needed.1, random) {
-                self.within(lines, events, random)?;
+                self.within(lines, events, random, &mut Tally::default())?;
             }
         }
         Ok(())
@@ -175,20 +175,26 @@ fn any_length(needed: usize, random: &mut Random) -> usize {
 pub struct Tally {
     answers: u64,
     shown: u64,
-    lines: u64,
-    events: u64,
     refusals: [u64; 15],
+    /// By kind, 0 to 6.
+    lines: [u64; 7],
+    /// By kind, 1 to 9: there is no kind 0.
+    events: [u64; 10],
 }
 
 impl Tally {
-    fn add(&mut self, world: Option<u64>, outcome: Outcome) {
+    fn add(&mut self, world: Option<u64>, outcome: Outcome, lines: &[u8], events: &[u8]) {
         match world {
             None => self.answers += 1,
             Some(_) => self.shown += 1,
         }
-        self.lines += outcome.lines;
-        self.events += outcome.events;
         self.refusals[outcome.refusal as usize] += 1;
+        for line in lines.chunks(LINE).take(outcome.lines as usize) {
+            self.lines[line[1] as usize] += 1;
+        }
+        for event in events.chunks(EVENT).take(outcome.events as usize) {
+            self.events[event[0] as usize] += 1;
+        }
     }
 }
 
@@ -196,13 +202,13 @@ impl fmt::Display for Tally {
     fn fmt(&self, to: &mut fmt::Formatter) -> fmt::Result {
         write!(
             to,
-            "{} calls alike, {} answers and {} worlds shown, with {} lines and {} events; by refusal number {:?}",
+            "{} calls alike, {} answers and {} worlds shown; by refusal number {:?}, lines by kind {:?}, events by kind {:?}",
             self.answers + self.shown,
             self.answers,
             self.shown,
+            self.refusals,
             self.lines,
-            self.events,
-            self.refusals
+            self.events
         )
     }
 }
