@@ -73,7 +73,7 @@ fault-split k [] v = inl refl
 fault-split k (zero ∷ ns) v = fault-split (k + 1) ns v
 fault-split k (suc n ∷ ns) v = inr (n, k, refl)
 
-bindable-split : (C : Case) → (bindable C ≡ fine C) ⊎ ((n : ℕ) × (j : ℕ) × (bindable C ≡ refused (suc n) j))
+pub bindable-split : (C : Case) → (bindable C ≡ fine C) ⊎ ((n : ℕ) × (j : ℕ) × (bindable C ≡ refused (suc n) j))
 unfolding bindable
 bindable-split C = go (fault-split (familiesAt C) (familyFaults [] (C .families)) rest) (fault-split (booleansAt C) (booleanFaults [] (C .booleans)) (fine C))
   where

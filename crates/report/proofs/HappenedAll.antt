@@ -225,7 +225,7 @@ module _ (P : Plan) (C : Case) (roster : ℕ) (ws : List World) (frozen applied 
   unfolding discretionOver discretionEvents
   kind9 = by-masks ws (λ w. looseComponents P roster (w .active)) nines (G .components)
 
-  happened-same : (ds : List (List ℕ)) → Same (defaultOver P defaults) ds
+  pub happened-same : (ds : List (List ℕ)) → Same (defaultOver P defaults) ds
       → Same (happened P C frozen applied blockings clashes moved barring excluding defaults nines) (flatMap (eventsOf P C roster) ws ++ ds)
   unfolding happened eventsOf
   happened-same ds d =

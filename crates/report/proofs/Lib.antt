@@ -11,7 +11,6 @@ pub mod Blocks
 pub mod SameViews
 pub mod Answered
 pub mod LinePrivate
-pub mod Private
 pub mod Privacy
 pub mod Places
 pub mod Weaker
@@ -30,3 +29,8 @@ pub mod WalkLaws
 pub mod FreeLaws
 pub mod KnownLaws
 pub mod HeadingLaws
+pub mod HappenedLaws
+pub mod RunLaws
+pub mod FinishLaws
+pub mod ReadyLaws
+pub mod OperateLaws

@@ -15,7 +15,7 @@ use Rattle.expressions.specs.Rules.{factCount}
 use Rattle.expressions.specs.Influence.{Frame, touchesCircle}
 use Rattle.expressions.specs.Bindings.{frameOf, conflict, unknown, known, unbound, Bound, both, just, bindingOf}
 use Rattle.expressions.specs.Variables.{choices}
-use Rattle.report.proofs.Private.{Private}
+use Rattle.report.specs.Private.{Private}
 use Rattle.report.proofs.Weaker.{none, touchesBut, whole}
 use Rattle.report.proofs.Sanity.{Shown, table, oneCandidate, thePlan, first, second, Found, found, expected, number, sameBound, sameValues, computed, computed-one}
 

@@ -262,7 +262,7 @@ drop-zeros s z k j l h =
 
 -- ---- one event more
 
-rising-twelve : (es : List (List ℕ)) → Twelve es → Twelve (rising es)
+pub rising-twelve : (es : List (List ℕ)) → Twelve es → Twelve (rising es)
 rising-twelve es h = each-all (λ e. length e ≡ 12) (rising es) (λ e k. all-each (λ e. length e ≡ 12) es h e (of-rising es e k))
 
 pub rising-grows : (e : List ℕ) (es : List (List ℕ)) → length (rising es) ≤ length (rising (e ∷ es))

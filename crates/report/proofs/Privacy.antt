@@ -22,7 +22,7 @@ use Rattle.report.specs.Operations.{told, answer}
 use Rattle.report.proofs.LinesAt.{line-at}
 use Rattle.report.proofs.Answered.{lineOf, lineFor, answered-lines}
 use Rattle.report.proofs.LinePrivate.{line-private}
-use Rattle.report.proofs.Private.{SameLines, Private}
+use Rattle.report.specs.Private.{SameLines, Private}
 
 -- ---- two cases
 

@@ -1,10 +1,9 @@
 -- The events of all worlds as bytes: from the tally, the notes and the defaults.
 use mathlib.Core.Path.{_≡_}
-use mathlib.Core.Bool.{true}
-use mathlib.Core.List.{List, [], _∷_, _++_, flatMap}
-use Prim.Native.Nat.{ℕ, _+_, _*_, _≤_, _<_}
-use lib.ListN.{length, getD, take, drop}
-use Rattle.records.specs.Sets.{has, size}
+use mathlib.Core.List.{List, [], _++_, flatMap}
+use Prim.Native.Nat.{ℕ, _+_, _*_, _≤_}
+use lib.ListN.{length, take, drop}
+use Rattle.records.specs.Sets.{size}
 use Rattle.records.specs.Plan as paper
 use Rattle.records.specs.Case as case
 use Rattle.records.specs.Sound.{Sound}
@@ -14,7 +13,7 @@ use Rattle.records.specs.declared.case.Case.{Case}
 use Rattle.expressions.specs.Evident.{ReadCase}
 use Rattle.expressions.specs.Rules.{edgeCount, cutCount, attachmentCount, barCount, statusCount, factCount}
 use Rattle.worlds.specs.Tables.{row}
-use Rattle.report.specs.Happened.{frozenOver, appliedOver, blockedOver, overlapOver, attachmentOver, barOver, statusOver, defaultOver, happened}
+use Rattle.report.specs.Happened.{happened}
 use Rattle.report.specs.EventBytes.{Below, sizes}
 
 -- the first n bytes moved up by so many; what lies behind stays

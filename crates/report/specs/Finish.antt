@@ -1,11 +1,12 @@
 -- The end of an operation: lines and events, or refusal 13 or 14.
 use mathlib.Core.Path.{_≡_}
 use mathlib.Core.Bool.{Bool, true, false, cond}
-use mathlib.Core.List.{List, [], _∷_, _++_}
+use mathlib.Core.List.{List}
 use Prim.Native.Nat.{ℕ, _+_, _*_, _<_, _≤_}
-use lib.ListN.{length, getD, take, drop, replicate}
+use lib.ListN.{length, take, drop, replicate}
 use Rattle.records.specs.Sets.{has, size}
-use Rattle.records.specs.Sound.{Sound, SoundCase}
+use Rattle.records.specs.Sound.{All, Sound, SoundCase}
+use Rattle.records.specs.Plan as paper
 use Rattle.records.specs.Decoded.{planOf, caseOf}
 use Rattle.records.specs.declared.plan.Plan.{Plan}
 use Rattle.records.specs.declared.case.Case.{Case}
@@ -13,6 +14,7 @@ use Rattle.expressions.specs.Rules.{factCount, edgeCount, cutCount, attachmentC
 use Rattle.expressions.specs.Bindings.{Bound, tookDefault}
 use Rattle.expressions.specs.Influences.{setsOf}
 use Rattle.worlds.specs.World.{World}
+use Rattle.worlds.specs.View.{view}
 use Rattle.worlds.specs.Tables.{row}
 use Rattle.report.specs.Operations.{Outcome, influences, answerReady, showFrom}
 use Rattle.report.specs.EventBytes.{Below}
@@ -38,6 +40,10 @@ pub record Ends (plan : Plan) (c : Case) (o : Opens) (w : Walked) (noted sums : 
   pub clashed : (i : ℕ) → Below (row noted 2 i) (cutCount (planOf plan))
   pub defaults : Below (o .defaults) (factCount (planOf plan))
 
+-- in the world everybody of the roster has a block or a kind
+pub record Placed (P : paper.Plan) (roster : ℕ) (w : World) : Type 0 where
+  pub at : (p : ℕ) → has roster p ≡ true → view P w p .kind ≡ 0 → view P w p .block ≡ 0 → ⊥
+
 -- the outcome of an answer over these worlds, or of showing the first of them
 unfoldable pub ended : Bool → ℕ → ℕ → Plan → Case → List Bound → ℕ → List World → Outcome
 ended all lineRoom eventRoom plan c bs n ws =
@@ -45,6 +51,9 @@ ended all lineRoom eventRoom plan c bs n ws =
 
 pub record Finishes (plan : Plan) (c : Case) (o : Opens) (w : Wanted) (walked : Walked) (noted sums : List (List ℕ)) (lines₀ lines₁ events₀ events₁ : List ℕ) (r : Answer) : Type 0 where
   pub at : (bs : List Bound) (ws : List World)
+      -- whether a world was looked at is told by its persons
+      → (c .heading .roster ≡ 0 → ⊥)
+      → All (Placed (planOf plan) (c .heading .roster)) ws
       → Kept (planOf plan) (c .heading .roster) ws sums noted (walked .listing) events₀
       → lines₀ ≡ replicate (length lines₀) 0
       → (w .all ≡ true → walked .worlds ≡ length ws)

@@ -1,8 +1,8 @@
 -- A case that is bound, with no more worlds than its heading allows.
 use mathlib.Core.Path.{_≡_}
 use mathlib.Core.Bool.{Bool, true, false, _&&_, cond}
-use mathlib.Core.List.{List, []}
-use Prim.Native.Nat.{ℕ, _*_, _<_, _≤_}
+use mathlib.Core.List.{List}
+use Prim.Native.Nat.{ℕ, _*_, _≤_}
 use lib.ListN.{length, getD, replicate}
 use lib.Dec.{ltb}
 use Rattle.records.specs.Sets.{has, size, subset}
@@ -16,6 +16,7 @@ use Rattle.expressions.specs.Codes.{boundOf}
 use Rattle.expressions.specs.Variables.{worldCount}
 use Rattle.expressions.specs.Coded.{frameBy}
 use Rattle.expressions.specs.Reached.{Reached}
+use Rattle.expressions.specs.Influences.{setsOf}
 use Rattle.expressions.specs.declared.reach.Reach.{Reach}
 use Rattle.expressions.specs.declared.influence.Influence.{Influence}
 use Rattle.report.specs.Operations.{Outcome, allWorlds, answerReady, showReady}
@@ -27,13 +28,15 @@ pub record Defaulted (plan : Plan) (c : Case) (bound r : ℕ) : Type 0 where
   pub at : (f : ℕ) → has r f ≡ (ltb f (factCount (planOf plan)) && tookDefaultBy (planOf plan) (caseOf c) bound f)
 
 pub record Concerns (plan : Plan) (c : Case) (reach : Reach) (influence : Influence) (all : Bool) (r : Opens) : Type 0 where
-  pub yes : all ≡ true → (r .influence ≡ influence) × (r .facts ≡ reach .count) × Defaulted plan c (reach .bound) (r .defaults)
+  pub yes : all ≡ true → (setsOf (r .influence) ≡ setsOf influence) × (r .influence .count ≡ length (setsOf influence)) × (r .facts ≡ reach .count)
+      × Defaulted plan c (reach .bound) (r .defaults)
   pub no : all ≡ false → (r .facts ≡ 0) × (r .influence .count ≡ 0) × (r .defaults ≡ 0)
 
 -- all that has passed before the worlds are looked at; the lent buffers are all zero
 pub record IsReady (plan : Plan) (c : Case) (reach : Reach) (codes lines events : List ℕ) : Type 0 where
   pub sound : Sound (planOf plan)
   pub sane : SoundCase (planOf plan) (caseOf c)
+  pub peopled : c .heading .roster ≡ 0 → ⊥
   pub named : subset (rulePersons (planOf plan)) (c .heading .roster) ≡ true
   pub reached : Reached (frameBy plan (c .heading .roster) (c .constraints)) reach
   pub bound : (f : ℕ) → boundOf (getD codes f 0) ≡ bindingAt (bindings (planOf plan) (caseOf c)) f

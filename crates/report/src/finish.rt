@@ -16,9 +16,10 @@ use records::case::Case;
 use records::plan::Plan;
 use records::sets::size;
 use worlds::tables::Noted;
-ghost use Prim.Native.Nat.{_*_, _≤_};
-ghost use lib.ListN.{length};
+ghost use Prim.Native.Nat.{_+_, _*_, _≤_};
+ghost use lib.ListN.{length, take, drop};
 ghost use Rattle.records.specs.Sets.{size as ones};
+ghost use Rattle.report.specs.Written.{LinesBy};
 ghost use Rattle.report.specs.Finish.{Ends, Finishes};
 
 // What the lines of open persons need: the sets of influence, `facts` of them of facts; none of them for a shown world.
@@ -26,6 +27,14 @@ pub struct Opens {
     pub influence: Influence,
     pub facts: usize,
     pub defaults: u64,
+}
+
+// The lines of all persons; the first `known` sets of influence are of facts, the others of decisions.
+fn write_open(lines: &mut [u8], sums: &Sums, roster: u64, sets: &[u64], known: usize)
+    requires { ⌜ (29 * ones roster ≤ length (now lines)) × (known ≤ 64) × (known ≤ length (now sets)) × (length (now sets) ≤ known + 16) ⌝ }
+    ensures { λ r. ⌜ LinesBy (now (sums .entry)) roster (take known (now (sets .entry))) (drop known (now (sets .entry))) (now (lines .entry)) (now (lines .exit)) ⌝ }
+{
+    write_lines(lines, sums, roster, &sets[..known], &sets[known..]);
 }
 
 pub fn finish(
@@ -64,7 +73,7 @@ pub fn finish(
     let count = count_events(sums, noted, opens.defaults, upto(cuts.count, 16));
     let listed = listing.count;
     let total = count + listed;
-    if listing.full || events.len() < 12 * total {
+    if listing.full || events.len() / 12 < total {
         clear(events);
         return Answer::Refused {
             number: 13,
@@ -73,9 +82,8 @@ pub fn finish(
     }
     let influence = opens.influence;
     let sets = influence.sets;
-    let known = opens.facts;
     let all = influence.count;
-    write_lines(lines, sums, roster, &sets[..known], &sets[known..all]);
+    write_open(lines, sums, roster, &sets[..all], opens.facts);
     write_events(
         events,
         plan,

@@ -26,7 +26,6 @@ ghost use mathlib.Core.Path.{_≡_};
 ghost use Prim.Native.Nat.{_+_, _*_, _≤_};
 ghost use lib.ListN.{length};
 ghost use Rattle.records.specs.Decoded.{planOf, caseOf};
-ghost use Rattle.expressions.specs.Evident.{ReadCase};
 ghost use Rattle.report.specs.EventsWritten.{countOf, Shifted, RuleEvents, EventsWritten, AllWritten};
 
 // The first n bytes moved up; what stood between is free.

@@ -19,12 +19,6 @@ use records::plan::Plan;
 use records::sets::bit;
 use worlds::make::common_of;
 use worlds::make::lay_tables;
-ghost use mathlib.Core.Path.{_≡_};
-ghost use Prim.Native.Nat.{ℕ, _<_};
-ghost use Rattle.records.specs.Sets.{has};
-ghost use Rattle.records.specs.Decoded.{planOf, caseOf};
-ghost use Rattle.expressions.specs.Rules.{factCount};
-ghost use Rattle.expressions.specs.Bindings.{tookDefaultBy};
 ghost use Rattle.report.specs.Ready.{Defaulted, Concerns, IsReady, AnswersReady};
 
 // The bound facts that took their default.
@@ -48,8 +42,13 @@ fn concerns(plan: Plan, case: Case, reach: Reach, influence: Influence, all: boo
     ensures { λ r. ⌜ Concerns plan case reach influence all r ⌝ }
 {
     if all {
+        let sets = influence.sets;
+        let used = Influence {
+            count: upto(influence.count, 80),
+            sets: sets,
+        };
         return Opens {
-            influence: influence,
+            influence: used,
             facts: reach.count,
             defaults: defaults(plan, case, reach.bound),
         };

@@ -1,0 +1,176 @@
+-- `finish::finish`: with no world the lines of kind 6 or refusal 14; else refusal 13, or lines and events.
+use mathlib.Core.Path.{_≡_, refl, sym, ap, _∙_}
+use mathlib.Core.Logic.{_⊎_, inl, inr, ⊎-elim}
+use mathlib.Core.Bool.{true, false}
+use Prim.Native.Nat.{ℕ, _*_, _+_, _/_, _≤_, _<_}
+use native.Mathlib.Omega.{arith}
+use lib.ListN.{length, take, length-map}
+use lib.Seq.{length-take-le}
+use lib.Dec.{ltb}
+use borrow.Author.Needs.{needs}
+use borrow.Author.Tests.{ltb-true, ltb-false}
+use Rattle.records.specs.Decoded.{planOf, cutOf}
+use Rattle.records.proofs.plan.Cut.{the-type}
+use Rattle.expressions.specs.Influences.{setsOf}
+use Rattle.expressions.specs.Rules.{cutCount}
+use Rattle.expressions.proofs.ListLaws.{made-length}
+use Rattle.report.specs.EventsWritten.{countOf}
+use Rattle.report.proofs.FinishLaws.{none-all, none-one, over, told, rule-events}
+use Rattle.report.proofs.finish.finish.Statement.{statement}
+use Rattle.report.proofs.finish.finish.Tie as tie
+
+-- the code divides, since the product might not fit
+less-over : (n t : ℕ) → ltb (n / 12) t ≡ true → n < 12 * t
+less-over n t e = let h = ltb-true (n / 12) t e in omega arith
+
+over-less : (n t : ℕ) → ltb (n / 12) t ≡ false → 12 * t ≤ n
+over-less n t e = let h = ltb-false (n / 12) t e in omega arith
+
+-- the arrays have their lengths
+long : (c : tie.Start) → length (c .args .opens .influence .sets) ≡ 80
+long c = sym (length-map (c .args .opens .influence .sets) (λ v. v)) ∙ c .good .1 .1 .0 .1 .1 .0 .1 .1 .1 .0 .1 .0 .1
+
+taken : (c : tie.Start) → length (take (c .args .opens .influence .count) (c .args .opens .influence .sets)) ≡ c .args .opens .influence .count
+taken c = length-take-le (c .args .opens .influence .count) (c .args .opens .influence .sets) (omega (arith, long c, c .pre .facts .3))
+
+cuts-long : (c : tie.Start) → length (c .args .plan .cuts .items) ≡ 16
+cuts-long c = sym (length-map (c .args .plan .cuts .items) (the-type .to)) ∙ c .good .0 .1 .1 .1 .1 .1 .1 .1 .1 .1 .0 .1 .1 .1 .0 .1 .0 .1
+
+-- back from the place where the events by rule are counted
+abbrev start : tie.After-count-events → tie.Start
+start c = c .before .before .before .before .before .before .before .before .before .before
+
+-- the number of cuts, and so the events by rule
+cuts-counted : (c : tie.After-upto) → c .upto .result ≡ cutCount (planOf (c .before .before .before .before .before .before .before .before .before .args .plan))
+unfolding planOf
+cuts-counted c =
+    let s = c .before .before .before .before .before .before .before .before .before in
+    let p = s .args .plan in
+    sym (made-length cutOf (p .cuts .items) (p .cuts .count) 16 (c .upto .result) (cuts-long s) (c .upto .ensures .0))
+
+counted : (c : tie.After-count-events) → let s = start c in
+    c .count-events .result ≡ countOf (s .args .sums .now) (s .args .noted .now) (s .args .opens .defaults) (cutCount (planOf (s .args .plan)))
+counted c = let s = start c in c .count-events .ensures .0 ∙ ap (countOf (s .args .sums .now) (s .args .noted .now) (s .args .opens .defaults)) (cuts-counted (c .before))
+
+size-requires : tie.Need-size-requires
+size-requires c κs = search needs
+
+cast-people : tie.Need-cast-people
+cast-people c = search needs
+
+index-1-if1 : tie.Need-index-1-if1
+index-1-if1 c = search needs
+
+index-2-if1 : tie.Need-index-2-if1
+index-2-if1 c = search needs
+
+write-bare-requires : tie.Need-write-bare-requires
+write-bare-requires c κs = search needs
+
+same-length : tie.Need-same-length
+same-length c = search needs
+
+returns : tie.Need-returns
+returns c =
+    let s = c .before .before .before .before .before .before .before .before .before .before .before .before in
+    none-all (s .args .wanted) (s .pre) (c .before .before .write-bare .last .0) (c .before .before .before .before .before .before .before .before .size .result) (c .before .before .before .before .before .if1 .taken) (c .before .before .before .before .if2 .taken)
+    (c .before .before .write-bare .ensures) (c .before .before .before .before .before .before .before .before .size .ensures)
+
+returns-2 : tie.Need-returns-2
+returns-2 c =
+    let s = c .before .before .before .before .before .before .before .before in
+    none-one (s .args .wanted) (s .pre) (c .before .if1 .taken) (c .if2 .left)
+
+upto-requires : tie.Need-upto-requires
+upto-requires c κs = search needs
+
+count-events-requires : tie.Need-count-events-requires
+count-events-requires c κs = search needs
+
+add-total : tie.Need-add-total
+add-total c =
+    let s = start c in
+    omega (arith, s .good .1 .1 .1 .1 .1 .1 .1 .1 .0, s .pre .listed, c .count-events .ensures .1)
+
+-- too much: one did not fit, or all do not
+much : (c : tie.Joined3) → let s = start (c .before) in
+    (s .args .walked .listing .full ≡ true) ⊎ (length (s .args .events .now) < 12 * (c .before .count-events .result + s .args .walked .listing .count))
+much c = ⊎-elim (λ t. inl (t .taken)) (λ t. inr (less-over _ _ (t .1 .taken))) (c .if3 .came)
+
+clear-requires : tie.Need-clear-requires
+clear-requires c κs = search needs
+
+same-length-2 : tie.Need-same-length-2
+same-length-2 c = search needs
+
+returns-3 : tie.Need-returns-3
+returns-3 c =
+    let z = c .before .before .before .before .before in
+    let s = start z in
+    over (s .args .wanted) (s .pre) (z .count-events .result) (c .before .before .clear .last .0) (z .before .before .before .if1 .left) (counted z) (much (c .before .before .before .before))
+    (c .before .before .clear .ensures)
+
+array-share-prefix-sets : tie.Need-array-share-prefix-sets
+array-share-prefix-sets c = omega (arith, long (c .before .before .before .before .before .before .before .before .before .before .before .before .before .before .before))
+
+slice-aggregate-write-open : tie.Need-slice-aggregate-write-open
+slice-aggregate-write-open c = sym (taken (c .before .before .before .before .before .before .before .before .before .before .before .before .before .before .before .before))
+
+write-open-requires : tie.Need-write-open-requires
+write-open-requires c κs =
+    let s = c .before .before .before .before .before .before .before .before .before .before .before .before .before .before .before .before in
+    let t = taken s in
+    let f = s .pre .facts in
+    (s .pre .room, f .1, omega (arith, t, f .0), omega (arith, t, f .2))
+
+write-events-requires : tie.Need-write-events-requires
+write-events-requires c κs =
+    let z = c .before .before .before .before .before .before .before .before .before .before in
+    let s = start z in
+    let e = counted z in
+    let h = over-less (length (s .args .events .now)) (z .count-events .result + s .args .walked .listing .count) (c .before .before .before .before .before .before .before .before .if4 .left) in
+    (rule-events (s .args .wanted) (s .pre) (length (s .args .events .now)) (omega arith), h)
+
+same-length-3 : tie.Need-same-length-3
+same-length-3 c = search needs
+
+same-length-4 : tie.Need-same-length-4
+same-length-4 c = search needs
+
+returns-4 : tie.Need-returns-4
+unfolding setsOf
+returns-4 c =
+    let z = c .before .before .before .before .before .before .before .before .before .before .before .before .before in
+    let s = start z in
+    let n = z .before .before .before .before .before .before .size in
+    let w = c .before .before .before .before .before .before .write-open in
+    let e = c .before .before .write-events in
+    let h = over-less (length (s .args .events .now)) (z .count-events .result + s .args .walked .listing .count) (c .before .before .before .before .before .before .before .before .before .before .before .if4 .left) in
+    told (s .args .wanted) (s .pre) (z .count-events .result) (s .args .walked .listing .count) (w .last .0) (e .last .0) (n .result) (z .before .before .before .if1 .left) (counted z) refl
+    (c .before .before .before .before .before .before .before .before .before .before .before .before .if3 .left) h (w .ensures) (e .ensures) (n .ensures)
+
+pub finish-spec : {M : Type 1} → statement M
+finish-spec =
+    tie.close
+    (tie.spec
+    size-requires
+    cast-people
+    index-1-if1
+    index-2-if1
+    write-bare-requires
+    same-length
+    returns
+    returns-2
+    upto-requires
+    count-events-requires
+    add-total
+    clear-requires
+    same-length-2
+    returns-3
+    array-share-prefix-sets
+    slice-aggregate-write-open
+    write-open-requires
+    write-events-requires
+    same-length-3
+    same-length-4
+    returns-4)
