@@ -44,6 +44,7 @@ use Rattle.expressions.proofs.FitLaws.{statuses-fit}
 use Rattle.expressions.proofs.OpenLaws.{opens-number}
 use Rattle.expressions.proofs.FactLaws.{bindings-by}
 use Rattle.expressions.proofs.ReachLaws.{heading-of, frame-of}
+use Rattle.report.proofs.ReadyLaws.{somebody}
 use Rattle.report.specs.Line.{Line, lineLength, lineBytes, bareLine}
 use Rattle.report.specs.LineAt.{lineAt}
 use Rattle.report.specs.Operations.{told, verdictOf, check, relationOf, mismatched, headingFault, tooMany, Opened, stopped, incomplete, ready, orStop, unlessFault, counted, bound, opened, Outcome, filled, refusal, written, answerOpened, answer, showOpened, show}
@@ -181,6 +182,9 @@ module _ (plan : Coded) (c : CodedCase) (sound : Sound (planOf plan)) (sane : So
 
       pub persons-named : subset (rulePersons Pl) (c .heading .roster) ≡ true
       persons-named = subst (λ (m : ℕ). subset (rulePersons Pl) m ≡ true) roster-is (on-roster Pl (caseHeading Ca) room (sym fault-is ∙ z))
+
+      pub roster-peopled : c .heading .roster ≡ 0 → ⊥
+      roster-peopled e = somebody Pl (caseHeading Ca) room (sym fault-is ∙ z) (roster-is ∙ e)
 
       pub lines-fit : 29 * size (c .heading .roster) ≤ room
       unfolding headingFault

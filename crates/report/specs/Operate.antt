@@ -44,5 +44,6 @@ pub record Opening (plan : Plan) (c : Case) (lines events : List ℕ) : Type 0 w
 pub record Binding (plan : Plan) (c : Case) (reach : Reach) (lines events : List ℕ) : Type 0 where
   pub opening : Opening plan c lines events
   pub named : subset (rulePersons (planOf plan)) (c .heading .roster) ≡ true
+  pub peopled : c .heading .roster ≡ 0 → ⊥
   pub reached : Reached (frameBy plan (c .heading .roster) (c .constraints)) reach
   pub room : 29 * size (c .heading .roster) ≤ length lines

@@ -73,7 +73,7 @@ pub fn finish(
     let count = count_events(sums, noted, opens.defaults, upto(cuts.count, 16));
     let listed = listing.count;
     let total = count + listed;
-    if listing.full || events.len() / 12 < total {
+    if listing.full || events.len() < 12 * total {
         clear(events);
         return Answer::Refused {
             number: 13,

@@ -1,12 +1,11 @@
 -- `finish::finish`: with no world the lines of kind 6 or refusal 14; else refusal 13, or lines and events.
 use mathlib.Core.Path.{_≡_, refl, sym, ap, _∙_}
 use mathlib.Core.Logic.{_⊎_, inl, inr, ⊎-elim}
-use mathlib.Core.Bool.{true, false}
-use Prim.Native.Nat.{ℕ, _*_, _+_, _/_, _≤_, _<_}
+use mathlib.Core.Bool.{true}
+use Prim.Native.Nat.{_*_, _+_, _<_}
 use native.Mathlib.Omega.{arith}
 use lib.ListN.{length, take, length-map}
 use lib.Seq.{length-take-le}
-use lib.Dec.{ltb}
 use borrow.Author.Needs.{needs}
 use borrow.Author.Tests.{ltb-true, ltb-false}
 use Rattle.records.specs.Decoded.{planOf, cutOf}
@@ -18,13 +17,6 @@ use Rattle.report.specs.EventsWritten.{countOf}
 use Rattle.report.proofs.FinishLaws.{none-all, none-one, over, told, rule-events}
 use Rattle.report.proofs.finish.finish.Statement.{statement}
 use Rattle.report.proofs.finish.finish.Tie as tie
-
--- the code divides, since the product might not fit
-less-over : (n t : ℕ) → ltb (n / 12) t ≡ true → n < 12 * t
-less-over n t e = let h = ltb-true (n / 12) t e in omega arith
-
-over-less : (n t : ℕ) → ltb (n / 12) t ≡ false → 12 * t ≤ n
-over-less n t e = let h = ltb-false (n / 12) t e in omega arith
 
 -- the arrays have their lengths
 long : (c : tie.Start) → length (c .args .opens .influence .sets) ≡ 80
@@ -92,10 +84,15 @@ add-total c =
     let s = start c in
     omega (arith, s .good .1 .1 .1 .1 .1 .1 .1 .1 .0, s .pre .listed, c .count-events .ensures .1)
 
+mul-if4 : tie.Need-mul-if4
+mul-if4 c =
+    let s = start (c .before) in
+    omega (arith, s .good .1 .1 .1 .1 .1 .1 .1 .1 .0, s .pre .listed, c .before .count-events .ensures .1)
+
 -- too much: one did not fit, or all do not
 much : (c : tie.Joined3) → let s = start (c .before) in
     (s .args .walked .listing .full ≡ true) ⊎ (length (s .args .events .now) < 12 * (c .before .count-events .result + s .args .walked .listing .count))
-much c = ⊎-elim (λ t. inl (t .taken)) (λ t. inr (less-over _ _ (t .1 .taken))) (c .if3 .came)
+much c = ⊎-elim (λ t. inl (t .taken)) (λ t. inr (ltb-true _ _ (t .1 .taken))) (c .if3 .came)
 
 clear-requires : tie.Need-clear-requires
 clear-requires c κs = search needs
@@ -128,7 +125,7 @@ write-events-requires c κs =
     let z = c .before .before .before .before .before .before .before .before .before .before in
     let s = start z in
     let e = counted z in
-    let h = over-less (length (s .args .events .now)) (z .count-events .result + s .args .walked .listing .count) (c .before .before .before .before .before .before .before .before .if4 .left) in
+    let h = ltb-false (length (s .args .events .now)) (12 * (z .count-events .result + s .args .walked .listing .count)) (c .before .before .before .before .before .before .before .before .if4 .left) in
     (rule-events (s .args .wanted) (s .pre) (length (s .args .events .now)) (omega arith), h)
 
 same-length-3 : tie.Need-same-length-3
@@ -145,7 +142,7 @@ returns-4 c =
     let n = z .before .before .before .before .before .before .size in
     let w = c .before .before .before .before .before .before .write-open in
     let e = c .before .before .write-events in
-    let h = over-less (length (s .args .events .now)) (z .count-events .result + s .args .walked .listing .count) (c .before .before .before .before .before .before .before .before .before .before .before .if4 .left) in
+    let h = ltb-false (length (s .args .events .now)) (12 * (z .count-events .result + s .args .walked .listing .count)) (c .before .before .before .before .before .before .before .before .before .before .before .if4 .left) in
     told (s .args .wanted) (s .pre) (z .count-events .result) (s .args .walked .listing .count) (w .last .0) (e .last .0) (n .result) (z .before .before .before .if1 .left) (counted z) refl
     (c .before .before .before .before .before .before .before .before .before .before .before .before .if3 .left) h (w .ensures) (e .ensures) (n .ensures)
 
@@ -164,6 +161,7 @@ finish-spec =
     upto-requires
     count-events-requires
     add-total
+    mul-if4
     clear-requires
     same-length-2
     returns-3

@@ -51,6 +51,7 @@ answer-ready-requires c κs =
       sound = a .pre .opening .sound;
       sane = a .pre .opening .sane;
       named = a .pre .named;
+      peopled = a .pre .peopled;
       reached = a .pre .reached;
       bound = codes-bound (a .args .plan) (a .args .case) (a .pre .opening .sound) (a .pre .opening .sane) (a .args .reach) (a .pre .reached)
           (b .bindings .result) (b .bindings .ensures);

@@ -2,7 +2,7 @@
 use lib.ListN.{length}
 use borrow.Author.Tests.{not-true, not-false}
 use denote.Ref.{now}
-use Rattle.report.proofs.OperateLaws.{persons-fit, heading-stops, persons-named, lines-fit, roster-complete, roster-incomplete, stops, goes-on, no-world, bare-lines}
+use Rattle.report.proofs.OperateLaws.{persons-fit, heading-stops, persons-named, roster-peopled, lines-fit, roster-complete, roster-incomplete, stops, goes-on, no-world, bare-lines}
 use borrow.Author.Needs.{needs}
 use Rattle.report.proofs.operate.operate_case.Statement.{statement}
 use Rattle.report.proofs.operate.operate_case.Tie as tie
@@ -39,6 +39,8 @@ operate-bound-requires c κs =
     record {
       opening = a .pre;
       named = persons-named (a .args .plan) (a .args .case) (a .pre .sound) (a .pre .sane) (q .reach-of .result) (q .reach-of .ensures) (p .rule-persons .result)
+          (p .rule-persons .ensures) (length (now (a .args .lines))) (h .heading-fault .result) (h .heading-fault .ensures) (i .if1 .left);
+      peopled = roster-peopled (a .args .plan) (a .args .case) (a .pre .sound) (a .pre .sane) (q .reach-of .result) (q .reach-of .ensures) (p .rule-persons .result)
           (p .rule-persons .ensures) (length (now (a .args .lines))) (h .heading-fault .result) (h .heading-fault .ensures) (i .if1 .left);
       reached = q .reach-of .ensures;
       room = lines-fit (a .args .plan) (a .args .case) (a .pre .sound) (a .pre .sane) (q .reach-of .result) (q .reach-of .ensures) (p .rule-persons .result)
