@@ -1,4 +1,4 @@
-//! Inputs with many variables, with counts of worlds up to 2^80, and with what binding refuses.
+//! Inputs for comparison: for binding with many variables, counts of worlds up to 2^80 and what binding refuses; for whole answers of all sorts.
 
 use inputs::build;
 use inputs::calls;
@@ -59,6 +59,7 @@ pub fn answerable(random: &mut Random) -> Sample {
     }
 }
 
+/// For binding.
 pub fn random(random: &mut Random) -> Sample {
     if random.percent(15) {
         return Sample::bytes(calls::damaged(random));
