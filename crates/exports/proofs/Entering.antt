@@ -143,17 +143,7 @@ module _ (plan : Coded) (case : CodedCase) (sound : Sound (planOf plan)) (whole 
         counts .worlds Pl bs (sym (over .count)) (sym decisions-few) coded
         ∙ ap (λ (h : CaseHeading). countOf (worldCount Pl bs) (h .mostWorlds)) (sym (heading-of case (whole .heading)))
 
--- ---- the answer of a check
-
-pub told-accepted : (v : Verdict Plan) → checkedOf v ≡ Accepted → (0 ≡ numberOf v) × (0 ≡ recordOf v)
-unfolding checkedOf
-told-accepted (fine P′) e = (refl, refl)
-told-accepted (refused n k) e = let z : _≡_ {A = ℕ} 0 1 = cc in absurd (omega arith)
-
-pub told-refused : (v : Verdict Plan) (n k : ℕ) → checkedOf v ≡ Refused n k → (n ≡ numberOf v) × (k ≡ recordOf v)
-unfolding checkedOf
-told-refused (fine P′) n k e = let z : _≡_ {A = ℕ} 0 1 = cc in absurd (omega arith)
-told-refused (refused m j) n k e = (cc, cc)
+-- ---- the refusals that come with binding
 
 pub passed-over : (C : Case) (over b : Bool) → over ≡ b → checkedOf (bindable C) ≡ Accepted → (cond b 11 0 ≡ numberOf (refusalBy C over)) × (0 ≡ recordOf (refusalBy C over))
 unfolding checkedOf

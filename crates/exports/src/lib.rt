@@ -1,37 +1,63 @@
 // What a host links: the operations under C names.
 mod bind;
 mod refusal;
+mod tell;
 mod variables;
 
 use bind::bind;
 use bind::set_at;
-use records::check::check;
-use records::checked::Checked;
 use records::naming::entry;
+use report::operations::answer;
+use report::operations::check;
+use report::operations::show;
+use tell::tell;
 use variables::list_variables;
 use variables::variable_at;
 ghost use mathlib.Core.Path.{_≡_};
 ghost use lib.ListN.{length, getD};
-ghost use Rattle.records.specs.Plan.{checkedPlan};
 ghost use Rattle.expressions.specs.Codes.{boundOf};
+ghost use Rattle.report.specs.Operations.{told as toldOf, check as checkOf, answer as answerOf, show as showOf};
 ghost use Rattle.exports.specs.Entries.{numberOf, recordOf, bound, influences, variables, counted, refusal};
+ghost use Rattle.exports.specs.Handed.{numbers, handed};
 
-// Check a plan: the refusal's number, 0 for none. The record goes behind the reference.
+// Check a plan: the refusal's number, 0 for none. The seven numbers of document 01 go behind the reference.
 #[no_mangle]
-pub extern "C" fn lukhveri_check(plan: &[u8], place: &mut u64) -> u8
-    ensures { λ r. ⌜ (r ≡ numberOf (checkedPlan (now (plan .entry)))) × (now (place .exit) ≡ recordOf (checkedPlan (now (plan .entry)))) ⌝ }
+pub extern "C" fn lukhveri_check(plan: &[u8], told: &mut [u64; 7]) -> u8
+    ensures { λ r. ⌜ (r ≡ toldOf (checkOf (now (plan .entry))) .refusal) × (now (told .exit) ≡ numbers (toldOf (checkOf (now (plan .entry))))) ⌝ }
 {
-    let r = check(plan);
-    match r {
-        Checked::Accepted => {
-            *place = 0;
-            0
-        }
-        Checked::Refused { number, record: k } => {
-            *place = k as u64;
-            number
-        }
-    }
+    let answer = check(plan);
+    tell(answer, told)
+}
+
+// Answer a case into two lent buffers of any length and content.
+#[no_mangle]
+pub extern "C" fn lukhveri_answer(
+    plan: &[u8],
+    case: &[u8],
+    lines: &mut [u8],
+    events: &mut [u8],
+    told: &mut [u64; 7],
+) -> u8
+    ensures { λ r. ⌜ record { result = r; told = now (told .exit); lines = now (lines .exit); events = now (events .exit) } ≡ handed (answerOf (now (plan .entry)) (now (case .entry)) (length (now (lines .entry))) (length (now (events .entry)))) ⌝ }
+{
+    let answer = answer(plan, case, lines, events);
+    tell(answer, told)
+}
+
+// Show the world of that number, counted from 0 among the admissible ones.
+#[no_mangle]
+pub extern "C" fn lukhveri_show(
+    plan: &[u8],
+    case: &[u8],
+    world: u64,
+    lines: &mut [u8],
+    events: &mut [u8],
+    told: &mut [u64; 7],
+) -> u8
+    ensures { λ r. ⌜ record { result = r; told = now (told .exit); lines = now (lines .exit); events = now (events .exit) } ≡ handed (showOf (now (plan .entry)) (now (case .entry)) world (length (now (lines .entry))) (length (now (events .entry)))) ⌝ }
+{
+    let answer = show(plan, case, world, lines, events);
+    tell(answer, told)
 }
 
 // How a case binds a fact, as a code: 0 for a fact that is not bound, and for every fact where plan or case is not read.

@@ -1,4 +1,4 @@
-//! Inputs with many variables, with counts of worlds up to 2^80, and with what binding refuses.
+//! Inputs for comparison: for binding with many variables, counts of worlds up to 2^80 and what binding refuses; for whole answers of all sorts.
 
 use inputs::build;
 use inputs::calls;
@@ -36,13 +36,33 @@ impl Sample {
             source: Some(input),
         }
     }
+
+    fn bytes((plan, case): (Vec<u8>, Vec<u8>)) -> Sample {
+        let source = None;
+        Sample { plan, case, source }
+    }
 }
 
+/// For whole answers: of the domain compared with the Rust, of plans that only document 01 accepts, of damaged bytes, and of what is at the
+/// limits of binding.
+pub fn answerable(random: &mut Random) -> Sample {
+    match random.below(20) {
+        0..=8 => Sample::of(generate::mixed(random)),
+        9..=11 => {
+            let mut input = generate::mixed(random);
+            generate::loosen(random, &mut input.plan);
+            Sample::of(input)
+        }
+        12..=14 => Sample::bytes(calls::wild(random)),
+        15..=17 => Sample::bytes(calls::damaged(random)),
+        _ => self::random(random),
+    }
+}
+
+/// For binding.
 pub fn random(random: &mut Random) -> Sample {
     if random.percent(15) {
-        let (plan, case) = calls::damaged(random);
-        let source = None;
-        return Sample { plan, case, source };
+        return Sample::bytes(calls::damaged(random));
     }
     let mut input = match random.below(20) {
         0 => apart(random),

@@ -1,13 +1,43 @@
 //! Safe wrappers of the functions that crates/exports gives to C, and inputs for comparing them.
 
+pub mod alike;
 pub mod cases;
 pub mod expected;
+pub mod smallest;
 
 use model::Outcome;
 
+/// Refusal, record, count, maximum, lines, events, worlds.
+type Told = [u64; 7];
+
+// The operations come first: each answers the refusal's number, 0 for none, and tells the rest behind its last reference.
 unsafe extern "C" {
-    /// The refusal's number, 0 for none; the record comes behind the reference.
-    fn lukhveri_check(plan: *const u8, length: usize, record: *mut u64) -> u8;
+    fn lukhveri_check(plan: *const u8, plan_length: usize, told: *mut Told) -> u8;
+
+    fn lukhveri_answer(
+        plan: *const u8,
+        plan_length: usize,
+        case: *const u8,
+        case_length: usize,
+        lines: *mut u8,
+        lines_length: usize,
+        events: *mut u8,
+        events_length: usize,
+        told: *mut Told,
+    ) -> u8;
+
+    fn lukhveri_show(
+        plan: *const u8,
+        plan_length: usize,
+        case: *const u8,
+        case_length: usize,
+        world: u64,
+        lines: *mut u8,
+        lines_length: usize,
+        events: *mut u8,
+        events_length: usize,
+        told: *mut Told,
+    ) -> u8;
 
     fn lukhveri_binding(
         plan: *const u8,
@@ -57,16 +87,64 @@ unsafe extern "C" {
     ) -> u8;
 }
 
-/// Check a plan with the proved code.
-pub fn check(plan: &[u8]) -> Outcome {
-    let mut record = 0;
-    // The Rattle function takes a slice and a reference to a number, and keeps neither.
-    let number = unsafe { lukhveri_check(plan.as_ptr(), plan.len(), &mut record) };
+/// What a call tells, over dirt.
+fn outcome(call: impl FnOnce(&mut Told) -> u8) -> Outcome {
+    let mut told = [u64::MAX; 7];
+    let number = call(&mut told);
+    let [refusal, record, count, maximum, lines, events, worlds] = told;
+    assert_eq!(u64::from(number), refusal, "the result is the refusal told");
     Outcome {
         refusal: number,
         record,
-        ..Outcome::default()
+        count,
+        maximum,
+        lines,
+        events,
+        worlds,
     }
+}
+
+/// Check a plan with the proved code.
+pub fn check(plan: &[u8]) -> Outcome {
+    // The Rattle function takes a slice and a reference to seven numbers, and keeps neither.
+    outcome(|told| unsafe { lukhveri_check(plan.as_ptr(), plan.len(), told) })
+}
+
+/// Answer a case with the proved code.
+pub fn answer(plan: &[u8], case: &[u8], lines: &mut [u8], events: &mut [u8]) -> Outcome {
+    // Four slices, of which two are lent for writing, and the seven numbers, of which the Rattle function keeps nothing.
+    outcome(|told| unsafe {
+        lukhveri_answer(
+            plan.as_ptr(),
+            plan.len(),
+            case.as_ptr(),
+            case.len(),
+            lines.as_mut_ptr(),
+            lines.len(),
+            events.as_mut_ptr(),
+            events.len(),
+            told,
+        )
+    })
+}
+
+/// Show a world with the proved code.
+pub fn show(plan: &[u8], case: &[u8], world: u64, lines: &mut [u8], events: &mut [u8]) -> Outcome {
+    // As above.
+    outcome(|told| unsafe {
+        lukhveri_show(
+            plan.as_ptr(),
+            plan.len(),
+            case.as_ptr(),
+            case.len(),
+            world,
+            lines.as_mut_ptr(),
+            lines.len(),
+            events.as_mut_ptr(),
+            events.len(),
+            told,
+        )
+    })
 }
 
 /// The code of a fact's binding: 0 none, 1 and 2 known, 3 unknown, 4, 5 and 6 a conflict of false, of true, of both.

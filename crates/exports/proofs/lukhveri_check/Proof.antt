@@ -1,29 +1,23 @@
--- `lukhveri_check`: number and record of the answer, by its two cases. Assumes nothing.
-use mathlib.Core.Path.{sym, _∙_}
+-- `lukhveri_check`: the seven numbers of the check.
+use mathlib.Core.Path.{ap, _∙_}
 use borrow.Author.Needs.{needs}
-use Rattle.records.specs.Plan.{checkedPlan}
-use Rattle.exports.proofs.Entering.{told-accepted, told-refused}
+use Rattle.report.specs.Operations.{told}
+use Rattle.report.specs.declared.Answer.{Answer}
+use Rattle.exports.specs.Handed.{numbers}
 use Rattle.exports.proofs.lukhveri_check.Statement.{statement}
 use Rattle.exports.proofs.lukhveri_check.Tie as tie
 
 check-requires : tie.Need-check-requires
 check-requires c κs = search needs
 
-enum-told : tie.Need-enum-told
-enum-told c = search needs
-
-enum-known-r : tie.Need-enum-known-r
-enum-known-r c = search needs
+tell-requires : tie.Need-tell-requires
+tell-requires c κs = search needs
 
 returns : tie.Need-returns
 returns c =
-    let k = c .before .before in
-    told-accepted (checkedPlan (k .before .before .args .plan .now)) (sym (k .check .ensures) ∙ c .enum-told .given .1)
-
-returns-2 : tie.Need-returns-2
-returns-2 c =
-    let k = c .before .before .before in
-    told-refused (checkedPlan (k .before .before .args .plan .now)) _ _ (sym (k .check .ensures) ∙ c .before .r .given .1)
+    let e = c .before .before .check .ensures in
+    let t = c .tell .ensures in
+    (t .0 ∙ ap (λ (a : Answer). told a .refusal) e, t .1 ∙ ap (λ (a : Answer). numbers (told a)) e)
 
 pub lukhveri-check-spec : {M : Type 1} → statement M
-lukhveri-check-spec = tie.close (tie.spec check-requires enum-told enum-known-r returns returns-2)
+lukhveri-check-spec = tie.close (tie.spec check-requires tell-requires returns)

@@ -53,3 +53,20 @@ pub fn damaged(random: &mut Random) -> (Vec<u8>, Vec<u8>) {
     }
     (plan, case)
 }
+
+/// Loosened plans and damaged records, so that document 01 accepts much that the Rust refuses.
+pub fn wild(random: &mut Random) -> (Vec<u8>, Vec<u8>) {
+    let size = if random.percent(60) { generate::TINY } else { generate::DENSE };
+    let mut input = generate::input(random, size);
+    if random.percent(40) {
+        generate::loosen(random, &mut input.plan);
+    }
+    let (mut plan, mut case) = (input.plan.encode(), input.case.encode());
+    if random.percent(50) {
+        plan = mutate::records(random, &input.plan.records());
+    }
+    if random.percent(30) {
+        case = mutate::records(random, &input.case.records());
+    }
+    (plan, case)
+}

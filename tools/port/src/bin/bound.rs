@@ -2,12 +2,12 @@
 //! by the model, which must agree.
 
 use inputs::random::Random;
-use inputs::shrink::shrink;
 use inputs::vectors::to_hex;
 use model::expressions::{Binding, Bound, Slot};
 use model::records::Plan;
 use port::cases::{self, Sample};
 use port::expected::{Expected, worlds};
+use port::smallest::smallest;
 
 /// What the entries answer of a case; nothing of one that is not read.
 #[derive(Default)]
@@ -156,39 +156,6 @@ fn differ(plan: &[u8], case: &[u8]) -> bool {
     compare(plan, case, &mut Tally::default()).is_err()
 }
 
-/// The smallest input found that still differs: record by record, or byte by byte where the bytes were damaged. So many tries and no more:
-/// an input at a limit has very many neighbours.
-fn smallest(sample: Sample) -> (Vec<u8>, Vec<u8>) {
-    let mut left = 5_000;
-    let mut shows = |plan: &[u8], case: &[u8]| {
-        left -= 1;
-        left > 0 && differ(plan, case)
-    };
-    if let Some(input) = sample.source {
-        let least = shrink(input, |next| {
-            shows(&next.plan.encode(), &next.case.encode())
-        });
-        return (least.plan.encode(), least.case.encode());
-    }
-    let (mut plan, mut case) = (sample.plan, sample.case);
-    while let Some(next) = without(&plan, |next| shows(next, &case)) {
-        plan = next;
-    }
-    while let Some(next) = without(&case, |next| shows(&plan, next)) {
-        case = next;
-    }
-    (plan, case)
-}
-
-/// The bytes without some of them, up to eight in a row, where that still shows it.
-fn without(bytes: &[u8], mut shows: impl FnMut(&[u8]) -> bool) -> Option<Vec<u8>> {
-    let cuts = (1..=8)
-        .rev()
-        .flat_map(|run| (run..=bytes.len()).map(move |end| (end - run, end)));
-    cuts.map(|(start, end)| [&bytes[..start], &bytes[end..]].concat())
-        .find(|next| shows(next))
-}
-
 fn main() {
     let (count, seed) = port::count_and_seed("bound N SEED");
     let mut tally = Tally::default();
@@ -196,7 +163,7 @@ fn main() {
     let randoms = (0..count).map(|number| cases::random(&mut Random::stream(seed, number)));
     for sample in ladders.chain(randoms) {
         if let Err(what) = compare(&sample.plan, &sample.case, &mut tally) {
-            let (plan, case) = smallest(sample);
+            let (plan, case) = smallest(sample, differ);
             println!(
                 "{what} differs: plan {} case {}",
                 to_hex(&plan),

@@ -1,11 +1,11 @@
 //! damaged N SEED: N damaged plans, N damaged cases over whole plans, and now and then what they were made from, through the proved code and
-//! the model, which must agree in number and record.
+//! the model: checked, answered and a world shown, in dirty buffers of random lengths. The same seven numbers and the same bytes.
 
 use inputs::generate;
 use inputs::mutate;
 use inputs::random::Random;
 use inputs::vectors::to_hex;
-use port::expected::Expected;
+use port::alike::{Asked, Tally};
 
 /// Damage to the bytes, or to whole records.
 fn damage(random: &mut Random, records: &[Vec<u8>]) -> Vec<u8> {
@@ -16,39 +16,34 @@ fn damage(random: &mut Random, records: &[Vec<u8>]) -> Vec<u8> {
     }
 }
 
-/// Verdicts by refusal number.
-type Counts = [u64; 15];
-
-fn check(plan: &[u8], counts: &mut Counts) {
-    let port = port::check(plan);
-    let model = model::check(plan);
-    counts[model.refusal as usize] += 1;
-    let same = (port.refusal, port.record) == (model.refusal, model.record);
-    assert!(same, "they differ: {}", to_hex(plan));
-}
-
-fn read(plan: &[u8], case: &[u8], counts: &mut Counts) {
-    let (number, record, ..) = Expected::of(plan, case).refusal();
-    counts[number as usize] += 1;
-    let same = port::bindable(plan, case) == (number, record);
-    assert!(same, "they differ: {} {}", to_hex(plan), to_hex(case));
+fn compare(plan: &[u8], case: &[u8], random: &mut Random, tally: &mut Tally) {
+    let same = port::check(plan) == model::check(plan);
+    assert!(same, "the checks differ: plan {}", to_hex(plan));
+    let world = random.pick(&[0, 0, 1, 2, 5, 63, 4095, 4096, u64::MAX]);
+    let answer = Asked::answer(plan, case);
+    for asked in [answer, answer.show(world)] {
+        if let Err(difference) = asked.compare(random, tally) {
+            let (plan, case) = (to_hex(plan), to_hex(case));
+            panic!("{difference} differ: plan {plan} case {case}");
+        }
+    }
 }
 
 fn main() {
     let (count, seed) = port::count_and_seed("damaged N SEED");
-    let (mut plans, mut cases) = ([0; 15], [0; 15]);
+    let (mut plans, mut cases) = (Tally::default(), Tally::default());
     for number in 0..count {
         let random = &mut Random::stream(seed, number);
         let input = generate::mixed(random);
         let (plan, case) = (input.plan.encode(), input.case.encode());
-        check(&damage(random, &input.plan.records()), &mut plans);
-        read(&plan, &damage(random, &input.case.records()), &mut cases);
+        let damaged_plan = damage(random, &input.plan.records());
+        compare(&damaged_plan, &case, random, &mut plans);
+        let damaged_case = damage(random, &input.case.records());
+        compare(&plan, &damaged_case, random, &mut cases);
         if number % 10 == 0 {
-            check(&plan, &mut plans);
-            read(&plan, &case, &mut cases);
+            compare(&plan, &case, random, &mut cases);
         }
     }
-    println!("plans by refusal number {plans:?}");
-    println!("cases by refusal number {cases:?}");
-    println!("{count} damaged plans and {count} damaged cases, the same verdicts");
+    println!("{count} damaged plans: {plans}");
+    println!("{count} damaged cases: {cases}");
 }

@@ -1,25 +1,34 @@
-//! speed: time of a check and of binding a case, by the proved code and by the model, in one run.
+//! speed: time of a check, of binding a case and of answering one, by the proved code and by the model, in one run.
 
 use std::hint::black_box;
 use std::time::Instant;
 
 use inputs::build;
-use inputs::generate::{self, DENSE};
+use inputs::generate::{self, DENSE, LARGE, Size};
 use inputs::random::Random;
 use inputs::wire::{Attachment, Bar, Case, Cut, Edge, Election, Node, OVERRIDES, Plan, Status};
+use model::Outcome;
+use model::report::{EVENT, LINE};
+use port::alike::Asked;
 
-/// Microseconds for one call, the best of several runs of many.
-fn time(plans: &[Vec<u8>], check: impl Fn(&[u8]) -> model::Outcome) -> f64 {
-    let once = || {
+/// Microseconds for one run of the calls, the best of several times many.
+fn time(mut calls: impl FnMut()) -> f64 {
+    let mut once = || {
         let start = Instant::now();
-        for _ in 0..200 {
-            for plan in plans {
-                black_box(check(black_box(plan)));
-            }
-        }
-        start.elapsed().as_secs_f64() * 1e6 / (200 * plans.len()) as f64
+        (0..200).for_each(|_| calls());
+        start.elapsed().as_secs_f64() * 1e6 / 200.0
     };
     (0..7).map(|_| once()).fold(f64::INFINITY, f64::min)
+}
+
+/// Microseconds for one of the plans.
+fn check_time(plans: &[Vec<u8>], check: impl Fn(&[u8]) -> Outcome) -> f64 {
+    let all = time(|| {
+        for plan in plans {
+            black_box(check(black_box(plan)));
+        }
+    });
+    all / plans.len() as f64
 }
 
 fn row(name: &str, plans: &[Vec<u8>]) {
@@ -27,8 +36,9 @@ fn row(name: &str, plans: &[Vec<u8>]) {
         assert_eq!(port::check(plan).refusal, 0, "{name} is refused");
     }
     let bytes = plans.iter().map(Vec::len).sum::<usize>() / plans.len();
-    let (port, model) = (time(plans, port::check), time(plans, model::check));
-    println!("{name}, {bytes} bytes: proved {port:.1} µs, model {model:.1} µs a check");
+    let proved = check_time(plans, port::check);
+    let model = check_time(plans, model::check);
+    println!("{name}, {bytes} bytes: proved {proved:.1} µs, model {model:.1} µs a check");
 }
 
 /// Every kind of record up to its limit, every list full.
@@ -97,18 +107,10 @@ fn widest() -> (Vec<u8>, Vec<u8>) {
 
 fn bind_row() {
     let (plan, case) = widest();
-    let best = |bind: &dyn Fn()| {
-        let once = || {
-            let start = Instant::now();
-            (0..200).for_each(|_| bind());
-            start.elapsed().as_secs_f64() * 1e6 / 200.0
-        };
-        (0..7).map(|_| once()).fold(f64::INFINITY, f64::min)
-    };
-    let proved = best(&|| {
+    let proved = time(|| {
         black_box(port::influence(black_box(&plan), black_box(&case), 0));
     });
-    let model = best(&|| {
+    let model = time(|| {
         let read = model::records::Plan::read(black_box(&plan)).expect("a plan");
         let said = model::records::Case::read(black_box(&case), &read).expect("a case");
         black_box(model::expressions::Bound::of(&read, &said));
@@ -117,6 +119,46 @@ fn bind_row() {
         "read and bind a case of 64 facts over 256 nodes, {} and {} bytes: proved {proved:.1} µs, model {model:.1} µs",
         plan.len(),
         case.len()
+    );
+}
+
+/// Plan, case and what the model answers.
+type Known = (Vec<u8>, Vec<u8>, Outcome);
+
+type Answer = fn(&[u8], &[u8], &mut [u8], &mut [u8]) -> Outcome;
+
+/// Microseconds for one of the inputs, in buffers that just fit.
+fn answer_time(inputs: &[Known], answer: Answer) -> f64 {
+    let (mut lines, mut events) = (vec![0; 64 * LINE], vec![0; 4096 * EVENT]);
+    let all = time(|| {
+        for (plan, case, known) in inputs {
+            let lines = &mut lines[..LINE * known.lines as usize];
+            let events = &mut events[..EVENT * known.events as usize];
+            black_box(answer(black_box(plan), black_box(case), lines, events));
+        }
+    });
+    all / inputs.len() as f64
+}
+
+fn answer_row(name: &str, size: Size) {
+    let any = (0..).map(|number| {
+        let input = generate::input(&mut Random::stream(37, number), size);
+        let (plan, case) = (input.plan.encode(), input.case.encode());
+        let known = Asked::answer(&plan, &case).expected();
+        (plan, case, known)
+    });
+    let inputs: Vec<Known> = any
+        .filter(|(_, _, known)| known.worlds > 0)
+        .take(40)
+        .collect();
+    let mean = |value: fn(&Outcome) -> u64| {
+        inputs.iter().map(|(_, _, known)| value(known)).sum::<u64>() / 40
+    };
+    let (lines, worlds) = (mean(|known| known.lines), mean(|known| known.worlds));
+    let proved = answer_time(&inputs, port::answer);
+    let model = answer_time(&inputs, model::answer);
+    println!(
+        "{name}, {lines} persons and {worlds} worlds in the mean: proved {proved:.1} µs, model {model:.1} µs an answer"
     );
 }
 
@@ -129,4 +171,6 @@ fn main() {
     });
     row("typical plans", &typical.collect::<Vec<_>>());
     row("the largest plan", &[largest().encode()]);
+    answer_row("typical cases", DENSE);
+    answer_row("large cases", LARGE);
 }

@@ -4,8 +4,7 @@
 
 use std::collections::BTreeMap;
 
-use inputs::generate;
-use inputs::mutate;
+use inputs::calls;
 use inputs::random::Random;
 use inputs::vectors::to_hex;
 use judge::compare::{Covered, Difference, Verdict, compare, compare_unchecked};
@@ -31,22 +30,6 @@ impl Found {
             entry.1 = plan.to_vec();
         }
     }
-}
-
-fn wild(random: &mut Random) -> (Vec<u8>, Vec<u8>) {
-    let size = if random.percent(60) { generate::TINY } else { generate::DENSE };
-    let mut input = generate::input(random, size);
-    if random.percent(40) {
-        generate::loosen(random, &mut input.plan);
-    }
-    let (mut plan, mut case) = (input.plan.encode(), input.case.encode());
-    if random.percent(50) {
-        plan = mutate::records(random, &input.plan.records());
-    }
-    if random.percent(30) {
-        case = mutate::records(random, &input.case.records());
-    }
-    (plan, case)
 }
 
 /// What became of one input.
@@ -96,7 +79,7 @@ fn main() {
     let (mut found, mut covered) = (Found::default(), Covered::default());
     let (mut compared, mut alone, mut differ) = (0, 0, 0);
     for number in 0..count {
-        let (plan, case) = wild(&mut Random::stream(seed, number));
+        let (plan, case) = calls::wild(&mut Random::stream(seed, number));
         let difference = match judge(&plan, &case, &mut covered) {
             Fate::NotAsked => None,
             Fate::Refused(number, word) => {

@@ -1,0 +1,60 @@
+//! answered N SEED: N random inputs answered, and their worlds shown, by the proved code and by the model: the same seven numbers and the same
+//! bytes, in dirty buffers that are empty, one byte short, just enough or long. Every world of an input that has 64 or fewer, and one past the
+//! last; of others one world, and one past the last.
+
+use inputs::random::Random;
+use inputs::vectors::to_hex;
+use port::alike::{Asked, Difference, Tally};
+use port::cases::{self, Sample};
+use port::smallest::smallest;
+
+/// The answer; all its worlds, or one of many; one past the last.
+fn all<'a>(plan: &'a [u8], case: &'a [u8], random: &mut Random) -> Vec<Asked<'a>> {
+    let answer = Asked::answer(plan, case);
+    let worlds = answer.expected().worlds;
+    let mut all = vec![answer];
+    match worlds {
+        0..=64 => all.extend((0..worlds).map(|number| answer.show(number))),
+        _ => all.push(answer.show(random.below(worlds as usize) as u64)),
+    }
+    all.push(answer.show(worlds));
+    all
+}
+
+/// In buffers of all lengths, so that a smaller input shows what a larger one did.
+fn compare_all(plan: &[u8], case: &[u8]) -> Result<(), Difference> {
+    let random = &mut Random::new(1);
+    let asked = all(plan, case, random);
+    asked
+        .into_iter()
+        .try_for_each(|asked| asked.compare_all(random))
+}
+
+/// The smallest input found that differs, or the one given if only its own buffers show it.
+fn report(sample: Sample, first: Difference) {
+    let (plan, case) = smallest(sample, |plan, case| compare_all(plan, case).is_err());
+    let difference = compare_all(&plan, &case).err().unwrap_or(first);
+    println!(
+        "{difference} differ: plan {} case {}",
+        to_hex(&plan),
+        to_hex(&case)
+    );
+}
+
+fn main() {
+    let (count, seed) = port::count_and_seed("answered N SEED");
+    let mut tally = Tally::default();
+    for number in 0..count {
+        let random = &mut Random::stream(seed, number);
+        let sample = cases::answerable(random);
+        let asked = all(&sample.plan, &sample.case, random);
+        let alike = asked
+            .into_iter()
+            .try_for_each(|asked| asked.compare(random, &mut tally));
+        if let Err(first) = alike {
+            report(sample, first);
+            std::process::exit(1);
+        }
+    }
+    println!("{count} inputs: {tally}");
+}
