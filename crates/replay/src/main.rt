@@ -1,12 +1,13 @@
-// Runs the vectors of vectors.txt, one a line, and says how many agree: what an operation answers is compared with what the line expects. A
-// line that is no vector differs. Operations that cannot be run yet are counted as skipped.
+// Runs the vectors of vectors.txt, one a line, and says how many agree: what an operation answers, and what it writes in the buffers lent to it,
+// is compared with what the line expects. A line that is no vector differs.
 mod scan;
 mod tally;
+mod trial;
+mod vector;
 
-use records::check::check;
-use records::checked::Checked;
 use scan::Scan;
 use tally::Tally;
+use trial::agrees;
 
 // What has been read of a line, and the counts so far.
 struct Run {
@@ -15,98 +16,56 @@ struct Run {
     tally: Tally,
 }
 
-fn wide(x: u8) -> u64 {
-    x as u64
-}
-
-// 0 where number and record are those expected, else 2
-fn same(numbers: [u64; 10], number: u64, record: u64) -> u8 {
-    if numbers[3] == number {
-        if numbers[4] == record {
-            return 0;
-        }
-    }
-    2
-}
-
-fn check_agrees(numbers: [u64; 10], plan: &[u8]) -> u8 {
-    let found = check(plan);
-    match found {
-        Checked::Accepted => same(numbers, 0, 0),
-        Checked::Refused { number, record } => same(numbers, wide(number), record as u64),
-    }
-}
-
-// The plan is the first n bytes.
-fn check_first(numbers: [u64; 10], plan: &[u8], n: usize) -> u8 {
-    if n <= plan.len() {
-        check_agrees(numbers, &plan[..n])
-    } else {
-        2
-    }
-}
-
-// 0 agrees, 1 is skipped, 2 differs
-fn verdict(scan: Scan, plan: &[u8]) -> u8 {
+// Whether a whole line was read, and agrees.
+fn verdict(scan: Scan, store: &[u8], lines: &mut [u8], events: &mut [u8]) -> bool {
     let done = scan.end_field();
     if done.broken {
-        return 2;
+        return false;
     }
     if done.field != 15 {
-        return 2;
+        return false;
     }
-    let op = done.op;
-    // "check", "answer", "show"
-    if op == 426953237355 {
-        let numbers = done.numbers;
-        return check_first(numbers, plan, done.plan);
-    }
-    if op == 107127011501426 || op == 1936224119 {
-        return 1;
-    }
-    2
+    agrees(done.vector, store, lines, events)
 }
 
-fn feed(run: Run, b: u8, plan: &mut [u8]) -> Run {
+fn feed(run: Run, b: u8, store: &mut [u8], lines: &mut [u8], events: &mut [u8]) -> Run {
+    let scan = run.scan;
+    let tally = run.tally;
     if b == b'\n' {
-        let scan = run.scan;
-        let tally = run.tally;
         return Run {
             scan: Scan::new(),
             empty: true,
-            tally: tally.add(verdict(scan, plan)),
+            tally: tally.add(verdict(scan, store, lines, events)),
         };
     }
-    let scan = run.scan;
-    let tally = run.tally;
     Run {
-        scan: scan.take(b, plan),
+        scan: scan.take(b, store),
         empty: false,
         tally: tally,
     }
 }
 
-fn feed_all(run: Run, chunk: &[u8], plan: &mut [u8]) -> Run {
+fn feed_all(run: Run, chunk: &[u8], store: &mut [u8], lines: &mut [u8], events: &mut [u8]) -> Run {
     let mut now = run;
     let mut i = 0;
     while i < chunk.len() {
-        now = feed(now, chunk[i], plan);
+        now = feed(now, chunk[i], store, lines, events);
         i += 1;
     }
     now
 }
 
 // The end of the file ends a last line that has no line feed.
-fn finish(run: Run, plan: &mut [u8]) -> Tally {
+fn finish(run: Run, store: &mut [u8], lines: &mut [u8], events: &mut [u8]) -> Tally {
     if run.empty {
         return run.tally;
     }
-    let last = feed(run, b'\n', plan);
+    let last = feed(run, b'\n', store, lines, events);
     last.tally
 }
 
 // A proved loop has to end, and nothing says that a file does: the turns count down from a number that no run uses up.
-fn replay(fd: i32, plan: &mut [u8]) -> Tally {
+fn replay(fd: i32, store: &mut [u8], lines: &mut [u8], events: &mut [u8]) -> Tally {
     let mut run = Run {
         scan: Scan::new(),
         empty: true,
@@ -117,11 +76,11 @@ fn replay(fd: i32, plan: &mut [u8]) -> Tally {
     while turns > 0 && more {
         let mut buf = io::large_buffer();
         let n = io::read_full(fd, &mut buf);
-        run = feed_all(run, &buf[..n], plan);
+        run = feed_all(run, &buf[..n], store, lines, events);
         more = n == 65536;
         turns -= 1;
     }
-    finish(run, plan)
+    finish(run, store, lines, events)
 }
 
 fn main() {
@@ -130,8 +89,10 @@ fn main() {
         os::fail(b"vectors.txt");
         return;
     }
-    let mut plan = io::large_buffer();
-    let tally = replay(fd, &mut plan);
+    let mut store = io::large_buffer();
+    let mut lines = io::large_buffer();
+    let mut events = io::large_buffer();
+    let tally = replay(fd, &mut store, &mut lines, &mut events);
     libc::close(fd);
     tally.print();
 }

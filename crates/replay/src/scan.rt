@@ -1,5 +1,6 @@
-// One vector, byte by byte: fifteen fields parted by one space. The operation is a word, the first two and the last two byte fields are
-// lower-case hex or "-", the rest are numbers in base ten.
+// One vector, byte by byte: fifteen fields parted by one space. The operation is a word, the first two and the last two fields after it are
+// bytes, as lower-case hex or "-", the rest are numbers in base ten. The bytes of all four are kept in one store, one after another.
+use crate::vector::Vector;
 ghost use mathlib.Core.Path.{_≡_};
 ghost use Prim.Native.Nat.{_<_};
 
@@ -7,15 +8,16 @@ pub struct Scan {
     pub field: u8,
     // something that no vector has was met
     pub broken: bool,
-    // the word of the operation, its letters as base-256 digits
-    pub op: u64,
     // characters of this field so far, up to 255
     pub length: u8,
-    // a hex digit that waits for its second half; 16: none
+    // a hex digit that waits for its second half; 16: none; 17: none may come, as "-" stands alone
     pub half: u8,
-    pub plan: usize,
-    // world, the two rooms, refusal, record, count, maximum, lines, events, worlds
-    pub numbers: [u64; 10],
+    // the number of this field so far, or its word, the letters as base-256 digits
+    pub number: u64,
+    // bytes in the store so far
+    pub stored: usize,
+    // the fields that have ended
+    pub vector: Vector,
 }
 
 impl Scan {
@@ -23,11 +25,11 @@ impl Scan {
         Scan {
             field: 0,
             broken: false,
-            op: 0,
             length: 0,
             half: 16,
-            plan: 0,
-            numbers: [0; 10],
+            number: 0,
+            stored: 0,
+            vector: Vector::new(),
         }
     }
 
@@ -36,20 +38,34 @@ impl Scan {
         self
     }
 
+    // The vector with the field that ends.
+    fn kept(self) -> Vector {
+        let mut vector = self.vector;
+        let field = self.field;
+        if field == 0 {
+            vector.op = self.number;
+            return vector;
+        }
+        if of_bytes(field) {
+            return vector.set_end(field, self.stored);
+        }
+        vector.set_number(field, self.number)
+    }
+
     // The end of a field: it has a character, and no half byte waits.
     pub fn end_field(mut self) -> Scan {
-        if self.length == 0 {
-            return self.fail();
-        }
-        if self.half < 16 {
+        if self.length == 0 || self.half < 16 {
             return self.fail();
         }
         if self.field >= 15 {
             return self.fail();
         }
+        let vector = self.kept();
+        self.vector = vector;
         self.field = self.field + 1;
         self.length = 0;
         self.half = 16;
+        self.number = 0;
         self
     }
 
@@ -61,83 +77,66 @@ impl Scan {
     }
 
     fn letter(mut self, b: u8) -> Scan {
-        if self.length >= 7 {
+        let word = self.number;
+        if word >= 281474976710656 {
             return self.fail();
         }
-        let op = self.op;
-        if op >= 281474976710656 {
-            return self.fail();
-        }
-        let low = wide(b);
-        self.op = op * 256 + low;
+        self.number = word * 256 + wide(b);
         self.grown()
     }
 
     fn digit(mut self, b: u8) -> Scan {
-        if b < b'0' {
+        if b < b'0' || b > b'9' {
             return self.fail();
         }
-        if b > b'9' {
-            return self.fail();
-        }
-        let field = self.field;
-        if field < 3 {
-            return self.fail();
-        }
-        if field > 12 {
-            return self.fail();
-        }
-        let i = (field - 3) as usize;
         let d = wide(b - b'0');
-        let mut numbers = self.numbers;
-        let n = numbers[i];
+        let n = self.number;
         if n > (18446744073709551615 - d) / 10 {
             return self.fail();
         }
-        numbers[i] = n * 10 + d;
-        self.numbers = numbers;
+        self.number = n * 10 + d;
         self.grown()
     }
 
-    // A half byte: the first waits, the second makes a byte, which is kept if it is the plan's.
-    fn nibble(mut self, v: u8, plan: &mut [u8]) -> Scan {
+    // A half byte: the first waits, the second makes a byte.
+    fn nibble(mut self, v: u8, store: &mut [u8]) -> Scan {
         let half = self.half;
         if half >= 16 {
             self.half = v;
             return self.grown();
         }
         self.half = 16;
-        if self.field != 1 {
-            return self.grown();
-        }
-        let at = self.plan;
-        if at >= plan.len() {
+        let at = self.stored;
+        if at >= store.len() {
             return self.fail();
         }
-        plan[at] = half * 16 + v % 16;
-        self.plan = at + 1;
+        store[at] = half * 16 + v % 16;
+        self.stored = at + 1;
         self.grown()
     }
 
-    fn hex(self, b: u8, plan: &mut [u8]) -> Scan {
+    fn hex(mut self, b: u8, store: &mut [u8]) -> Scan {
+        if self.half == 17 {
+            return self.fail();
+        }
         if b == b'-' {
-            // "-" stands alone
             if self.length > 0 {
                 return self.fail();
             }
+            self.half = 17;
             return self.grown();
         }
         if b >= b'0' && b <= b'9' {
-            return self.nibble(b - b'0', plan);
+            return self.nibble(b - b'0', store);
         }
         if b >= b'a' && b <= b'f' {
-            return self.nibble(b - b'a' + 10, plan);
+            return self.nibble(b - b'a' + 10, store);
         }
         self.fail()
     }
 
     // One character of a field, or the space that ends it.
-    pub fn take(self, b: u8, plan: &mut [u8]) -> Scan {
+    pub fn take(self, b: u8, store: &mut [u8]) -> Scan {
         if self.broken {
             return self;
         }
@@ -148,11 +147,16 @@ impl Scan {
         if field == 0 {
             return self.letter(b);
         }
-        if field == 1 || field == 2 || field == 13 || field == 14 {
-            return self.hex(b, plan);
+        if of_bytes(field) {
+            return self.hex(b, store);
         }
         self.digit(b)
     }
+}
+
+// Whether a field of a line is bytes: plan, case, lines, events.
+fn of_bytes(field: u8) -> bool {
+    field == 1 || field == 2 || field == 13 || field == 14
 }
 
 fn wide(x: u8) -> u64

@@ -1,11 +1,10 @@
-// How many vectors agree, differ or are skipped, and the first lines that differ.
+// How many vectors agree or differ, and the first lines that differ.
 use libc::STDOUT_FILENO;
 
 pub struct Tally {
     pub line: u64,
     pub agree: u64,
     pub differ: u64,
-    pub skipped: u64,
     pub first: [u64; 16],
 }
 
@@ -15,26 +14,19 @@ impl Tally {
             line: 0,
             agree: 0,
             differ: 0,
-            skipped: 0,
             first: [0; 16],
         }
     }
 
-    // 0 agrees, 1 is skipped, anything else differs. Counts stop at the top, which no file reaches.
-    pub fn add(mut self, verdict: u8) -> Tally {
+    // Counts stop at the top, which no file reaches.
+    pub fn add(mut self, agrees: bool) -> Tally {
         if self.line == u64::MAX {
             return self;
         }
         self.line = self.line + 1;
-        if verdict == 0 {
+        if agrees {
             if self.agree < u64::MAX {
                 self.agree = self.agree + 1;
-            }
-            return self;
-        }
-        if verdict == 1 {
-            if self.skipped < u64::MAX {
-                self.skipped = self.skipped + 1;
             }
             return self;
         }
@@ -57,9 +49,7 @@ impl Tally {
         io::print_decimal(STDOUT_FILENO, self.agree);
         io::write_all(STDOUT_FILENO, b" agree, ");
         io::print_decimal(STDOUT_FILENO, self.differ);
-        io::write_all(STDOUT_FILENO, b" differ, ");
-        io::print_decimal(STDOUT_FILENO, self.skipped);
-        io::write_all(STDOUT_FILENO, b" skipped\n");
+        io::write_all(STDOUT_FILENO, b" differ\n");
     }
 }
 

@@ -47,7 +47,7 @@ use Rattle.expressions.proofs.ReachLaws.{heading-of, frame-of}
 use Rattle.report.proofs.ReadyLaws.{somebody}
 use Rattle.report.specs.Line.{Line, lineLength, lineBytes, bareLine}
 use Rattle.report.specs.LineAt.{lineAt}
-use Rattle.report.specs.Operations.{told, verdictOf, check, relationOf, mismatched, headingFault, tooMany, Opened, stopped, incomplete, ready, orStop, unlessFault, counted, bound, opened, Outcome, filled, refusal, written, answerOpened, answer, showOpened, show}
+use Rattle.report.specs.Operations.{told, relationOf, mismatched, headingFault, tooMany, Opened, stopped, incomplete, ready, orStop, unlessFault, counted, bound, opened, Outcome, filled, refusal, written, answerOpened, answer, showOpened, show}
 use Rattle.report.specs.Opening.{RulePersons, HeadingFault}
 use Rattle.report.specs.Operate.{judged, headed, outcome, Operates}
 use Rattle.report.specs.Ready.{readyOutcome, AnswersReady}
@@ -73,14 +73,6 @@ module _ (s : List ℕ) (r : PlanRead) (e : planReadOf r ≡ checkedPlan s) wher
 
   pub plan-sound : r .number ≡ 0 → Sound (planOf (r .plan))
   plan-sound z = accepted s (planOf (r .plan)) (plan-fine z)
-
-  pub check-refused : (r .number ≡ 0 → ⊥) → Refused (r .number) (r .«record») ≡ check s
-  unfolding check
-  check-refused n = ap (λ (v : Verdict Plan). verdictOf v) (sym (plan-refused n))
-
-  pub check-accepted : r .number ≡ 0 → Accepted ≡ check s
-  unfolding check
-  check-accepted z = ap (λ (v : Verdict Plan). verdictOf v) (sym (plan-fine z))
 
   module _ (t : List ℕ) (room : ℕ) where
     -- what follows an accepted plan

@@ -7,6 +7,9 @@ use lib.Dec.{eqb, ltb}
 use Rattle.records.specs.Sets.{subset, size, members}
 use Rattle.records.specs.Fields.{Verdict, fine, refused}
 use Rattle.records.specs.Plan.{Plan, checkedPlan}
+use Rattle.records.specs.Check.{checkedOf}
+use Rattle.records.specs.declared.checked.Checked.{Checked}
+use Rattle.records.specs.declared.checked.Checked.the-variants as checked
 use Rattle.records.specs.Case.{Case, CaseHeading, readCase, caseHeading}
 use Rattle.expressions.specs.Rules.{rulePersons}
 use Rattle.expressions.specs.Bindings.{Bound, bindings, bindable, frameOf}
@@ -40,12 +43,13 @@ told (TooManyWorlds c m) = record { refusal = 11; «record» = 0; count = c; max
 
 -- ---- check a plan
 
-abbrev pub verdictOf : {A : Type 0} → Verdict A → Answer
-verdictOf (fine a) = Accepted
-verdictOf (refused n k) = Refused n k
+-- the answer of a check of records, as one of the operations'
+abbrev pub answerTo : Checked → Answer
+answerTo checked.Accepted = Accepted
+answerTo (checked.Refused n k) = Refused n k
 
 unfoldable pub check : List ℕ → Answer
-check plan = verdictOf (checkedPlan plan)
+check plan = answerTo (checkedOf (checkedPlan plan))
 
 -- ---- the refusals 8 to 12 of a case
 

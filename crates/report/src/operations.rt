@@ -2,7 +2,8 @@
 use crate::Answer;
 use crate::operate::operate;
 use crate::run::Wanted;
-use records::check::decode_plan;
+use records::check::check as checked;
+use records::checked::Checked;
 ghost use mathlib.Core.Path.{_≡_};
 ghost use lib.ListN.{length};
 ghost use Rattle.report.specs.Operations.{check as checkOf, answer as answerOf, show as showOf};
@@ -11,14 +12,14 @@ ghost use Rattle.report.specs.Operations.{check as checkOf, answer as an
 pub fn check(plan: &[u8]) -> Answer
     ensures { λ r. ⌜ r ≡ checkOf (now (plan .entry)) ⌝ }
 {
-    let read = decode_plan(plan);
-    if read.number != 0 {
-        return Answer::Refused {
-            number: read.number,
-            record: read.record,
-        };
+    let found = checked(plan);
+    match found {
+        Checked::Accepted => Answer::Accepted,
+        Checked::Refused { number, record } => Answer::Refused {
+            number: number,
+            record: record,
+        },
     }
-    Answer::Accepted
 }
 
 // ANSWER A CASE, into buffers of any length; what stood in them does not matter.

@@ -1,15 +1,17 @@
+-- `feed_all`: the chunk is read within its length, the buffers keep theirs, and the loop ends.
 use mathlib.Core.Path.{_≡_}
 use Prim.Native.Nat.{_≤_, _-_}
 use lib.ListN.{length}
 use borrow.Author.Needs.{needs}
 use Rattle.replay.proofs.feed_all.Statement.{statement}
 use Rattle.replay.proofs.feed_all.Tie as tie
+use Rattle.replay.proofs.feed.Reads as feed-reads
 
 abbrev Inv-loop : tie.InvT-loop
-Inv-loop chunk plan₀ now₀ i₀ plan now i = (i ≤ length chunk) × (length plan ≡ length plan₀)
+Inv-loop chunk store₀ lines₀ events₀ now₀ i₀ store lines events now i = (i ≤ length chunk) × (length store ≡ length store₀) × (length lines ≡ length lines₀) × (length events ≡ length events₀)
 
 abbrev μ-loop : tie.MeasureT-loop
-μ-loop chunk plan₀ now₀ i₀ plan now i = length chunk - i
+μ-loop chunk store₀ lines₀ events₀ now₀ i₀ store lines events now i = length chunk - i
 
 loop-holds : tie.Need-loop-holds Inv-loop μ-loop
 loop-holds c = search needs
@@ -32,6 +34,12 @@ loop-again c = search needs
 same-length : tie.Need-same-length Inv-loop μ-loop
 same-length c = search needs
 
+same-length-2 : tie.Need-same-length-2 Inv-loop μ-loop
+same-length-2 c = search needs
+
+same-length-3 : tie.Need-same-length-3 Inv-loop μ-loop
+same-length-3 c = search needs
+
 returns : tie.Need-returns Inv-loop μ-loop
 returns c = search needs
 
@@ -48,4 +56,6 @@ feed-all-spec =
     loop-less
     loop-again
     same-length
+    same-length-2
+    same-length-3
     returns)

@@ -1,14 +1,21 @@
+-- `replay`: the buffers keep their lengths, and the turns run out.
 use mathlib.Core.Path.{_≡_}
 use lib.ListN.{length}
 use borrow.Author.Needs.{needs}
 use Rattle.replay.proofs.replay.Statement.{statement}
 use Rattle.replay.proofs.replay.Tie as tie
+use Rattle.io.proofs.large_buffer.Reads as large-buffer-reads
+use Rattle.io.proofs.read_full.Reads as read-full-reads
+use Rattle.replay.proofs.feed_all.Reads as feed-all-reads
+use Rattle.replay.proofs.finish.Reads as finish-reads
+use Rattle.replay.proofs.scan.Scan.new.Reads as scan-Scan-new-reads
+use Rattle.replay.proofs.tally.Tally.new.Reads as tally-Tally-new-reads
 
 abbrev Inv-loop : tie.InvT-loop
-Inv-loop fd plan₀ run₀ turns₀ more₀ plan run turns more = length plan ≡ length plan₀
+Inv-loop fd store₀ lines₀ events₀ run₀ turns₀ more₀ store lines events run turns more = (length store ≡ length store₀) × (length lines ≡ length lines₀) × (length events ≡ length events₀)
 
 abbrev μ-loop : tie.MeasureT-loop
-μ-loop fd plan₀ run₀ turns₀ more₀ plan run turns more = turns
+μ-loop fd store₀ lines₀ events₀ run₀ turns₀ more₀ store lines events run turns more = turns
 
 new-requires : tie.Need-new-requires Inv-loop μ-loop
 new-requires c κs = search needs
@@ -52,6 +59,12 @@ finish-requires c κs = search needs
 same-length : tie.Need-same-length Inv-loop μ-loop
 same-length c = search needs
 
+same-length-2 : tie.Need-same-length-2 Inv-loop μ-loop
+same-length-2 c = search needs
+
+same-length-3 : tie.Need-same-length-3 Inv-loop μ-loop
+same-length-3 c = search needs
+
 returns : tie.Need-returns Inv-loop μ-loop
 returns c = search needs
 
@@ -75,4 +88,6 @@ replay-spec =
     loop-again
     finish-requires
     same-length
+    same-length-2
+    same-length-3
     returns)

@@ -1,3 +1,4 @@
+-- `print_rows`: the table is read within its length, and the loop ends.
 use Prim.Native.Nat.{_≤_, _-_}
 use borrow.Author.Needs.{needs}
 use Rattle.replay.proofs.tally.print_rows.Statement.{statement}

@@ -1,21 +1,26 @@
--- `operations::check`: the refusal of the plan that was read, or none.
-use Rattle.report.proofs.OperateLaws.{check-refused, check-accepted}
+-- `operations::check`: what records' check answers, as an answer of the operations.
+use mathlib.Core.Path.{sym, ap, _∙_}
 use borrow.Author.Needs.{needs}
+use Rattle.report.specs.Operations.{answerTo, check}
 use Rattle.report.proofs.operations.check.Statement.{statement}
 use Rattle.report.proofs.operations.check.Tie as tie
 
-decode-plan-requires : tie.Need-decode-plan-requires
-decode-plan-requires c κs = search needs
+check-requires : tie.Need-check-requires
+check-requires c κs = search needs
+
+enum-told : tie.Need-enum-told
+enum-told c = search needs
+
+enum-known-found : tie.Need-enum-known-found
+enum-known-found c = search needs
 
 returns : tie.Need-returns
-returns c =
-    let d = c .before .before in
-    check-refused (d .before .before .args .plan .now) (d .decode-plan .result) (d .decode-plan .ensures) (c .if1 .taken)
+unfolding check
+returns c = ap answerTo (sym (c .enum-told .given .1) ∙ c .before .before .check .ensures)
 
 returns-2 : tie.Need-returns-2
-returns-2 c =
-    let d = c .before .before in
-    check-accepted (d .before .before .args .plan .now) (d .decode-plan .result) (d .decode-plan .ensures) (c .if1 .left)
+unfolding check
+returns-2 c = ap answerTo (sym (c .before .found .given .1) ∙ c .before .before .before .check .ensures)
 
 pub check-spec : {M : Type 1} → statement M
-check-spec = tie.close (tie.spec decode-plan-requires returns returns-2)
+check-spec = tie.close (tie.spec check-requires enum-told enum-known-found returns returns-2)
