@@ -25,10 +25,11 @@ use Rattle.expressions.proofs.Follow.{On, node-follows}
 use Rattle.worlds.specs.Active.{active, flags}
 use Rattle.worlds.specs.Over.{entry}
 use Rattle.worlds.specs.Tables.{row, Tells}
-use Rattle.worlds.specs.Valued.{NodesStand, OpenNodes, Valued, Revalued}
+use Rattle.worlds.specs.Valued.{NodesStand, OpenNodes, Valued, bitsAt, Chosen, ValuedWords, ReadWorld, Steady}
 use Rattle.worlds.specs.Conditions.{Split, Known, ActiveBy}
 use Rattle.worlds.specs.declared.tables.Active.{Active}
 use Rattle.worlds.proofs.ValueLaws.{any-near}
+use Rattle.worlds.proofs.WordLaws.{on-bits}
 use Rattle.worlds.proofs.CutsSeen.{freezes-follow}
 
 -- ---- the rules of a kind: those that are known, and of those that are asked the ones that hold
@@ -150,7 +151,7 @@ off-on u varying {v} {w} e o = record { at = λ f h. pick f h (has varying f) re
     pick f h true t = absurd (false≢true (sym e ∙ ap not (meeting u varying f h t)))
     pick f h false t = o .at f t
 
--- THE VALUES OF A WORLD, from those of another by way of the open nodes
+-- THE VALUES OF A WORLD, by way of the words of the open nodes
 module _ (P : Plan) (sound : SoundNodes P 0 (P .nodes)) (sorts numbers counts : List ℕ) (children : List (List ℕ)) (m : ℕ)
     (stand : NodesStand (P .nodes) m sorts numbers counts children) (uses : List ℕ) (textual : Holds 0 uses (nodeUses P))
     (varying n : ℕ) (listed : List ℕ) (opens : OpenNodes uses (length (P .nodes)) varying n listed) (room : n ≤ length listed) where
@@ -178,10 +179,35 @@ module _ (P : Plan) (sound : SoundNodes P 0 (P .nodes)) (sorts numbers counts : 
           absurd (h (r .0) (omega (arith, r .1)) (front (r .0) (r .1) ∙ r .2))
       pick false e = e
 
-  pub valued-anew : (facts other : ℕ) (before after : List Bool) → Off varying other facts → Valued P other before
-      → Revalued sorts numbers counts children (take n listed) facts before after → Valued P facts after
-  valued-anew facts other before after off holds again =
-      again .at P m stand sound rising (λ i l h. holds .at i l ∙ node-follows other facts P i (off-on (usesAt P i) varying (closed i l h) off))
+  -- a node that uses no varying fact is not listed
+  unlisted : (i : ℕ) → meets (usesAt P i) varying ≡ false → (j : ℕ) → j < length (take n listed) → entry (take n listed) j ≡ i → ⊥
+  unlisted i e j l z =
+      let k = within j l in
+      let same = sym (front j k) ∙ z in
+      false≢true (sym e ∙ ap (λ (u : ℕ). meets u varying) (sym (textual .at i)) ∙ ap (λ (m : ℕ). meets (entry uses m) varying) (sym same) ∙ opens .sound j k .1)
+
+  -- in every world of the words: where the facts agree but on those that vary
+  pub words-valued : (base facts m : ℕ) (free before after : List ℕ) → Steady P varying base before → ValuedWords sorts numbers counts children (take n listed) free m facts before after
+      → (j chosen : ℕ) → j < 64 → Chosen free m facts j chosen → Off varying base chosen → Valued P chosen (bitsAt j after)
+  words-valued base facts m free before after S made j chosen l C off =
+      made .at j chosen l C .at P _ stand sound rising (λ i b h.
+      on-bits j before i ∙ S .at i j b l (closed i b h) ∙ node-follows base chosen P i (off-on (usesAt P i) varying (closed i b h) off))
+
+  pub words-steady : (base facts m : ℕ) (free before after : List ℕ) → Steady P varying base before → ValuedWords sorts numbers counts children (take n listed) free m facts before after
+      → Steady P varying base after
+  words-steady base facts m free before after S made = record { at = λ i j b l e. ap (λ (w : ℕ). has w j) (made .others i (unlisted i e)) ∙ S .at i j b l e }
+
+  pub read-valued : (facts other j : ℕ) (words : List ℕ) (before after : List Bool) → Off varying other facts → Valued P other before → Valued P facts (bitsAt j words)
+      → ReadWorld words (take n listed) j before after → Valued P facts after
+  read-valued facts other j words before after off holds W R = record { at = λ i l. pick i l (meets (usesAt P i) varying) refl }
+    where
+      pick : (i : ℕ) → i < length (P .nodes) → (b : Bool) → meets (usesAt P i) varying ≡ b → on after i ≡ on (values P facts) i
+      pick i l true e =
+          let r = opens .complete i l (ap (λ (u : ℕ). meets u varying) (textual .at i) ∙ e) in
+          let k = length-take-le n listed room in
+          let is = front (r .0) (r .1) ∙ r .2 in
+          ap (on after) (sym is) ∙ R .here (r .0) (omega (arith, r .1)) ∙ ap (λ (m : ℕ). has (entry words m) j) is ∙ sym (on-bits j words i) ∙ W .at i l
+      pick i l false e = R .others i (unlisted i e) ∙ holds .at i l ∙ node-follows other facts P i (off-on (usesAt P i) varying e off)
 
 -- ---- what is known of the rules of all worlds
 

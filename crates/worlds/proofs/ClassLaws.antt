@@ -226,7 +226,7 @@ alone-next m r t v table h l e p = pick (eqb t p) refl
         ap (cond (has r p) (one p)) (ap (entry (set table t v)) (sym s) ∙ getD-set-same table t v 0 l ∙ e ∙ ap one s) ∙ either (has r p) (one p) ∙ sym (by true k)
     pick false k = ap (cond (has r p) (one p)) (getD-set-other table t p v 0 (λ z. eqb-false t p k (sym z))) ∙ sym (by false k)
 
-everyone : (p : ℕ) → p < 64 → has (2 ^ 64 - 1) p ≡ true
+pub everyone : (p : ℕ) → p < 64 → has (2 ^ 64 - 1) p ≡ true
 everyone p l = has-not 64 0 p (omega arith) l ∙ ap not (has-none p)
 
 -- all 64 persons alone: classes by no sets

@@ -1,6 +1,7 @@
 pub mod OverLaws
 pub mod ClassLaws
 pub mod ValueLaws
+pub mod WordLaws
 pub mod ActiveLaws
 pub mod MarkLaws
 pub mod CutsSeen

@@ -12,4 +12,5 @@ pub mod relate;
 pub mod settle;
 pub mod tables;
 pub mod values;
+pub mod words;
 pub mod world;
