@@ -5,6 +5,7 @@ pub mod cases;
 pub mod expected;
 pub mod smallest;
 
+use judge::sides::Side;
 use model::Outcome;
 
 /// Refusal, record, count, maximum, lines, events, worlds.
@@ -147,6 +148,30 @@ pub fn show(plan: &[u8], case: &[u8], world: u64, lines: &mut [u8], events: &mut
     })
 }
 
+/// The proved code, as one of those that judge compares.
+pub struct Port;
+
+impl Side for Port {
+    fn check(&self, plan: &[u8]) -> Outcome {
+        check(plan)
+    }
+
+    fn answer(&self, plan: &[u8], case: &[u8], lines: &mut [u8], events: &mut [u8]) -> Outcome {
+        answer(plan, case, lines, events)
+    }
+
+    fn show(
+        &self,
+        plan: &[u8],
+        case: &[u8],
+        world: u64,
+        lines: &mut [u8],
+        events: &mut [u8],
+    ) -> Outcome {
+        show(plan, case, world, lines, events)
+    }
+}
+
 /// The code of a fact's binding: 0 none, 1 and 2 known, 3 unknown, 4, 5 and 6 a conflict of false, of true, of both.
 pub fn binding(plan: &[u8], case: &[u8], fact: usize) -> u8 {
     // Two slices and a number, of which the Rattle function keeps nothing.
@@ -201,15 +226,4 @@ pub fn bindable(plan: &[u8], case: &[u8]) -> (u8, u64) {
         )
     };
     (number, record)
-}
-
-/// The two numbers that a program is called with: how many inputs, and the seed.
-pub fn count_and_seed(usage: &str) -> (u64, u64) {
-    let mut numbers = std::env::args()
-        .skip(1)
-        .map(|text| text.parse().expect("a number"));
-    match (numbers.next(), numbers.next()) {
-        (Some(count), Some(seed)) => (count, seed),
-        _ => panic!("{usage}"),
-    }
 }

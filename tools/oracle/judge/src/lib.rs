@@ -1,4 +1,4 @@
-//! The Rust and the model on the same bytes, side by side.
+//! The Rust, the model and who else is held to it, on the same bytes.
 
 pub mod compare;
 pub mod differences;
@@ -6,3 +6,4 @@ pub mod listing;
 pub mod rust;
 pub mod sides;
 pub mod translate;
+pub mod trial;

@@ -4,6 +4,7 @@
 
 use inputs::random::Random;
 use inputs::vectors::to_hex;
+use judge::trial::count_and_seed;
 use port::alike::{Asked, Difference, Tally};
 use port::cases::{self, Sample};
 use port::smallest::smallest;
@@ -42,7 +43,7 @@ fn report(sample: Sample, first: Difference) {
 }
 
 fn main() {
-    let (count, seed) = port::count_and_seed("answered N SEED");
+    let (count, seed) = count_and_seed("answered");
     let mut tally = Tally::default();
     for number in 0..count {
         let random = &mut Random::stream(seed, number);

@@ -3,6 +3,7 @@
 
 use inputs::random::Random;
 use inputs::vectors::to_hex;
+use judge::trial::count_and_seed;
 use model::expressions::{Binding, Bound, Slot};
 use model::records::Plan;
 use port::cases::{self, Sample};
@@ -157,7 +158,7 @@ fn differ(plan: &[u8], case: &[u8]) -> bool {
 }
 
 fn main() {
-    let (count, seed) = port::count_and_seed("bound N SEED");
+    let (count, seed) = count_and_seed("bound");
     let mut tally = Tally::default();
     let ladders = cases::ladders().into_iter().map(Sample::of);
     let randoms = (0..count).map(|number| cases::random(&mut Random::stream(seed, number)));
