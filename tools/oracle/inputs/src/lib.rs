@@ -6,6 +6,8 @@ pub mod calls;
 pub mod generate;
 pub mod mutate;
 pub mod random;
+pub mod samples;
 pub mod shrink;
+pub mod smallest;
 pub mod vectors;
 pub mod wire;

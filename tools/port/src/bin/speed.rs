@@ -1,4 +1,4 @@
-//! speed: time of a check, of binding a case and of answering one, by the proved code and by the model, in one run.
+//! speed: time of a check and of answering a case, by the proved code and by the model, in one run.
 
 use std::hint::black_box;
 use std::time::Instant;
@@ -6,7 +6,7 @@ use std::time::Instant;
 use inputs::build;
 use inputs::generate::{self, DENSE, LARGE, Size};
 use inputs::random::Random;
-use inputs::wire::{Attachment, Bar, Case, Cut, Edge, Election, Node, OVERRIDES, Plan, Status};
+use inputs::wire::{Attachment, Bar, Cut, Edge, Election, Node, OVERRIDES, Plan, Status};
 use model::Outcome;
 use model::report::{EVENT, LINE};
 use port::alike::Asked;
@@ -85,43 +85,6 @@ fn largest() -> Plan {
     }
 }
 
-/// 64 boolean facts, each with sixteen observations and an edge, 256 nodes; everything is open.
-fn widest() -> (Vec<u8>, Vec<u8>) {
-    let mut nodes: Vec<Node> = (0..64).map(Node::Fact).collect();
-    nodes.extend((64..=255).map(|_| Node::Or((0..16).collect())));
-    let edges = (0..64).map(|left| build::base(left, (left + 1) % 64, left));
-    let plan = Plan {
-        facts: vec![None; 64],
-        nodes,
-        edges: edges.collect(),
-        ..Plan::default()
-    };
-    let observations: Vec<(u8, u8)> = (0..16).map(|evidence| (evidence % 2, evidence)).collect();
-    let booleans = (0..64).map(|fact| build::observe(fact, &observations));
-    let case = Case {
-        booleans: booleans.collect(),
-        ..build::case(u64::MAX)
-    };
-    (plan.encode(), case.encode())
-}
-
-fn bind_row() {
-    let (plan, case) = widest();
-    let proved = time(|| {
-        black_box(port::influence(black_box(&plan), black_box(&case), 0));
-    });
-    let model = time(|| {
-        let read = model::records::Plan::read(black_box(&plan)).expect("a plan");
-        let said = model::records::Case::read(black_box(&case), &read).expect("a case");
-        black_box(model::expressions::Bound::of(&read, &said));
-    });
-    println!(
-        "read and bind a case of 64 facts over 256 nodes, {} and {} bytes: proved {proved:.1} µs, model {model:.1} µs",
-        plan.len(),
-        case.len()
-    );
-}
-
 /// Plan, case and what the model answers.
 type Known = (Vec<u8>, Vec<u8>, Outcome);
 
@@ -163,7 +126,6 @@ fn answer_row(name: &str, size: Size) {
 }
 
 fn main() {
-    bind_row();
     let typical = (0..40).map(|number| {
         generate::input(&mut Random::stream(31, number), DENSE)
             .plan
