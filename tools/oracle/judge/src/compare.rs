@@ -59,12 +59,15 @@ impl Covered {
 #[derive(Clone, Debug)]
 pub struct Difference {
     pub what: String,
+    /// The Rust has no answer, so that nothing was compared.
+    pub unanswered: bool,
     pub rust: String,
     pub other: String,
 }
 
 fn difference(what: &str, rust: impl std::fmt::Debug, other: impl std::fmt::Debug) -> Difference {
-    Difference { what: what.to_string(), rust: format!("{rust:?}"), other: format!("{other:?}") }
+    let (rust, other) = (format!("{rust:?}"), format!("{other:?}"));
+    Difference { what: what.to_string(), unanswered: false, rust, other }
 }
 
 /// Refusals that the Rust, too, gives a case.
@@ -272,7 +275,7 @@ fn compare_with(
 ) -> Result<Verdict, Difference> {
     let none = |error| {
         let others: Vec<(&str, Expected)> = sides.all(Op::Answer, 0).collect();
-        difference("the Rust has no answer", error, others)
+        Difference { unanswered: true, ..difference("the Rust has no answer", error, others) }
     };
     let oracle = oracle.map_err(none)?;
     match oracle.answer() {

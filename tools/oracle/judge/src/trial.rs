@@ -56,8 +56,10 @@ fn differs(voices: &[Voice], input: &Input) -> Option<Difference> {
     compare_voices(voices, &plan, &case, &mut Covered::default()).err()
 }
 
-fn report(voices: &[Voice], input: Input) {
-    let smallest = shrink(input, |next| differs(voices, next).is_some());
+/// The smallest input found that differs, or has no answer, as this one.
+fn report(voices: &[Voice], input: Input, first: Difference) {
+    let like = |found: Difference| found.unanswered == first.unanswered;
+    let smallest = shrink(input, |next| differs(voices, next).is_some_and(like));
     let (plan, case) = (smallest.plan.encode(), smallest.case.encode());
     println!("{:#?}", differs(voices, &smallest));
     println!("plan {}\ncase {}", to_hex(&plan), to_hex(&case));
@@ -86,10 +88,10 @@ pub fn run(voices: &[Voice], count: u64, seed: u64) -> ! {
         let (plan, case) = bytes(&input);
         match compare_voices(voices, &plan, &case, &mut tally.covered) {
             Ok(verdict) => tally.take(verdict),
-            Err(_) => {
+            Err(first) => {
                 tally.differ += 1;
                 if tally.differ == 1 {
-                    report(voices, input);
+                    report(voices, input, first);
                 }
             }
         }
