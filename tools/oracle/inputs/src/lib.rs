@@ -3,6 +3,7 @@
 
 pub mod build;
 pub mod calls;
+pub mod classes;
 pub mod generate;
 pub mod mutate;
 pub mod random;
@@ -10,4 +11,5 @@ pub mod samples;
 pub mod shrink;
 pub mod smallest;
 pub mod vectors;
+pub mod village;
 pub mod wire;

@@ -3,6 +3,7 @@
 pub mod compare;
 pub mod differences;
 pub mod listing;
+pub mod measured;
 pub mod rust;
 pub mod sides;
 pub mod translate;
