@@ -1,7 +1,10 @@
 //! A plan that the check accepts.
 
-use crate::handles::{BooleanId, FactId, NodeId, PlanId, RelationId};
-use crate::records::{Fact, Records};
+use crate::handles::{BooleanId, CutId, EdgeId, FactId, NodeId, PlanId, RelationId};
+use crate::operations::check;
+use crate::plan_reader;
+use crate::records::{Decision, Fact, Records};
+use crate::refusal::{Reason, Refusal};
 use crate::write::{fact_numbers, plan_bytes};
 
 /// A finished plan: its bytes, what its records say, and which number each fact has got in the file.
@@ -19,6 +22,17 @@ impl Plan {
         let numbers = fact_numbers(&records.facts);
         let bytes = plan_bytes(&records, &numbers);
         Plan { id, records, numbers, bytes }
+    }
+
+    /// Checks a plan's bytes and reads them; they stay as they are.
+    pub fn read(bytes: &[u8]) -> Result<Plan, Refusal> {
+        check(bytes)?;
+        let id = PlanId::next();
+        // It never comes: an accepted plan can be read.
+        let unreadable = Refusal { reason: Reason::Other(0), place: None };
+        let records = plan_reader::read(id, bytes).ok_or(unreadable)?;
+        let numbers = fact_numbers(&records.facts);
+        Ok(Plan { id, records, numbers, bytes: bytes.to_vec() })
     }
 
     /// What plan.bin holds.
@@ -60,6 +74,19 @@ impl Plan {
     pub fn node(&self, number: u8) -> Option<NodeId> {
         let here = usize::from(number) < self.records.nodes.len();
         here.then_some(NodeId { plan: self.id, number })
+    }
+
+    /// The unresolved decisions in the order of a line's open decisions: by cut, then edge.
+    pub fn decisions(&self) -> Vec<(CutId, EdgeId)> {
+        let cuts = self.records.cuts.iter().zip(0..);
+        let all = cuts.flat_map(|(cut, number)| {
+            let cut_id = CutId { plan: self.id, number };
+            let open = cut.decisions.iter().filter(|(_, said)| *said == Decision::Unresolved);
+            open.map(move |&(edge, _)| (cut_id, edge))
+        });
+        let mut all: Vec<(CutId, EdgeId)> = all.collect();
+        all.sort_by_key(|(cut, edge)| (cut.number, edge.number));
+        all
     }
 
     pub(crate) fn has_node(&self, node: NodeId) -> bool {
