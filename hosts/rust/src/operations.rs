@@ -118,6 +118,7 @@ pub struct Answer {
 }
 
 impl Answer {
+    /// What is said of a person; none for one off the roster.
     pub fn line(&self, person: u8) -> Option<&Line> {
         self.lines.iter().find(|line| line.person == person)
     }
