@@ -1,0 +1,70 @@
+//! The files that the examples and pictures are, each with its path from the root of the repository.
+
+use std::fmt::Write;
+
+use crate::example::{Example, Word, Words};
+use crate::printed::printed;
+use crate::{all, roster_picture, tree_picture};
+
+type File = (String, Vec<u8>);
+
+pub fn files() -> Result<Vec<File>, String> {
+    let examples = all().map_err(|error| error.to_string())?;
+    let mut files: Vec<File> = examples.iter().flat_map(folder).collect();
+    let kitchen = examples.iter().find(|example| example.folder == "kitchen");
+    let kitchen = kitchen.ok_or("there is no kitchen")?;
+    let pictures =
+        [("roster", roster_picture::draw(kitchen)?), ("tree", tree_picture::draw(kitchen)?)];
+    for (name, picture) in pictures {
+        files.push((format!("docs/pictures/{name}.svg"), picture.into_bytes()));
+    }
+    Ok(files)
+}
+
+fn folder(example: &Example) -> [File; 5] {
+    let (plan, case) = (example.plan.bytes(), example.case.bytes());
+    let printed = printed(&lukhveri::answer(plan, case));
+    let at = |name: &str| format!("examples/{}/{name}", example.folder);
+    [
+        (at("plan.bin"), plan.to_vec()),
+        (at("case.bin"), case.to_vec()),
+        (at("README.md"), readme(example, &printed).into_bytes()),
+        (at("names.txt"), names(&example.words).into_bytes()),
+        (at("printed.txt"), printed.into_bytes()),
+    ]
+}
+
+/// What each number stands for.
+fn names(words: &Words) -> String {
+    let mut text = String::new();
+    for (what, list) in words.by_kind() {
+        for (number, word) in list {
+            let _ = writeln!(text, "{what} {number} {word}");
+        }
+    }
+    text
+}
+
+impl Words {
+    fn by_kind(&self) -> [(&'static str, &'static [Word]); 5] {
+        [
+            ("person", self.persons),
+            ("fact", self.facts),
+            ("citation", self.citations),
+            ("evidence", self.evidence),
+            ("actor", self.actors),
+        ]
+    }
+}
+
+fn readme(example: &Example, printed: &str) -> String {
+    let Example { title, story, outcome, words, .. } = example;
+    let mut text = format!("# {title}\n\n{story}\n\n{outcome}\n");
+    let _ = write!(text, "\n```\n{printed}```\n\n| number | stands for |\n|---|---|\n");
+    for (what, list) in words.by_kind() {
+        for (number, word) in list {
+            let _ = writeln!(text, "| {what} {number} | {word} |");
+        }
+    }
+    text
+}
