@@ -27,3 +27,8 @@ pub fn all() -> Result<Vec<Example>, BuildError> {
         allotments::example()?,
     ])
 }
+
+/// The Rust of the guide is compiled and run.
+#[cfg(doctest)]
+#[doc = include_str!("../../../docs/GUIDE.md")]
+pub struct Guide;
