@@ -49,7 +49,7 @@
 //! ```
 //!
 //! [`answer_into`] and [`show_into`] work in buffers that the caller lends and allocate nothing; [`Buffers`] keeps such buffers for many calls.
-//! Calls from several threads are independent.
+//! Calls from several threads are independent. A call takes up to 672 KB of its thread's stack ([`stack_length`]).
 
 mod build_error;
 mod case;
@@ -77,7 +77,7 @@ pub use handles::{BooleanId, CutId, EdgeId, FactId, NodeId, RelationId};
 pub use line::{LINE, Line, LineKind, Role};
 pub use operations::{
     Answer, Answered, Buffers, EVENTS_LENGTH, LINES_LENGTH, MOST_EVENTS_LENGTH, answer,
-    answer_into, check, show, show_into,
+    answer_into, check, show, show_into, stack_length,
 };
 pub use persons::{Numbers, Persons};
 pub use plan::Plan;

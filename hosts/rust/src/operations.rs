@@ -17,6 +17,12 @@ pub const EVENTS_LENGTH: usize = 4096 * EVENT;
 /// in a world, since a component that is left to discretion has three persons or more, and there are at most 4,096 worlds.
 pub const MOST_EVENTS_LENGTH: usize = (1368 + 21 * 4096) * EVENT;
 
+/// Bytes of stack that a call takes when so many bytes are lent for events: 160 KB, and 128 bytes for each event. A call on the caller's
+/// thread with [`EVENTS_LENGTH`] takes 672 KB at most.
+pub const fn stack_length(events_length: usize) -> usize {
+    160 * 1024 + events_length / EVENT * 128
+}
+
 /// Checks a plan.
 pub fn check(plan: &[u8]) -> Result<(), Refusal> {
     Refusal::told(&foreign::check(plan), plan, None).map_or(Ok(()), Err)
@@ -158,8 +164,8 @@ impl Buffers {
         answered(&told, plan, case, &self.lines, &self.events)
     }
 
-    /// Lends room for 4,096 events; if that is too short, for all that there can be.
-    fn ask(&mut self, call: impl Fn(&mut [u8], &mut [u8]) -> Told) -> Told {
+    /// Lends room for 4,096 events; if that is too short, for all that there can be, on a thread with stack for them.
+    fn ask(&mut self, call: impl Fn(&mut [u8], &mut [u8]) -> Told + Sync) -> Told {
         let length = EVENTS_LENGTH.min(self.events.len());
         let (first, _) = self.events.split_at_mut(length);
         let told = call(&mut self.lines, first);
@@ -167,16 +173,26 @@ impl Buffers {
             return told;
         }
         self.events.resize(MOST_EVENTS_LENGTH, 0);
-        call(&mut self.lines, &mut self.events)
+        let (lines, events) = (&mut self.lines, &mut self.events);
+        on_large_stack(|| call(lines, events)).unwrap_or(told)
     }
 }
 
-/// Answers a case. No refusal 12 or 13: there is always room.
+/// None where no such thread can be had: the first refusal, 13, then stands.
+fn on_large_stack(call: impl FnOnce() -> Told + Send) -> Option<Told> {
+    let size = stack_length(MOST_EVENTS_LENGTH);
+    std::thread::scope(|scope| {
+        let thread = std::thread::Builder::new().stack_size(size).spawn_scoped(scope, call);
+        thread.ok()?.join().ok()
+    })
+}
+
+/// Answers a case. There is always room: no refusal 12, and 13 only where a thread with a large stack was needed and could not be had.
 pub fn answer(plan: &[u8], case: &[u8]) -> Result<Answer, Refusal> {
     Buffers::new().answer(plan, case).map(|answered| answered.to_answer())
 }
 
-/// Shows the world of that number, counted from 0 among the admissible ones. There is always room.
+/// Shows the world of that number, counted from 0 among the admissible ones. There is room as for an answer.
 pub fn show(plan: &[u8], case: &[u8], world: u64) -> Result<Answer, Refusal> {
     Buffers::new().show(plan, case, world).map(|answered| answered.to_answer())
 }
