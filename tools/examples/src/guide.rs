@@ -2,6 +2,7 @@
 
 use lukhveri::{Answer, Event, Line, Refusal};
 
+use crate::example::Example;
 use crate::printed::printed;
 
 /// A fenced block: its mark, its text, and the row of the guide at which it starts.
@@ -35,14 +36,15 @@ impl Told {
     fn take(&mut self, block: &Block) -> Result<bool, String> {
         let answer = |told: &Told| lukhveri::answer(&told.plan, &told.case);
         let said = match block.mark.split_once(' ').unwrap_or((block.mark, "")) {
-            ("plan", _) => {
+            ("plan", name) => {
                 self.plan = block.bytes()?;
-                return Ok(false);
+                return same(&self.plan, name, |example| example.plan.bytes());
             }
-            ("case", _) => {
+            ("case", name) => {
                 self.case = block.bytes()?;
-                return Ok(false);
+                return same(&self.case, name, |example| example.case.bytes());
             }
+            ("example", whose) => line_of(whose)? == block.bytes()?,
             ("lines", _) => lines(answer(self)) == Ok(block.bytes()?),
             ("events", _) => events(answer(self)) == Ok(block.bytes()?),
             ("world", number) => {
@@ -55,6 +57,31 @@ impl Told {
         };
         if said { Ok(true) } else { Err(format!("{} differ: {:?}", block.mark, answer(self))) }
     }
+}
+
+/// Whether it was held to the example of that name; without a name there is nothing to hold it to.
+fn same(bytes: &[u8], name: &str, of: impl Fn(&Example) -> &[u8]) -> Result<bool, String> {
+    if name.is_empty() {
+        return Ok(false);
+    }
+    let same = of(&example(name)?) == bytes;
+    if same { Ok(true) } else { Err(format!("not the bytes of examples/{name}")) }
+}
+
+fn example(name: &str) -> Result<Example, String> {
+    let all = crate::all().map_err(|error| error.to_string())?;
+    let found = all.into_iter().find(|example| example.folder == name);
+    found.ok_or_else(|| format!("there is no example {name:?}"))
+}
+
+/// The line of a person, who is named by example and number.
+fn line_of(whose: &str) -> Result<Vec<u8>, String> {
+    let (name, person) = whose.split_once(' ').ok_or("an example and a person")?;
+    let person = person.parse().map_err(|_| "no number of a person")?;
+    let example = example(name)?;
+    let answer = lukhveri::answer(example.plan.bytes(), example.case.bytes());
+    let answer = answer.map_err(|refusal| refusal.to_string())?;
+    Ok(answer.line(person).ok_or("nobody of the roster")?.bytes())
 }
 
 fn lines(answer: Result<Answer, Refusal>) -> Result<Vec<u8>, Refusal> {
