@@ -2,7 +2,7 @@
 
 use lukhveri::{
     Buffers, CaseBuilder, Cut, Decision, Edge, Event, Family, Line, Persons, Plan, PlanBuilder,
-    Refusal, answer_into, check, show_into,
+    Reason, Refusal, answer_into, check, show_into,
 };
 
 /// A small source of numbers.
@@ -62,8 +62,11 @@ fn good() -> (Vec<u8>, Vec<u8>) {
 }
 
 /// Everything that can be said of a refusal.
-fn say(refusal: &Refusal) {
+fn say(refusal: &Refusal, plan: &[u8], case: &[u8]) {
     assert!((1..=14).contains(&refusal.number()));
+    let exact = [Reason::Malformed, Reason::NamesNothing, Reason::Undecided, Reason::Heading];
+    let finding = refusal.finding(plan, case);
+    assert!(finding.is_some() || !exact.contains(&refusal.reason), "{refusal} {plan:?} {case:?}");
     assert!(!format!("{refusal} {} {}", refusal.remedy(), refusal.record()).is_empty());
 }
 
@@ -75,17 +78,17 @@ fn all_calls(plan: &[u8], case: &[u8], random: &mut Random, buffers: &mut Buffer
         assert!(read.decisions().len() <= 16);
         assert!((0..=255).filter_map(|number| read.fact(number)).count() <= 64);
     }
-    checked.err().iter().for_each(say);
+    checked.err().iter().for_each(|refusal| say(refusal, plan, case));
     buffers
         .answer(plan, case)
         .map(|answered| drop(answered.to_answer()))
-        .unwrap_or_else(|no| say(&no));
+        .unwrap_or_else(|no| say(&no, plan, case));
     let (mut lines, mut events) = (random.bytes(200), random.bytes(200));
     if let Err(refusal) = answer_into(plan, case, &mut lines, &mut events) {
-        say(&refusal);
+        say(&refusal, plan, case);
     }
     if let Err(refusal) = show_into(plan, case, random.next() % 3, &mut lines, &mut events) {
-        say(&refusal);
+        say(&refusal, plan, case);
     }
 }
 
