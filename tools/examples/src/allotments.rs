@@ -71,9 +71,21 @@ pub fn example() -> Result<Example, BuildError> {
             ],
             facts: &[(0, "Irma has left the association"), (1, "Paata stays in the association")],
             citations: &[
-                (GARDEN, "Those who keep a garden together are counted together."),
-                (PLOT, "Those who have taken a plot of their own are counted apart."),
-                (LEFT, "Whoever has left is excluded from relief until the end of the season."),
+                (
+                    GARDEN,
+                    "§1 common gardens",
+                    "Those who keep a garden together are counted together.",
+                ),
+                (
+                    PLOT,
+                    "§2 own plots",
+                    "Those who have taken a plot of their own are counted apart.",
+                ),
+                (
+                    LEFT,
+                    "§3 those who left",
+                    "Whoever has left is excluded from relief until the end of the season.",
+                ),
             ],
             evidence: &[
                 (LIST, "the association's list, signed as complete"),
@@ -82,6 +94,7 @@ pub fn example() -> Result<Example, BuildError> {
                 (FIRST_COPY, "Paata's form"),
                 (SECOND_COPY, "Paata's second form"),
             ],
+            rules: &[],
             actors: &[],
         },
     })

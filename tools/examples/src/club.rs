@@ -81,16 +81,22 @@ pub fn example() -> Result<Example, BuildError> {
                 (2, "Guram is paid by the club this season"),
             ],
             citations: &[
-                (SPOUSES, "Spouses are counted together."),
-                (CHILD, "A child is counted with the parent."),
-                (GUEST, "A guest student is counted with the host family."),
-                (HOST_SIGNS, "The host signs the agreement; without it nothing is known."),
+                (SPOUSES, "§1 spouses", "Spouses are counted together."),
+                (CHILD, "§2 child and parent", "A child is counted with the parent."),
+                (GUEST, "§3 guest students", "A guest student is counted with the host family."),
+                (
+                    HOST_SIGNS,
+                    "§4 host agreements",
+                    "The host signs the agreement; without it nothing is known.",
+                ),
                 (
                     VISITOR,
+                    "§5 visitors",
                     "A visitor without an address in town gets no relief, unless placed with a host.",
                 ),
                 (
                     STAFF,
+                    "§6 staff",
                     "Whoever is paid by the club is counted in the unit, but is excluded from relief.",
                 ),
             ],
@@ -100,6 +106,7 @@ pub fn example() -> Result<Example, BuildError> {
                 (PAYROLL, "the payroll of this season"),
                 (OTARS_FORM, "Otar's form: contract not settled"),
             ],
+            rules: &[],
             actors: &[(HOST, "the host")],
         },
     })

@@ -22,7 +22,10 @@ pub struct Example {
 pub struct Words {
     pub persons: &'static [Word],
     pub facts: &'static [Word],
-    pub citations: &'static [Word],
+    /// The paragraphs of the rule book: number, name, sentence.
+    pub citations: &'static [(u8, &'static str, &'static str)],
+    /// Rules and decisions with a name of their own: sort, number, name.
+    pub rules: &'static [(&'static str, u8, &'static str)],
     pub evidence: &'static [Word],
     pub actors: &'static [Word],
 }

@@ -34,37 +34,46 @@ fn folder(example: &Example) -> [File; 5] {
     ]
 }
 
-/// What each number stands for.
+/// What explain calls each number. Papers have no name there, so they are remarks.
 fn names(words: &Words) -> String {
     let mut text = String::new();
-    for (what, list) in words.by_kind() {
+    let mut name = |sort: &str, number: u8, name: &str| {
+        let _ = writeln!(text, "{sort} {number} {name}");
+    };
+    words.persons.iter().for_each(|(number, word)| name("person", *number, word));
+    words.facts.iter().for_each(|(number, word)| name("fact", *number, word));
+    words.citations.iter().for_each(|(number, word, _)| name("citation", *number, word));
+    words.rules.iter().for_each(|(sort, number, word)| name(sort, *number, word));
+    words.actors.iter().for_each(|(number, word)| name("actor", *number, word));
+    words.evidence.iter().for_each(|(number, word)| name("# evidence", *number, word));
+    text
+}
+
+fn readme(example: &Example, printed: &str) -> String {
+    let Example { folder, title, story, outcome, words, .. } = example;
+    let mut text = format!("# {title}\n\n{story}\n\n{outcome}\n\n```\n{printed}```\n\n");
+    let _ =
+        write!(text, "In sentences: `explain examples/{folder}` (docs/GUIDE.md, section 12).\n\n");
+    text.push_str("The rule book:\n\n");
+    for (number, name, sentence) in words.citations {
+        let _ = writeln!(text, "- citation {number}, {name}: {sentence}");
+    }
+    text.push_str("\n| number | stands for |\n|---|---|\n");
+    for (sort, list) in words.by_sort() {
         for (number, word) in list {
-            let _ = writeln!(text, "{what} {number} {word}");
+            let _ = writeln!(text, "| {sort} {number} | {word} |");
         }
     }
     text
 }
 
 impl Words {
-    fn by_kind(&self) -> [(&'static str, &'static [Word]); 5] {
+    fn by_sort(&self) -> [(&'static str, &'static [Word]); 4] {
         [
             ("person", self.persons),
             ("fact", self.facts),
-            ("citation", self.citations),
             ("evidence", self.evidence),
             ("actor", self.actors),
         ]
     }
-}
-
-fn readme(example: &Example, printed: &str) -> String {
-    let Example { title, story, outcome, words, .. } = example;
-    let mut text = format!("# {title}\n\n{story}\n\n{outcome}\n");
-    let _ = write!(text, "\n```\n{printed}```\n\n| number | stands for |\n|---|---|\n");
-    for (what, list) in words.by_kind() {
-        for (number, word) in list {
-            let _ = writeln!(text, "| {what} {number} | {word} |");
-        }
-    }
-    text
 }

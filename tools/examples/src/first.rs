@@ -28,8 +28,9 @@ pub fn example() -> Result<Example, BuildError> {
         words: Words {
             persons: &[(0, "Ana"), (1, "Beka"), (2, "Gio")],
             facts: &[],
-            citations: &[(SPOUSES, "Spouses are counted together.")],
+            citations: &[(SPOUSES, "§1 spouses", "Spouses are counted together.")],
             evidence: &[(LIST, "the office's list, signed as complete")],
+            rules: &[],
             actors: &[],
         },
     })

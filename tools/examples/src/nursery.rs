@@ -66,12 +66,21 @@ pub fn example() -> Result<Example, BuildError> {
             ],
             facts: &[(0, "Levan lives with Nino and Salome"), (1, "Maka and Tamar share a flat")],
             citations: &[
-                (CHILD, "A child is counted with the parent who has custody."),
+                (
+                    CHILD,
+                    "§1 child and parent",
+                    "A child is counted with the parent who has custody.",
+                ),
                 (
                     PARENTS,
+                    "§2 parents at one address",
                     "A parent who lives at the child's address is counted with child and other parent.",
                 ),
-                (FLAT, "Adults who share a flat and its costs are counted together."),
+                (
+                    FLAT,
+                    "§3 shared flats",
+                    "Adults who share a flat and its costs are counted together.",
+                ),
             ],
             evidence: &[
                 (LIST, "the nursery's list, signed as complete"),
@@ -79,6 +88,7 @@ pub fn example() -> Result<Example, BuildError> {
                 (FORM, "Levan's form: not known yet"),
                 (LETTER, "Levan's letter"),
             ],
+            rules: &[],
             actors: &[],
         },
     })
