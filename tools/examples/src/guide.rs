@@ -115,7 +115,7 @@ fn byte(word: &str) -> Result<u8, String> {
     byte.ok_or_else(|| format!("{word:?} is no byte"))
 }
 
-/// Blocks with a mark; those without one, or with a language, are no bytes.
+/// Blocks with a mark; those without one, with a language or of `explain` are no bytes.
 fn blocks(guide: &str) -> Vec<Block<'_>> {
     let mut found: Vec<Block> = Vec::new();
     let mut inside = false;
@@ -130,6 +130,7 @@ fn blocks(guide: &str) -> Vec<Block<'_>> {
             (None, false) => {}
         }
     }
-    found.retain(|block| !matches!(block.mark, "" | "c" | "rust" | "sh"));
+    let is_bytes = |mark: &str| !matches!(mark, "" | "c" | "rust" | "sh" | "explain");
+    found.retain(|block| block.mark.split(' ').next().is_some_and(is_bytes));
     found
 }

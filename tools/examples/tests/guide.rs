@@ -24,11 +24,25 @@ fn a_wrong_byte_is_found() {
     assert!(examples::guide::agrees(guide).is_err());
 }
 
+/// The text of the first block with this mark.
+fn block(mark: &str) -> String {
+    let guide = guide();
+    let (_, rest) = guide.split_once(&format!("```{mark}\n")).expect(mark);
+    rest.split_once("```").expect("its end").0.to_string()
+}
+
+#[test]
+fn explain_says_so() {
+    let mut explain = Command::new(env!("CARGO"));
+    explain.args(["run", "--quiet", "--release", "--bin", "explain", "--manifest-path"]);
+    explain.arg(root().join("hosts/rust/Cargo.toml")).arg(root().join("examples/kitchen"));
+    let said = explain.output().expect("explain").stdout;
+    assert!(String::from_utf8_lossy(&said).contains(&block("explain kitchen")));
+}
+
 #[test]
 fn the_c_program_runs() {
-    let guide = guide();
-    let (_, rest) = guide.split_once("```c\n").expect("a C program");
-    let (program, _) = rest.split_once("```").expect("its end");
+    let program = block("c");
     let folder = Path::new(env!("CARGO_TARGET_TMPDIR"));
     let (source, built) = (folder.join("guide.c"), folder.join("guide"));
     fs::write(&source, program).expect("a file");
