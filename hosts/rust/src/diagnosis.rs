@@ -92,8 +92,9 @@ fn missing(place: Place, record: &Record) -> Option<String> {
     if place.file == File::Plan && record.kind == 2 {
         return Some("a fact has family and tuple, or neither".to_string());
     }
-    let bit = required(place.file, record.kind).iter().find(|bit| !record.has(**bit))?;
-    Some(format!("the field of bit {bit} is missing"))
+    let bit = *required(place.file, record.kind).iter().find(|bit| !record.has(**bit))?;
+    let name = ranges::field_name(place.file, record.kind, bit)?;
+    Some(format!("its {name} (bit {bit}) is missing"))
 }
 
 /// How many records of a kind a file has.

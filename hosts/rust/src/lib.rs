@@ -51,12 +51,19 @@
 //! [`answer_into`] and [`show_into`] work in buffers that the caller lends and allocate nothing; [`Buffers`] keeps such buffers for many calls.
 //! Calls from several threads are independent. A call takes up to 672 KB of its thread's stack ([`stack_length`]).
 
+#![deny(unsafe_code)]
+#![cfg_attr(
+    not(test),
+    deny(clippy::unwrap_used, clippy::expect_used, clippy::panic, clippy::indexing_slicing)
+)]
+
 mod build_error;
 mod case;
 mod case_builder;
 mod case_records;
 mod diagnosis;
 mod event;
+#[allow(unsafe_code)]
 mod foreign;
 mod handles;
 pub mod limits;

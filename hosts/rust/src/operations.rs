@@ -15,6 +15,7 @@ pub const EVENTS_LENGTH: usize = 4096 * EVENT;
 
 /// Bytes that hold the events of every case. Kinds 1 to 8 have at most 64 + 16 + 1,024 + 120 + 32 + 32 + 32 + 48 events; kind 9 at most 21
 /// in a world, since a component that is left to discretion has three persons or more, and there are at most 4,096 worlds.
+/// The time of a call grows with the square of the events of kind 9: 4,095 events took 0.3 s, 16,380 took 5 s.
 pub const MOST_EVENTS_LENGTH: usize = (1368 + 21 * 4096) * EVENT;
 
 /// Bytes of stack that a call takes when so many bytes are lent for events: 160 KB, and 128 bytes for each event. A call on the caller's
@@ -118,6 +119,7 @@ pub struct Answer {
 }
 
 impl Answer {
+    /// What is said of a person; none for one off the roster.
     pub fn line(&self, person: u8) -> Option<&Line> {
         self.lines.iter().find(|line| line.person == person)
     }

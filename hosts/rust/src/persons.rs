@@ -25,10 +25,12 @@ impl Persons {
         Persons(mask)
     }
 
+    /// Bit p stands for person p.
     pub const fn mask(self) -> u64 {
         self.0
     }
 
+    /// Whether the person is in the set; nobody above 63 is.
     pub fn holds(self, person: u8) -> bool {
         self.0.checked_shr(u32::from(person)).is_some_and(|rest| rest & 1 == 1)
     }
@@ -45,10 +47,12 @@ impl Persons {
         Persons(self.0 | other.0)
     }
 
+    /// Those who are not in the other.
     pub fn without(self, other: Persons) -> Persons {
         Persons(self.0 & !other.0)
     }
 
+    /// Whether somebody is in both.
     pub fn meets(self, other: Persons) -> bool {
         self.0 & other.0 != 0
     }

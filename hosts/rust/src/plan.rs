@@ -40,6 +40,7 @@ impl Plan {
         &self.bytes
     }
 
+    /// What its records say.
     pub fn records(&self) -> &Records {
         &self.records
     }

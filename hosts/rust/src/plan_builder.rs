@@ -70,6 +70,7 @@ impl PlanBuilder {
         self.node(Node::Or(children.to_vec()))
     }
 
+    /// It does not hold.
     pub fn not(&mut self, child: NodeId) -> Result<NodeId, BuildError> {
         self.node(Node::Not(child))
     }
@@ -89,6 +90,7 @@ impl PlanBuilder {
         Ok(NodeId { plan: self.id, number })
     }
 
+    /// Two persons who belong together.
     pub fn edge(&mut self, edge: Edge) -> Result<EdgeId, BuildError> {
         person(edge.left)?;
         person(edge.right)?;
@@ -100,6 +102,7 @@ impl PlanBuilder {
         Ok(EdgeId { plan: self.id, number })
     }
 
+    /// Persons who are cut out. Combination edges that cross it are decided here or by [`decide`](PlanBuilder::decide).
     pub fn cut(&mut self, cut: Cut) -> Result<CutId, BuildError> {
         self.node_here(cut.condition)?;
         cited(cut.citation)?;
@@ -139,6 +142,7 @@ impl PlanBuilder {
         Ok(())
     }
 
+    /// Persons who move to another's block. Attachments act in the order in which they come.
     pub fn attachment(&mut self, rule: Attachment) -> Result<(), BuildError> {
         person(rule.anchor)?;
         self.node_here(rule.condition)?;
@@ -149,6 +153,7 @@ impl PlanBuilder {
         Ok(())
     }
 
+    /// Persons who are barred.
     pub fn bar(&mut self, bar: Bar) -> Result<(), BuildError> {
         self.node_here(bar.condition)?;
         cited(bar.citation)?;
@@ -156,6 +161,7 @@ impl PlanBuilder {
         Ok(())
     }
 
+    /// A person who is excluded.
     pub fn status(&mut self, status: Status) -> Result<(), BuildError> {
         person(status.person)?;
         self.node_here(status.condition)?;

@@ -87,6 +87,11 @@ fn fields(file: File, kind: u8) -> &'static [Named] {
     found.copied().unwrap_or(&[])
 }
 
+/// What the field of a bit is called.
+pub(crate) fn field_name(file: File, kind: u8, bit: usize) -> Option<&'static str> {
+    fields(file, kind).get(bit).map(|(name, _)| *name)
+}
+
 /// The first field with a value or a count outside its range, and what is wrong with it.
 pub(crate) fn outside(file: File, record: &Record) -> Option<String> {
     let mut named = fields(file, record.kind).iter().enumerate();

@@ -35,10 +35,12 @@ pub struct Edge {
 }
 
 impl Edge {
+    /// A Base edge without defeaters.
     pub fn base(left: u8, right: u8, condition: NodeId, citation: u8) -> Edge {
         Edge { left, right, condition, citation, defeaters: Vec::new(), combination: false }
     }
 
+    /// A Combination edge without defeaters.
     pub fn combination(left: u8, right: u8, condition: NodeId, citation: u8) -> Edge {
         Edge { combination: true, ..Edge::base(left, right, condition, citation) }
     }
@@ -96,11 +98,13 @@ pub struct Cut {
 }
 
 impl Cut {
+    /// A cut without election, decisions and preceded cuts.
     pub fn new(members: Persons, condition: NodeId, citation: u8) -> Cut {
         let (election, decisions, precedes) = (None, Vec::new(), Vec::new());
         Cut { members, condition, citation, election, decisions, precedes }
     }
 
+    /// It is applied for by an election: events name actor and evidence.
     pub fn elected(self, election: Election) -> Cut {
         Cut { election: Some(election), ..self }
     }
@@ -141,6 +145,7 @@ impl Attachment {
         Attachment { members, anchor, condition, citation, actor, election: None }
     }
 
+    /// It is applied for by an election: events name its evidence.
     pub fn elected(self, election: Election) -> Attachment {
         Attachment { election: Some(election), ..self }
     }

@@ -1,5 +1,11 @@
 //! batch PLAN FOLDER: answers all cases of a folder over one plan and prints a table of everyone.
 
+#![deny(unsafe_code)]
+#![cfg_attr(
+    not(test),
+    deny(clippy::unwrap_used, clippy::expect_used, clippy::panic, clippy::indexing_slicing)
+)]
+
 mod cases;
 mod csv;
 mod tally;

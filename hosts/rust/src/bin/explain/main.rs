@@ -1,5 +1,11 @@
 //! explain FOLDER: says in plain sentences what the answer to a case is and why.
 
+#![deny(unsafe_code)]
+#![cfg_attr(
+    not(test),
+    deny(clippy::unwrap_used, clippy::expect_used, clippy::panic, clippy::indexing_slicing)
+)]
+
 mod names;
 mod open;
 mod possible;

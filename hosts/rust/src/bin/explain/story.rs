@@ -253,12 +253,14 @@ impl Story<'_> {
     }
 
     fn summary(&self) -> String {
-        let (lines, units) = (&self.answer.lines, self.answer.units().len());
+        let (lines, units) = (&self.answer.lines, self.answer.units().len() as u64);
         let open = lines.iter().filter(|line| line.kind != LineKind::Decided).count();
-        let persons = lines.len();
-        format!(
-            "{persons} persons, {open} of them open; {units} units; {} worlds.",
-            self.answer.worlds
-        )
+        let persons = counted(lines.len() as u64, "person");
+        let (units, worlds) = (counted(units, "unit"), counted(self.answer.worlds, "world"));
+        format!("{persons}, {open} of them open; {units}; {worlds}.")
     }
+}
+
+fn counted(count: u64, what: &str) -> String {
+    if count == 1 { format!("1 {what}") } else { format!("{count} {what}s") }
 }
