@@ -1,9 +1,9 @@
 // A case answered, or one of its worlds shown: the refusals in their order, then the worlds.
 use crate::Answer;
+use crate::bare::without_worlds;
 use crate::clear::clear;
 use crate::heading::heading_fault;
 use crate::heading::rule_persons;
-use crate::line::write_bare;
 use crate::ready::answer_ready;
 use crate::run::Wanted;
 use expressions::bindable::bindable;
@@ -16,7 +16,6 @@ use records::check::decode_plan;
 use records::checked::Checked;
 use records::plan::Plan;
 use records::read_case::read_case;
-use records::sets::size;
 ghost use mathlib.Core.Path.{_≡_};
 ghost use lib.ListN.{length, replicate};
 ghost use Rattle.records.specs.Sound.{Sound, SoundCase};
@@ -83,18 +82,7 @@ fn operate_case(
     if heading.complete {
         return operate_bound(plan, case, reach, wanted, lines, events);
     }
-    if !wanted.all {
-        return Answer::Refused {
-            number: 14,
-            record: 0,
-        };
-    }
-    write_bare(lines, heading.roster, 5);
-    Answer::Answered {
-        lines: size(heading.roster) as usize,
-        events: 0,
-        worlds: 0,
-    }
+    without_worlds(lines, heading.roster, 5, wanted)
 }
 
 // Bytes to plan and case, with their refusals.

@@ -1,8 +1,7 @@
 -- `operate::operate_case`: the refusals of the heading, then a roster that is not complete, or what the binding gives.
 use lib.ListN.{length}
-use borrow.Author.Tests.{not-true, not-false}
 use denote.Ref.{now}
-use Rattle.report.proofs.OperateLaws.{persons-fit, heading-stops, persons-named, roster-peopled, lines-fit, roster-complete, roster-incomplete, stops, goes-on, no-world, bare-lines}
+use Rattle.report.proofs.OperateLaws.{persons-fit, heading-stops, persons-named, roster-peopled, lines-fit, roster-complete, roster-incomplete, stops, goes-on, bare}
 use borrow.Author.Needs.{needs}
 use Rattle.report.proofs.operate.operate_case.Statement.{statement}
 use Rattle.report.proofs.operate.operate_case.Tie as tie
@@ -67,23 +66,9 @@ returns-2 c =
     (p .rule-persons .ensures) (length (now (a .args .lines))) (h .heading-fault .result) (h .heading-fault .ensures) (i .if1 .left) (j .if2 .taken))
     (w .operate-bound .ensures)
 
-returns-3 : tie.Need-returns-3
-returns-3 c =
-    let j = c .before .before in
-    let i = j .before in
-    let h = i .before in
-    let p = h .before in
-    let q = p .before .before in
-    let a = q .before .before .before .before .before .before in
-    no-world (a .args .wanted) (a .args .case .heading .roster) (now (a .args .lines)) (now (a .args .events)) (a .pre .zeros) (a .pre .none)
-    (roster-incomplete (a .args .plan) (a .args .case) (a .pre .sound) (a .pre .sane) (q .reach-of .result) (q .reach-of .ensures) (p .rule-persons .result)
-    (p .rule-persons .ensures) (length (now (a .args .lines))) (h .heading-fault .result) (h .heading-fault .ensures) (i .if1 .left) (j .if2 .left))
-    (not-true _ (c .if3 .taken))
-
-write-bare-requires : tie.Need-write-bare-requires
-write-bare-requires c κs =
-    let j = c .before .before .before in
-    let i = j .before in
+without-worlds-requires : tie.Need-without-worlds-requires
+without-worlds-requires c κs =
+    let i = c .before .before in
     let h = i .before in
     let p = h .before in
     let q = p .before .before in
@@ -91,29 +76,22 @@ write-bare-requires c κs =
     lines-fit (a .args .plan) (a .args .case) (a .pre .sound) (a .pre .sane) (q .reach-of .result) (q .reach-of .ensures) (p .rule-persons .result)
     (p .rule-persons .ensures) (length (now (a .args .lines))) (h .heading-fault .result) (h .heading-fault .ensures) (i .if1 .left)
 
-size-requires : tie.Need-size-requires
-size-requires c κs = search needs
-
-cast-t13 : tie.Need-cast-t13
-cast-t13 c = search needs
-
 same-length-3 : tie.Need-same-length-3
 same-length-3 c = search needs
 
-returns-4 : tie.Need-returns-4
-returns-4 c =
-    let w = c .before .before .before in
-    let t = w .before .before in
-    let j = t .before .before in
+returns-3 : tie.Need-returns-3
+returns-3 c =
+    let w = c .before .before .without-worlds in
+    let j = c .before .before .before .before in
     let i = j .before in
     let h = i .before in
     let p = h .before in
     let q = p .before .before in
     let a = q .before .before .before .before .before .before in
-    bare-lines (a .args .wanted) (a .args .case .heading .roster) (now (a .args .lines)) (now (a .args .events)) (a .pre .zeros) (a .pre .none)
+    bare (a .args .wanted) (a .args .case .heading .roster) (now (a .args .lines)) (now (a .args .events)) (a .pre .zeros) (a .pre .none)
     (roster-incomplete (a .args .plan) (a .args .case) (a .pre .sound) (a .pre .sane) (q .reach-of .result) (q .reach-of .ensures) (p .rule-persons .result)
     (p .rule-persons .ensures) (length (now (a .args .lines))) (h .heading-fault .result) (h .heading-fault .ensures) (i .if1 .left) (j .if2 .left))
-    _ (c .size .result) (not-false _ (t .if3 .left)) (c .size .ensures) (w .write-bare .ensures)
+    _ (w .result) (w .ensures)
 
 pub operate-case-spec : {M : Type 1} → statement M
 operate-case-spec =
@@ -127,9 +105,6 @@ operate-case-spec =
     same-length
     same-length-2
     returns-2
-    returns-3
-    write-bare-requires
-    size-requires
-    cast-t13
+    without-worlds-requires
     same-length-3
-    returns-4)
+    returns-3)
