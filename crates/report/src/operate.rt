@@ -8,7 +8,6 @@ use crate::ready::answer_ready;
 use crate::run::Wanted;
 use expressions::bindable::bindable;
 use expressions::bindings::bindings;
-use expressions::reach::Reach;
 use expressions::reach::reach_of;
 use expressions::variables::count_worlds;
 use records::case::Case;
@@ -21,41 +20,9 @@ ghost use lib.ListN.{length, replicate};
 ghost use Rattle.records.specs.Sound.{Sound, SoundCase};
 ghost use Rattle.records.specs.Decoded.{planOf, caseOf};
 ghost use Rattle.report.specs.Operations.{opened};
-ghost use Rattle.report.specs.Operate.{judged, headed, Operates, Binding, Opening};
+ghost use Rattle.report.specs.Operate.{headed, Operates, Opening};
 
-// The binding of the facts, refusals 5, 10 and 11, and the worlds.
-fn operate_bound(
-    plan: Plan,
-    case: Case,
-    reach: Reach,
-    wanted: Wanted,
-    lines: &mut [u8],
-    events: &mut [u8],
-) -> Answer
-    requires { ⌜ Binding plan case reach (now lines) (now events) ⌝ }
-    ensures { λ r. ⌜ Operates wanted (judged plan case) (now (lines .entry)) (now (lines .exit)) (now (events .entry)) (now (events .exit)) r ⌝ }
-{
-    let found = bindable(case);
-    if let Checked::Refused { number, record } = found {
-        return Answer::Refused {
-            number: number,
-            record: record,
-        };
-    }
-    let heading = case.heading;
-    let undecided = reach.undecided;
-    let codes = bindings(plan, case, reach.bound);
-    let count = count_worlds(codes, reach.count, undecided.count, heading.most_worlds);
-    if count.refused {
-        return Answer::TooManyWorlds {
-            count: count.count,
-            most: count.maximum,
-        };
-    }
-    answer_ready(plan, case, reach, codes, wanted, lines, events)
-}
-
-// The heading's refusals, and a roster that is not complete.
+// The refusals 8 to 12, a roster that is not complete, then the refusals 5, 10 and 11, and the worlds.
 fn operate_case(
     plan: Plan,
     case: Case,
@@ -79,10 +46,26 @@ fn operate_case(
             record: 0,
         };
     }
-    if heading.complete {
-        return operate_bound(plan, case, reach, wanted, lines, events);
+    if !heading.complete {
+        return without_worlds(lines, heading.roster, 5, wanted);
     }
-    without_worlds(lines, heading.roster, 5, wanted)
+    let found = bindable(case);
+    if let Checked::Refused { number, record } = found {
+        return Answer::Refused {
+            number: number,
+            record: record,
+        };
+    }
+    let undecided = reach.undecided;
+    let codes = bindings(plan, case, reach.bound);
+    let count = count_worlds(codes, reach.count, undecided.count, heading.most_worlds);
+    if count.refused {
+        return Answer::TooManyWorlds {
+            count: count.count,
+            most: count.maximum,
+        };
+    }
+    answer_ready(plan, case, reach, codes, wanted, lines, events)
 }
 
 // Bytes to plan and case, with their refusals.
