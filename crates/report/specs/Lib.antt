@@ -14,6 +14,7 @@ pub mod Known
 pub mod Opening
 pub mod EventsWritten
 pub mod Run
+pub mod Bare
 pub mod Finish
 pub mod Ready
 pub mod Operate
