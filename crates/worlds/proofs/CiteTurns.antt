@@ -9,9 +9,8 @@ use lib.Seq.{getD-set-same, getD-set-other}
 use lib.Dec.{eqb}
 use lib.Count.{trailingZeros}
 use borrow.Author.Tests.{eqb-true, eqb-false, eq-eqb, ne-eqb}
-use Rattle.records.specs.Sets.{has, one, union, meets, subset, only, lowest, members}
-use Rattle.records.proofs.SetLaws.{has-none, has-one, has-union, ext, and-parts, subset-true}
-use Rattle.records.proofs.Closing.{in-one}
+use Rattle.records.specs.Sets.{has, union, meets, subset, only, lowest, members}
+use Rattle.records.proofs.SetLaws.{has-none, has-union, empty, in-union-l, in-union-r, ext, and-parts, subset-true}
 use Rattle.records.proofs.Local.{which}
 use Rattle.expressions.proofs.UnionLaws.{union-none}
 use Rattle.worlds.specs.Over.{entry}
@@ -33,12 +32,6 @@ meets-sym a b =
 
 pub meets-none : (a b : ℕ) → a ≡ 0 → meets a b ≡ false
 meets-none a b e = none-of (meets a b) (λ h. let w = meets-of a b h in true≢false (sym (w .1) ∙ ap (λ (x : ℕ). has x (w .0)) e ∙ has-none (w .0)))
-
-pub meets-one : (p b : ℕ) → meets (one p) b ≡ has b p
-meets-one p b =
-    both-ways (meets (one p) b) (has b p)
-    (λ e. let w = meets-of (one p) b e in ap (has b) (eqb-true p (w .0) (sym (has-one p (w .0)) ∙ w .1)) ∙ w .2)
-    (λ e. meets-in (one p) b p (in-one p) e)
 
 none-low : lowest 0 ≡ 64
 unfolding lowest trailingZeros
@@ -109,6 +102,17 @@ module _ (blocks cited : List ℕ) (anchor movers q what : ℕ) where
       cites-none blocks (anchor-cites anchor movers what) cited (λ live fits B p l.
       ap (λ (x : Bool). only (x && meets movers (entry blocks p)) what) (ap (has (entry blocks p)) (ap lowest e ∙ none-low) ∙ nobody blocks live fits B p))
 
+-- ---- at one person
+
+module _ (blocks cited : List ℕ) (p what : ℕ) where
+  pub one-added : (k v : ℕ) → length cited ≡ 64 → (k ≡ lowest (entry blocks p)) × (k < 64) → v ≡ union (entry cited k) what → (entry blocks p ≡ 0 → ⊥)
+      → CitesIn blocks (λ b. only (has b p) what) cited (set cited k v)
+  one-added k v long head e n = cites-add blocks cited p k v what (λ b. has b p) long head e n (λ live B l. B .self p l) (λ live B q l x. B .agreed q p x)
+
+  pub one-none : entry blocks p ≡ 0 → CitesIn blocks (λ b. only (has b p) what) cited cited
+  one-none e = cites-none blocks (λ b. only (has b p) what) cited (λ live fits B q l.
+      ap (λ (x : Bool). only x what) (none-of (has (entry blocks q) p) (λ h. true≢false (sym h ∙ ap (λ (x : ℕ). has x p) (sym (B .agreed q p h) ∙ e) ∙ has-none p))))
+
 -- ---- a rule that names some persons
 
 pub named-none : (blocks cited : List ℕ) (held what : ℕ) → held ≡ 0 → CitesIn blocks (λ b. only (meets held b) what) cited cited
@@ -136,13 +140,25 @@ abbrev pub ends-cite : ℕ → (ℕ → ℕ) → ℕ → ℕ
 ends-cite pair own b = union (only (has b (lowest pair)) (own (far pair))) (only (has b (far pair)) (own (lowest pair)))
 
 module _ (blocks : List ℕ) (pair : ℕ) (own : ℕ → ℕ) where
-  pub ends-added : (l r x y : ℕ) {a b c : List ℕ} → l ≡ lowest pair → r ≡ far pair → x ≡ one l → y ≡ one r → CitesIn blocks (λ s. only (meets x s) (own r)) a b
-      → CitesIn blocks (λ s. only (meets y s) (own l)) b c → CitesIn blocks (ends-cite pair own) a c
-  ends-added l r x y e k u v C D =
-      cites-as (ends-cite pair own) (λ s. ap₂ union (is s l r x (lowest pair) (far pair) e k u) (is s r l y (far pair) (lowest pair) k e v)) (cites-both C D)
+  pub ends-added : (l r : ℕ) {a b c : List ℕ} → l ≡ lowest pair → r ≡ far pair → CitesIn blocks (λ s. only (has s l) (own r)) a b
+      → CitesIn blocks (λ s. only (has s r) (own l)) b c → CitesIn blocks (ends-cite pair own) a c
+  ends-added l r e k C D = cites-as (ends-cite pair own) (λ s. ap₂ union (is s e k) (is s k e)) (cites-both C D)
     where
-      is : (s l r x m f : ℕ) → l ≡ m → r ≡ f → x ≡ one l → only (meets x s) (own r) ≡ only (has s m) (own f)
-      is s l r x m f e k u = ap₂ (λ (t : Bool) (y : ℕ). only t (own y)) (ap (λ (z : ℕ). meets z s) u ∙ meets-one l s ∙ ap (has s) e) k
+      is : (s : ℕ) {x y m f : ℕ} → x ≡ m → y ≡ f → only (has s x) (own y) ≡ only (has s m) (own f)
+      is s u v = ap₂ (λ (i j : ℕ). only (has s i) (own j)) u v
+
+  -- ends that no applied cut holds
+  pub ends-idle : (l r : ℕ) (cited : List ℕ) → l ≡ lowest pair → r ≡ far pair → union (own l) (own r) ≡ 0 → CitesIn blocks (ends-cite pair own) cited cited
+  ends-idle l r cited e k z = cites-none blocks (ends-cite pair own) cited (λ live fits B p h.
+      ap₂ (λ (x y : ℕ). union (only (has (entry blocks p) (lowest pair)) x) (only (has (entry blocks p) (far pair)) y)) (ap own (sym k) ∙ nothing (own r) (λ q. in-union-r (own l) (own r) .at q)) (ap own (sym e) ∙ nothing (own l) (λ q. in-union-l (own l) (own r) .at q))
+      ∙ ap₂ union (only-nobody (has (entry blocks p) (lowest pair))) (only-nobody (has (entry blocks p) (far pair))) ∙ union-none 0)
+    where
+      nothing : (m : ℕ) → ((q : ℕ) → has m q ≡ true → has (union (own l) (own r)) q ≡ true) → m ≡ 0
+      nothing m h = empty m (λ q x. true≢false (sym (h q x) ∙ ap (λ (y : ℕ). has y q) z ∙ has-none q))
+
+      only-nobody : (b : Bool) → only b 0 ≡ 0
+      only-nobody true = refl
+      only-nobody false = refl
 
   pub ends-none : (cited : List ℕ) → pair ≡ 0 → CitesIn blocks (ends-cite pair own) cited cited
   ends-none cited e = cites-none blocks (ends-cite pair own) cited (λ live fits B p l.

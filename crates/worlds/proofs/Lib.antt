@@ -18,6 +18,7 @@ pub mod CutsMade
 pub mod NoteLaws
 pub mod LooseLaws
 pub mod DiscretionLaws
+pub mod ComponentLaws
 pub mod AttachLaws
 pub mod CutBlocks
 pub mod PlaceLaws

@@ -124,28 +124,28 @@ all-none f m e = ap (allOf f) (members-none m e)
 -- ---- the classes that pass a test
 
 -- everybody in a class has it
-abbrev pub Shared : ℕ → List ℕ → Type 0
-Shared persons classes = (p q : ℕ) → has persons p ≡ true → has (entry classes p) q ≡ true → (has persons q ≡ true) × (entry classes q ≡ entry classes p)
+abbrev pub Shared : ℕ → (ℕ → ℕ) → Type 0
+Shared persons class = (p q : ℕ) → has persons p ≡ true → has (class p) q ≡ true → (has persons q ≡ true) × (class q ≡ class p)
 
 -- those found while m are left
-pub record Found (test : ℕ → Bool) (persons : ℕ) (classes : List ℕ) (m found : ℕ) (parts : List ℕ) : Type 0 where
+pub record Found (test : ℕ → Bool) (persons : ℕ) (class : ℕ → ℕ) (m found : ℕ) (parts : List ℕ) : Type 0 where
   pub few : m < 2 ^ 64
   pub inside : Within m persons
-  pub sound : (p : ℕ) → has found p ≡ true → (has persons p ≡ true) × (entry parts p ≡ entry classes p) × (test (entry classes p) ≡ true)
-  pub complete : Shared persons classes
-      → (p : ℕ) → has persons p ≡ true → has m p ≡ false → test (entry classes p) ≡ true → (h : ℕ) × (has found h ≡ true) × (entry classes h ≡ entry classes p)
+  pub sound : (p : ℕ) → has found p ≡ true → (has persons p ≡ true) × (entry parts p ≡ class p) × (test (class p) ≡ true)
+  pub complete : Shared persons class
+      → (p : ℕ) → has persons p ≡ true → has m p ≡ false → test (class p) ≡ true → (h : ℕ) × (has found h ≡ true) × (class h ≡ class p)
 
-pub found-none : (test : ℕ → Bool) (persons : ℕ) (classes parts : List ℕ) → persons < 2 ^ 64 → Found test persons classes persons 0 parts
-found-none test persons classes parts b = record {
+pub found-none : (test : ℕ → Bool) (persons : ℕ) (class : ℕ → ℕ) (parts : List ℕ) → persons < 2 ^ 64 → Found test persons class persons 0 parts
+found-none test persons class parts b = record {
   few = b;
   inside = within-refl persons;
   sound = λ p h. clash h (has-none p);
   complete = λ s p x y. clash x y;
 }
 
-pub found-all : (test : ℕ → Bool) (persons : ℕ) (classes : List ℕ) (m found : ℕ) (parts : List ℕ) → m ≡ 0 → Found test persons classes m found parts
-    → Heads test persons classes found parts
-found-all test persons classes m found parts z f = record {
+pub found-all : (test : ℕ → Bool) (persons : ℕ) (class : ℕ → ℕ) (m found : ℕ) (parts : List ℕ) → m ≡ 0 → Found test persons class m found parts
+    → Heads test persons class found parts
+found-all test persons class m found parts z f = record {
   sound = f .sound;
   complete = λ s p x y.
       let r = f .complete s p x (ap (λ (k : ℕ). has k p) z ∙ has-none p) y in
@@ -153,20 +153,20 @@ found-all test persons classes m found parts z f = record {
 }
 
 -- the same by other names
-pub found-as : {test : ℕ → Bool} {persons : ℕ} {classes : List ℕ} {m n found more : ℕ} {parts last : List ℕ} → m ≡ n → found ≡ more → parts ≡ last
-    → Found test persons classes n more last → Found test persons classes m found parts
-found-as {test} {persons} {classes} {m} {n} {found} {more} {parts} {last} a b c f =
-    subst (λ (x : ℕ). Found test persons classes x found parts) (sym a)
-    (subst (λ (x : ℕ). Found test persons classes n x parts) (sym b) (subst (λ (l : List ℕ). Found test persons classes n more l) (sym c) f))
+pub found-as : {test : ℕ → Bool} {persons : ℕ} {class : ℕ → ℕ} {m n found more : ℕ} {parts last : List ℕ} → m ≡ n → found ≡ more → parts ≡ last
+    → Found test persons class n more last → Found test persons class m found parts
+found-as {test} {persons} {class} {m} {n} {found} {more} {parts} {last} a b c f =
+    subst (λ (x : ℕ). Found test persons class x found parts) (sym a)
+    (subst (λ (x : ℕ). Found test persons class n x parts) (sym b) (subst (λ (l : List ℕ). Found test persons class n more l) (sym c) f))
 
-module _ (test : ℕ → Bool) (persons : ℕ) (classes : List ℕ) (m r t found : ℕ) (parts : List ℕ) (turn : (i : ℕ) → has m i ≡ (eqb t i || has r i)) (less : r < m)
-    (f : Found test persons classes m found parts) where
+module _ (test : ℕ → Bool) (persons : ℕ) (class : ℕ → ℕ) (m r t found : ℕ) (parts : List ℕ) (turn : (i : ℕ) → has m i ≡ (eqb t i || has r i)) (less : r < m)
+    (f : Found test persons class m found parts) where
   -- whoever is no longer left was not before, is t, or is of its class
-  gone : (p : ℕ) → has (minus r (entry classes t)) p ≡ false → (has m p ≡ false) ⊎ ((t ≡ p) ⊎ (has (entry classes t) p ≡ true))
-  gone p e = pick (has (entry classes t) p) (eqb t p) (has r p) refl refl refl (sym (has-minus r (entry classes t) p) ∙ e)
+  gone : (p : ℕ) → has (minus r (class t)) p ≡ false → (has m p ≡ false) ⊎ ((t ≡ p) ⊎ (has (class t) p ≡ true))
+  gone p e = pick (has (class t) p) (eqb t p) (has r p) refl refl refl (sym (has-minus r (class t) p) ∙ e)
     where
-      pick : (x y z : Bool) → has (entry classes t) p ≡ x → eqb t p ≡ y → has r p ≡ z → (has r p && not (has (entry classes t) p)) ≡ false
-          → (has m p ≡ false) ⊎ ((t ≡ p) ⊎ (has (entry classes t) p ≡ true))
+      pick : (x y z : Bool) → has (class t) p ≡ x → eqb t p ≡ y → has r p ≡ z → (has r p && not (has (class t) p)) ≡ false
+          → (has m p ≡ false) ⊎ ((t ≡ p) ⊎ (has (class t) p ≡ true))
       pick true y z a b c d = inr (inr a)
       pick false true z a b c d = inr (inl (eqb-true t p b))
       pick false false true a b c d = absurd (true≢false (sym (ap₂ (λ (u v : Bool). u && not v) c a) ∙ d))
@@ -175,21 +175,21 @@ module _ (test : ℕ → Bool) (persons : ℕ) (classes : List ℕ) (m r t found
   here : has persons t ≡ true
   here = f .inside .at t (turn t ∙ ap (λ (b : Bool). b || has r t) (eq-eqb t t refl))
 
-  left-inside : Within (minus r (entry classes t)) persons
-  left-inside = record { at = λ p h. f .inside .at p (turn p ∙ after (eqb t p) (of-minus r (entry classes t) p h .0)) }
+  left-inside : Within (minus r (class t)) persons
+  left-inside = record { at = λ p h. f .inside .at p (turn p ∙ after (eqb t p) (of-minus r (class t) p h .0)) }
     where
       after : (x : Bool) {y : Bool} → y ≡ true → (x || y) ≡ true
       after true e = refl
       after false e = e
 
   -- the class of whoever is gone just now
-  same : Shared persons classes → (p : ℕ) → (t ≡ p) ⊎ (has (entry classes t) p ≡ true) → entry classes t ≡ entry classes p
-  same s p w = ⊎-elim (λ e. ap (entry classes) e) (λ h. sym (s t p here h .1)) w
+  same : Shared persons class → (p : ℕ) → (t ≡ p) ⊎ (has (class t) p ≡ true) → class t ≡ class p
+  same s p w = ⊎-elim (λ e. ap class e) (λ h. sym (s t p here h .1)) w
 
-  pub found-in : test (entry classes t) ≡ true → t < length parts
-      → Found test persons classes (minus r (entry classes t)) (union found (one t)) (set parts t (entry classes t))
-  found-in ok l = record {
-    few = lt-trans (left-less m r (entry classes t) (f .few) less) (f .few);
+  pub found-in : (last : List ℕ) → test (class t) ≡ true → entry last t ≡ class t → ((p : ℕ) → (p ≡ t → ⊥) → entry last p ≡ entry parts p)
+      → Found test persons class (minus r (class t)) (union found (one t)) last
+  found-in last ok put kept = record {
+    few = lt-trans (left-less m r (class t) (f .few) less) (f .few);
     inside = left-inside;
     sound = λ p h. pick p (which (eqb t p)) h;
     complete = λ s p x y z. ⊎-elim
@@ -198,17 +198,16 @@ module _ (test : ℕ → Bool) (persons : ℕ) (classes : List ℕ) (m r t found
   }
     where
       pick : (p : ℕ) → (eqb t p ≡ true) ⊎ (eqb t p ≡ false) → has (union found (one t)) p ≡ true
-          → (has persons p ≡ true) × (entry (set parts t (entry classes t)) p ≡ entry classes p) × (test (entry classes p) ≡ true)
+          → (has persons p ≡ true) × (entry last p ≡ class p) × (test (class p) ≡ true)
       pick p (inl e) h =
-          subst (λ (p : ℕ). (has persons p ≡ true) × (entry (set parts t (entry classes t)) p ≡ entry classes p) × (test (entry classes p) ≡ true)) (eqb-true t p e)
-          (here, getD-set-same parts t (entry classes t) 0 l, ok)
+          subst (λ (p : ℕ). (has persons p ≡ true) × (entry last p ≡ class p) × (test (class p) ≡ true)) (eqb-true t p e) (here, put, ok)
       pick p (inr e) h =
           let w = f .sound p (⊎-elim (λ x. x) (λ x. clash (sym (has-one t p) ∙ x) e) (of-union found (one t) p h)) in
-          (w .0, getD-set-other parts t p (entry classes t) 0 (λ z. eqb-false t p e (sym z)) ∙ w .1, w .2)
+          (w .0, kept p (λ z. eqb-false t p e (sym z)) ∙ w .1, w .2)
 
-  pub found-out : test (entry classes t) ≡ false → Found test persons classes (minus r (entry classes t)) found parts
+  pub found-out : test (class t) ≡ false → Found test persons class (minus r (class t)) found parts
   found-out fails = record {
-    few = lt-trans (left-less m r (entry classes t) (f .few) less) (f .few);
+    few = lt-trans (left-less m r (class t) (f .few) less) (f .few);
     inside = left-inside;
     sound = f .sound;
     complete = λ s p x y z. ⊎-elim (λ e. f .complete s p x e z) (λ w. clash z (ap test (sym (same s p w)) ∙ fails)) (gone p y);
@@ -224,53 +223,3 @@ pairs-inside pairs persons (e ∷ es) w =
     let u = unionOf (entry pairs) es in
     ap₂ _&&_ (within-subset (entry pairs e) persons (record { at = λ p h. w .at p (in-union-l (entry pairs e) u .at p h) }))
     (pairs-inside pairs persons es (record { at = λ p h. w .at p (in-union-r (entry pairs e) u .at p h) }))
-
-pairs-joinable : (pairs : List ℕ) (persons : ℕ) (es : List ℕ) → allOf (λ s. subset s persons) (map (entry pairs) es) ≡ true → map (joinable pairs persons) es ≡ map (entry pairs) es
-unfolding allOf
-pairs-joinable pairs persons [] w = refl
-pairs-joinable pairs persons (e ∷ es) w =
-    let t = and-parts (subset (entry pairs e) persons) (allOf (λ s. subset s persons) (map (entry pairs) es)) w in
-    ap₂ _∷_ (ap (λ (b : Bool). only b (entry pairs e)) (t .0)) (pairs-joinable pairs persons es (t .1))
-
--- everybody alone, then joined by the pairs
-pub pairs-classes : (pairs : List ℕ) (edges persons : ℕ) (before alone after : List ℕ) → persons < 2 ^ 64 → persons ≡ unionOf (entry pairs) (members edges)
-    → Alone persons before alone → Joins (map (joinable pairs persons) (members edges)) alone after → ClassesBy persons (map (entry pairs) (members edges)) after
-unfolding allOf
-pairs-classes pairs edges persons before alone after b u a j =
-    let inside = pairs-inside pairs persons (members edges) (along (sym u)) in
-    let same = pairs-joinable pairs persons (members edges) inside in
-    subst (λ (l : List ℕ). ClassesBy persons l after) same
-    (j .classes persons [] (ap (allOf (λ s. subset s persons)) same ∙ inside) (record {
-      few = b;
-      inside = refl;
-      at = λ p h. a .at p ∙ ap (λ (b : Bool). cond b (one p) (entry before p)) h ∙ sym (close-same [] (one p) tt);
-    }))
-
-pub heads-parts : (pairs : List ℕ) (edges persons : ℕ) (lead classes : List ℕ) (heads : ℕ) (parts : List ℕ) → ((p : ℕ) → entry lead p ≡ near pairs edges p)
-    → ClassesBy persons (map (entry pairs) (members edges)) classes → Heads (looseBy (entry lead)) persons classes heads parts → LooseParts pairs edges heads parts
-heads-parts pairs edges persons lead classes heads parts n by hs = record {
-  sound = λ p h.
-      let s = hs .sound p h in
-      let is = s .1 ∙ by .at p (s .0) in
-      (is, test (entry parts p) ∙ ap (looseBy (entry lead)) (s .1) ∙ s .2);
-  complete = λ p h. pick p h (which (has persons p));
-}
-  where
-    sets : List ℕ
-    sets = map (entry pairs) (members edges)
-
-    test : (m : ℕ) → looseBy (near pairs edges) m ≡ looseBy (entry lead) m
-    test m = ap (λ (f : ℕ → ℕ). looseBy f m) (sym (fun-ext n))
-
-    shared : Shared persons classes
-    shared p q x y =
-        let k = ap (λ (m : ℕ). has m q) (sym (by .at p x)) ∙ y in
-        let z = close-least sets (one p) persons (one-within p persons x) (closed-inside sets persons (by .inside)) .at q k in
-        (z, by .at q z ∙ close-class sets p q k ∙ sym (by .at p x))
-
-    pick : (p : ℕ) → looseBy (near pairs edges) (closeOf sets (one p)) ≡ true → (has persons p ≡ true) ⊎ (has persons p ≡ false)
-        → (h : ℕ) × (has heads h ≡ true) × (entry parts h ≡ closeOf sets (one p))
-    pick p h (inl e) =
-        let w = hs .complete shared p e (ap (looseBy (entry lead)) (by .at p e) ∙ sym (test (closeOf sets (one p))) ∙ h) in
-        (w .0, w .1, w .2 ∙ by .at p e)
-    pick p h (inr e) = clash h (ap (looseBy (near pairs edges)) (close-alone sets persons p (by .inside) e) ∙ one-tight (near pairs edges) p)

@@ -20,7 +20,7 @@ use Rattle.worlds.specs.Active as paper
 use Rattle.worlds.specs.World.{World, worldOf, afterMarks, marked, barHolds, barredBy, excludedBy}
 use Rattle.worlds.specs.Over.{entry}
 use Rattle.worlds.specs.Tables.{row, Stands, Tells}
-use Rattle.worlds.specs.Discretion.{LooseParts}
+use Rattle.worlds.specs.Discretion.{Renewed, LooseParts}
 use Rattle.worlds.specs.Settled.{blocks, clashes, Added, CutsAre, CutsSettled, PartsAre, SettledAs, Settles}
 use Rattle.worlds.specs.declared.tables.Common.{Common}
 use Rattle.worlds.specs.declared.tables.Active.{Active}
@@ -117,6 +117,7 @@ module _ (P : Plan) (I : Influence) (k : Common) (t : List (List ℕ)) (a : pape
 -- what the code found, one thing after another; `noted` is what it began with, `after` what it left
 pub record Found (t : List (List ℕ)) (k : Common) (f : Active) (noted after : List (List ℕ)) (parts : List ℕ) (r : CutsDone) (loose left movers : ℕ) (s : Settled) : Type 0 where
   pub components : LooseParts (getD t 0 []) (meet (f .frozen) (k .base)) (s .heads) parts
+  pub renewed : Renewed (s .heads) (s .fresh) (getD noted 0 []) parts
   pub seed : loose ≡ unionOf (entry (getD (set noted 0 parts) 0 [])) (members (s .heads))
   pub discretion : s .discretion ≡ unionOf (row t 15) (members loose)
   pub cuts : CutsSettled t f r (getD (set noted 0 parts) 1 []) (getD after 1 []) (getD (set noted 0 parts) 2 []) (getD after 2 [])
@@ -180,11 +181,12 @@ module _ (t : List (List ℕ)) (k : Common) (f : Active) (noted after : List (Li
     }
 
   -- WHAT IS SETTLED
-  pub settles : Settles t k f s (getD after 0 []) (getD noted 1 []) (getD after 1 []) (getD noted 2 []) (getD after 2 [])
+  pub settles : Settles t k f s (getD noted 0 []) (getD after 0 []) (getD noted 1 []) (getD after 1 []) (getD noted 2 []) (getD after 2 [])
   settles = record {
     at = settled-as;
     components = λ P I a S T.
         subst (λ (x : List ℕ). PartsAre P (k .roster) a (s .heads) x) (sym (F .kept ∙ put)) (parts-are P I k t a f S T (s .heads) parts (F .components));
+    renewed = subst (λ (x : List ℕ). Renewed (s .heads) (s .fresh) (getD noted 0 []) x) (sym (F .kept ∙ put)) (F .renewed);
     blocked = λ P I a S T.
         subst (λ (x : List ℕ). Added (blocks P (worldOf P (k .roster) I a)) x (getD after 1 [])) (getD-set-other noted 0 1 parts [] (λ e. omega arith)) (done P I a S T .blocked);
     clashed = λ P I a S T.

@@ -13,6 +13,7 @@ use Rattle.worlds.specs.World.{World, worldOf, baseSets, looseComponent,
 use Rattle.worlds.specs.Events.{leastOfMerged}
 use Rattle.worlds.specs.Over.{entry}
 use Rattle.worlds.specs.Tables.{Stands, Tells}
+use Rattle.worlds.specs.Discretion.{Renewed}
 use Rattle.worlds.specs.declared.tables.Common.{Common}
 use Rattle.worlds.specs.declared.tables.Active.{Active}
 use Rattle.worlds.specs.declared.tables.Settled.{Settled}
@@ -61,8 +62,9 @@ pub record SettledAs (P : Plan) (w : World) (s : Settled) : Type 0 where
   pub excluded : s .excluded ≡ w .excluded
 
 -- the whole of it, with the tables of events that it adds to
-pub record Settles (t : List (List ℕ)) (k : Common) (f : Active) (s : Settled) (parts blockings₀ blockings₁ clashes₀ clashes₁ : List ℕ) : Type 0 where
+pub record Settles (t : List (List ℕ)) (k : Common) (f : Active) (s : Settled) (parts₀ parts₁ blockings₀ blockings₁ clashes₀ clashes₁ : List ℕ) : Type 0 where
   pub at : (P : Plan) (I : Influence) (a : paper.Active) → Stands P I k t → Tells P a f → SettledAs P (worldOf P (k .roster) I a) s
-  pub components : (P : Plan) (I : Influence) (a : paper.Active) → Stands P I k t → Tells P a f → PartsAre P (k .roster) a (s .heads) parts
+  pub components : (P : Plan) (I : Influence) (a : paper.Active) → Stands P I k t → Tells P a f → PartsAre P (k .roster) a (s .heads) parts₁
+  pub renewed : Renewed (s .heads) (s .fresh) parts₀ parts₁
   pub blocked : (P : Plan) (I : Influence) (a : paper.Active) → Stands P I k t → Tells P a f → Added (blocks P (worldOf P (k .roster) I a)) blockings₀ blockings₁
   pub clashed : (P : Plan) (I : Influence) (a : paper.Active) → Stands P I k t → Tells P a f → Added (clashes P (worldOf P (k .roster) I a)) clashes₀ clashes₁

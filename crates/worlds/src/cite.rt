@@ -17,14 +17,13 @@ use crate::tables::STATUS_CITATIONS;
 use crate::tables::STATUSES;
 use crate::tables::Settled;
 use crate::tables::Tables;
-use records::sets::bit;
 use records::sets::minus;
 use records::sets::subset;
 ghost use mathlib.Core.Path.{_≡_};
 ghost use mathlib.Core.Bool.{_&&_, cond};
 ghost use lib.Dec.{eqb};
-ghost use Prim.Native.Nat.{ℕ};
-ghost use Rattle.records.specs.Sets.{has, meet, meets, subset as inside, only, lowest, unionOf, members};
+ghost use Prim.Native.Nat.{ℕ, _<_};
+ghost use Rattle.records.specs.Sets.{has, union, meet, meets, subset as inside, only, lowest, unionOf, members};
 ghost use Rattle.worlds.specs.Over.{entry};
 ghost use Rattle.worlds.specs.Tables.{row};
 ghost use Rattle.worlds.specs.Citing.{CitesIn, through, ownOf, CitedFor, Cites};
@@ -65,18 +64,29 @@ fn cite_edges(blocks: &[u64; 64], t: &Tables, frozen: u64, cited: &mut [u64; 64]
     }
 }
 
-// At each person the citations of the applied cuts that hold the person.
-fn own_citations(t: &Tables, applied: u64) -> [u64; 64]
-    ensures { λ r. ⌜ ((p : ℕ) → entry r p ≡ ownOf (now (t .entry)) applied p) ⌝ }
+// Adds to a table, at each person, the citations of the applied cuts that hold the person.
+fn own_citations(t: &Tables, applied: u64, own: &mut [u64; 64])
+    ensures { λ r. ⌜ ((p : ℕ) → entry (now (own .exit)) p ≡ union (entry (now (own .entry)) p) (ownOf (now (t .entry)) applied p)) ⌝ }
 {
-    let mut own = [0u64; 64];
     let mut m = applied;
     while m != 0 {
         let c = low(m);
-        give(&mut own, t[MEMBERS][c], t[CUT_CITATIONS][c]);
+        give(own, t[MEMBERS][c], t[CUT_CITATIONS][c]);
         m = others(m);
     }
-    own
+}
+
+// Adds citations to the block of one person.
+fn cite_one(blocks: &[u64; 64], p: usize, what: u64, cited: &mut [u64; 64])
+    requires { ⌜ p < 64 ⌝ }
+    ensures { λ r. ⌜ CitesIn (now (blocks .entry)) (λ b. only (has b p) what) (now (cited .entry)) (now (cited .exit)) ⌝ }
+{
+    whole(*cited);
+    let b = blocks[p];
+    if b != 0 {
+        let k = low(b);
+        cited[k] = cited[k] | what;
+    }
 }
 
 // Applied cuts that hold one end of a frozen edge whose other end is in the block.
@@ -96,8 +106,12 @@ fn cite_cuts(
             let l = low(pair);
             let more = others(pair);
             let r = if more != 0 { low(more) } else { l };
-            cite_at(blocks, bit(l as u8), own[r], cited);
-            cite_at(blocks, bit(r as u8), own[l], cited);
+            let near = own[l];
+            let far = own[r];
+            if near | far != 0 {
+                cite_one(blocks, l, far, cited);
+                cite_one(blocks, r, near, cited);
+            }
         }
         m = others(m);
     }
@@ -186,10 +200,14 @@ pub fn cite(
 )
     ensures { λ r. ⌜ Cites (now (t .entry)) common frozen settled (now (blocks .entry)) persons (now (citations .entry)) (now (citations .exit)) ⌝ }
 {
+    if persons == 0 {
+        return;
+    }
     let barred = minus(settled.barred, settled.excluded);
     let mut cited = [0u64; 64];
     cite_edges(blocks, t, frozen, &mut cited);
-    let own = own_citations(t, settled.applied);
+    let mut own = [0u64; 64];
+    own_citations(t, settled.applied, &mut own);
     let leading = unless_none(settled.applied, frozen);
     cite_cuts(blocks, &t[PAIRS], leading, &own, &mut cited);
     cite_attachments(blocks, t, common.attachments, &mut cited);

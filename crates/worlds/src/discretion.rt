@@ -1,6 +1,4 @@
 // Step 2: Base components of more than two persons that are no cliques.
-use crate::classes::alone;
-use crate::classes::join_pairs;
 use crate::over::gather;
 use crate::over::give;
 use crate::over::low;
@@ -10,10 +8,10 @@ use records::sets::bit;
 use records::sets::minus;
 use records::sets::subset;
 ghost use mathlib.Core.Path.{_≡_};
-ghost use Prim.Native.Nat.{ℕ};
+ghost use Prim.Native.Nat.{ℕ, _<_};
 ghost use Rattle.records.specs.Sets.{has, one, union, only, unionOf, members};
 ghost use Rattle.worlds.specs.Over.{entry};
-ghost use Rattle.worlds.specs.Discretion.{near, cliqueBy, looseBy, Heads, LooseParts};
+ghost use Rattle.worlds.specs.Discretion.{near, cliqueBy, looseBy, Component, HeadsBy, Renewed, LooseParts};
 
 // At each person all to whom one of these edges leads, with the person.
 fn neighbours(pairs: &[u64; 64], edges: u64) -> [u64; 64]
@@ -55,33 +53,60 @@ fn loose(lead: &[u64; 64], set: u64) -> bool
     }
 }
 
-// The lowest persons of the classes at discretion, with the class of each in `parts`.
-fn heads(classes: &[u64; 64], lead: &[u64; 64], persons: u64, parts: &mut [u64; 64]) -> u64
-    ensures { λ r. ⌜ Heads (looseBy (entry (now (lead .entry)))) persons (now (classes .entry)) r (now (parts .exit)) ⌝ }
+// All to whom a person is led, also through others.
+fn component(lead: &[u64; 64], p: usize) -> u64
+    requires { ⌜ p < 64 ⌝ }
+    ensures { λ r. ⌜ Component (now (lead .entry)) p r ⌝ }
+{
+    let mut part = bit(p as u8);
+    loop {
+        let next = part | gather(lead, part);
+        if next == part {
+            return part;
+        }
+        part = next;
+    }
+}
+
+// The lowest persons of the components at discretion, and those of them whose component the table did not have yet.
+pub struct Parted {
+    pub heads: u64,
+    pub fresh: u64,
+}
+
+// The components of these persons that are at discretion, each put into the table at its lowest person.
+fn heads(lead: &[u64; 64], persons: u64, parts: &mut [u64; 64]) -> Parted
+    ensures heads { λ r. ⌜ HeadsBy (now (lead .entry)) persons (r .heads) (now (parts .exit)) ⌝ }
+    ensures fresh { λ r. ⌜ Renewed (r .heads) (r .fresh) (now (parts .entry)) (now (parts .exit)) ⌝ }
 {
     whole(*parts);
     let mut found: u64 = 0;
+    let mut fresh: u64 = 0;
     let mut m = persons;
     while m != 0 {
         let p = low(m);
-        let class = classes[p];
+        let class = component(lead, p);
         if loose(lead, class) {
-            parts[p] = class;
             found = found | bit(p as u8);
+            if parts[p] != class {
+                parts[p] = class;
+                fresh = fresh | bit(p as u8);
+            }
         }
         m = minus(others(m), class);
     }
-    found
+    Parted {
+        heads: found,
+        fresh: fresh,
+    }
 }
 
 // The components by these edges that are at discretion, by their lowest persons.
-pub fn loose_parts(pairs: &[u64; 64], edges: u64, parts: &mut [u64; 64]) -> u64
-    ensures { λ r. ⌜ LooseParts (now (pairs .entry)) edges r (now (parts .exit)) ⌝ }
+pub fn loose_parts(pairs: &[u64; 64], edges: u64, parts: &mut [u64; 64]) -> Parted
+    ensures parts { λ r. ⌜ LooseParts (now (pairs .entry)) edges (r .heads) (now (parts .exit)) ⌝ }
+    ensures fresh { λ r. ⌜ Renewed (r .heads) (r .fresh) (now (parts .entry)) (now (parts .exit)) ⌝ }
 {
     let persons = gather(pairs, edges);
     let lead = neighbours(pairs, edges);
-    let mut classes = [0u64; 64];
-    alone(&mut classes, persons);
-    join_pairs(&mut classes, pairs, edges, persons);
-    heads(&classes, &lead, persons, parts)
+    heads(&lead, persons, parts)
 }

@@ -24,11 +24,11 @@ ghost use Rattle.worlds.specs.Settled.{Settles};
 // All that a world says by sets: marks, cuts, attachments, bars, statuses. The notes take its components at discretion, and what blocks and
 // clashes is added to them.
 pub fn settle(t: &Tables, common: Common, active: Active, noted: &mut Noted) -> Settled
-    ensures { λ r. ⌜ Settles (now (t .entry)) common active r (getD (now (noted .exit)) 0 []) (getD (now (noted .entry)) 1 []) (getD (now (noted .exit)) 1 []) (getD (now (noted .entry)) 2 []) (getD (now (noted .exit)) 2 []) ⌝ }
+    ensures { λ r. ⌜ Settles (now (t .entry)) common active r (getD (now (noted .entry)) 0 []) (getD (now (noted .exit)) 0 []) (getD (now (noted .entry)) 1 []) (getD (now (noted .exit)) 1 []) (getD (now (noted .entry)) 2 []) (getD (now (noted .exit)) 2 []) ⌝ }
 {
     whole_notes(*noted);
-    let heads = loose_parts(&t[PAIRS], active.frozen & common.base, &mut noted[PARTS]);
-    let loose = gather(&noted[PARTS], heads);
+    let parted = loose_parts(&t[PAIRS], active.frozen & common.base, &mut noted[PARTS]);
+    let loose = gather(&noted[PARTS], parted.heads);
     let discretion = gather(&t[SPREAD], loose);
     let cuts = settle_cuts(t, active, noted);
     let marks = discretion | cuts.overlap;
@@ -36,7 +36,8 @@ pub fn settle(t: &Tables, common: Common, active: Active, noted: &mut Noted) -> 
     let attached = minus(gather(&t[MOVERS], moved), marks);
     let barring = meeting(&t[BARS], active.bars, !attached);
     Settled {
-        heads: heads,
+        heads: parted.heads,
+        fresh: parted.fresh,
         discretion: discretion,
         overlap: cuts.overlap,
         applied: cuts.applied,

@@ -76,10 +76,12 @@ pub struct Active {
     pub decisions: u64,
 }
 
-// What a world settles by sets: the lowest persons of the components at discretion; the marks; the applied cuts; the attachments that were not
-// skipped, and whom they attached; the bars that hold, and whom they bar; whom a status excludes.
+// What a world settles by sets: the lowest persons of the components at discretion, and those of them who had another component noted before;
+// the marks; the applied cuts; the attachments that were not skipped, and whom they attached; the bars that hold, and whom they bar; whom a
+// status excludes.
 pub struct Settled {
     pub heads: u64,
+    pub fresh: u64,
     pub discretion: u64,
     pub overlap: u64,
     pub applied: u64,

@@ -7,7 +7,7 @@ use Rattle.records.specs.Sets.{has, union, only, lowest}
 use Rattle.worlds.specs.Over.{entry}
 use Rattle.worlds.specs.Citing.{CitesIn, far, through}
 use Rattle.worlds.proofs.CiteLaws.{Left, left-all, left-next, left-none}
-use Rattle.worlds.proofs.CiteTurns.{far-other, far-same, ends-cite, ends-added, ends-none}
+use Rattle.worlds.proofs.CiteTurns.{far-other, far-same, ends-cite, ends-added, ends-idle, ends-none}
 use Rattle.worlds.proofs.cite.cite_cuts.Statement.{statement}
 use Rattle.worlds.proofs.cite.cite_cuts.Tie as tie
 
@@ -51,35 +51,23 @@ others-requires c κs = c .before .if1 .taken
 low-requires-3 : tie.Need-low-requires-3 Inv-loop μ-loop
 low-requires-3 c κs = c .if2 .taken
 
-cast-bit : tie.Need-cast-bit Inv-loop μ-loop
-cast-bit c = omega (arith, c .before .before .low2 .ensures .1)
+mul-near : tie.Need-mul-near Inv-loop μ-loop
+mul-near c = omega (arith, c .before .before .low2 .ensures .1)
 
-bit-requires : tie.Need-bit-requires Inv-loop μ-loop
-bit-requires c κs = c .before .before .low2 .ensures .1
+element-copy-out-near : tie.Need-element-copy-out-near Inv-loop μ-loop
+element-copy-out-near c = c .before .before .low2 .ensures .1
 
-mul-cite-at : tie.Need-mul-cite-at Inv-loop μ-loop
-mul-cite-at c = omega (arith, far-end (c .before .before) .1)
+mul-far : tie.Need-mul-far Inv-loop μ-loop
+mul-far c = omega (arith, far-end (c .before .before) .1)
 
-element-copy-out-cite-at : tie.Need-element-copy-out-cite-at Inv-loop μ-loop
-element-copy-out-cite-at c = far-end (c .before .before) .1
+element-copy-out-far : tie.Need-element-copy-out-far Inv-loop μ-loop
+element-copy-out-far c = far-end (c .before .before) .1
 
-cite-at-requires : tie.Need-cite-at-requires Inv-loop μ-loop
-cite-at-requires c κs = tt
+cite-one-requires : tie.Need-cite-one-requires Inv-loop μ-loop
+cite-one-requires c κs = c .before .before .before .before .before .before .before .low2 .ensures .1
 
-cast-bit-2 : tie.Need-cast-bit-2 Inv-loop μ-loop
-cast-bit-2 c = omega (arith, far-end (c .before .before .before .before .before) .1)
-
-bit-requires-2 : tie.Need-bit-requires-2 Inv-loop μ-loop
-bit-requires-2 c κs = far-end (c .before .before .before .before .before) .1
-
-mul-cite-at-2 : tie.Need-mul-cite-at-2 Inv-loop μ-loop
-mul-cite-at-2 c = omega (arith, c .before .before .before .before .before .before .before .before .low2 .ensures .1)
-
-element-copy-out-cite-at-2 : tie.Need-element-copy-out-cite-at-2 Inv-loop μ-loop
-element-copy-out-cite-at-2 c = c .before .before .before .before .before .before .before .before .low2 .ensures .1
-
-cite-at-requires-2 : tie.Need-cite-at-requires-2 Inv-loop μ-loop
-cite-at-requires-2 c κs = tt
+cite-one-requires-2 : tie.Need-cite-one-requires-2 Inv-loop μ-loop
+cite-one-requires-2 c κs = far-end (c .before .before .before .before .before .before .before) .1
 
 others-requires-2 : tie.Need-others-requires-2 Inv-loop μ-loop
 others-requires-2 c κs = c .before .before .before .loop-test .taken
@@ -88,6 +76,7 @@ loop-less : tie.Need-loop-less Inv-loop μ-loop
 loop-less c = c .others2 .ensures .1
 
 loop-again : tie.Need-loop-again Inv-loop μ-loop
+unfolding union
 loop-again c = let l = c .before .before .before .before .before in
     let args = l .before .args in
     let bs = args .blocks .now in
@@ -98,9 +87,13 @@ loop-again c = let l = c .before .before .before .before .before in
     let added : CitesIn bs (ends-cite pair (entry own)) (l .loop .cited) next =
     ⊎-elim (λ w.
     let f = far-end (record { before = record { before = record { before = record { before = c .before .before; if1 = w .0 }; low2 = w .1 }; others = w .2 }; if2 = w .3 }) in
-    subst (CitesIn bs (ends-cite pair (entry own)) (l .loop .cited)) (sym (w .13))
-    (ends-added bs pair (entry own) (w .1 .result) (w .3 .r) (w .4 .result) (w .9 .result) (w .1 .ensures .0) (f .0) (w .4 .ensures) (w .9 .ensures) (w .8 .ensures) (w .12 .ensures)))
-    (λ w. subst (CitesIn bs (ends-cite pair (entry own)) (l .loop .cited)) (sym (w .1)) (ends-none bs pair (entry own) (l .loop .cited) (w .0 .left)))
+    subst (CitesIn bs (ends-cite pair (entry own)) (l .loop .cited)) (sym (w .12))
+    (ends-added bs pair (entry own) (w .1 .result) (w .3 .r) (w .1 .ensures .0) (f .0) (w .9 .ensures) (w .11 .ensures)))
+    (⊎-elim (λ w.
+    let f = far-end (record { before = record { before = record { before = record { before = c .before .before; if1 = w .0 }; low2 = w .1 }; others = w .2 }; if2 = w .3 }) in
+    subst (CitesIn bs (ends-cite pair (entry own)) (l .loop .cited)) (sym (w .8))
+    (ends-idle bs pair (entry own) (w .1 .result) (w .3 .r) (l .loop .cited) (w .1 .ensures .0) (f .0) (w .7 .left)))
+    (λ w. subst (CitesIn bs (ends-cite pair (entry own)) (l .loop .cited)) (sym (w .1)) (ends-none bs pair (entry own) (l .loop .cited) (w .0 .left))))
     (c .before .if1 .came) in
     left-next next (c .others2 .result) (e .result) (l .loop .inv) (e .ensures .0) (c .others2 .ensures .0) added
 
@@ -121,16 +114,12 @@ cite-cuts-spec =
     low-requires-2
     others-requires
     low-requires-3
-    cast-bit
-    bit-requires
-    mul-cite-at
-    element-copy-out-cite-at
-    cite-at-requires
-    cast-bit-2
-    bit-requires-2
-    mul-cite-at-2
-    element-copy-out-cite-at-2
-    cite-at-requires-2
+    mul-near
+    element-copy-out-near
+    mul-far
+    element-copy-out-far
+    cite-one-requires
+    cite-one-requires-2
     others-requires-2
     loop-less
     loop-again

@@ -1,11 +1,10 @@
 -- `cite::own_citations`: with the cuts left, each person has the citations of all the cuts that hold the person.
-use mathlib.Core.Path.{_≡_, sym, ap, _∙_}
+use mathlib.Core.Path.{_≡_, refl, sym, ap, _∙_}
 use Prim.Native.Nat.{ℕ}
 use native.Mathlib.Omega.{arith}
 use borrow.Author.Needs.{needs}
 use Rattle.records.specs.Sets.{has, union, only, members}
-use Rattle.expressions.proofs.ListLaws.{filled-at}
-use Rattle.expressions.proofs.UnionLaws.{none-union, union-first, union-end}
+use Rattle.expressions.proofs.UnionLaws.{union-first, union-end}
 use Rattle.worlds.specs.Over.{entry}
 use Rattle.worlds.specs.Tables.{row}
 use Rattle.worlds.specs.Citing.{ownOf}
@@ -15,14 +14,13 @@ use Rattle.worlds.proofs.cite.own_citations.Statement.{statement}
 use Rattle.worlds.proofs.cite.own_citations.Tie as tie
 
 abbrev Inv-loop : tie.InvT-loop
-Inv-loop t applied own₀ m₀ own m = (p : ℕ) → union (entry own p) (ownOf t m p) ≡ ownOf t applied p
+Inv-loop t applied own₀ m₀ own m = (p : ℕ) → union (entry own p) (ownOf t m p) ≡ union (entry own₀ p) (ownOf t applied p)
 
 abbrev μ-loop : tie.MeasureT-loop
 μ-loop t applied own₀ m₀ own m = m
 
 loop-holds : tie.Need-loop-holds Inv-loop μ-loop
-unfolding ownOf
-loop-holds c = λ p. ap (λ (x : ℕ). union x (ownOf (c .args .t .now) (c .args .applied) p)) (filled-at 64 p 0) ∙ none-union (ownOf (c .args .t .now) (c .args .applied) p)
+loop-holds c = λ p. refl
 
 low-requires : tie.Need-low-requires Inv-loop μ-loop
 low-requires c κs = c .loop-test .taken

@@ -1,52 +1,69 @@
--- `discretion::heads`: what is found while some are left is the whole at the end.
-use mathlib.Core.Path.{_≡_, sym, ap, _∙_, subst}
+-- `discretion::heads`: what is found while some are left is the whole at the end; the table changes at fresh heads alone.
+use mathlib.Core.Path.{_≡_, refl, sym, ap, _∙_, subst}
+use mathlib.Core.List.{List}
 use mathlib.Core.Logic.{⊎-elim}
-use Prim.Native.Nat.{ℕ, _<_}
+use Prim.Native.Nat.{ℕ, _<_, _^_}
+use native.Mathlib.Nat.{lt-trans}
 use native.Mathlib.Omega.{arith}
 use lib.ListN.{length, length-set}
+use lib.Seq.{getD-set-same, getD-set-other}
 use Rattle.records.specs.Sets.{union, minus}
 use Rattle.worlds.specs.Over.{entry}
-use Rattle.worlds.specs.Discretion.{looseBy}
+use Rattle.worlds.specs.Discretion.{looseBy, joinedTo, Leads, Renewed}
 use Rattle.worlds.proofs.OverLaws.{turn-has}
 use Rattle.worlds.proofs.LooseLaws.{Found, found-none, found-all, found-as, found-in, found-out, left-less}
+use Rattle.worlds.proofs.ComponentLaws.{renewed-none, renewed-as, renewed-same, renewed-more}
 use Rattle.worlds.proofs.discretion.heads.Statement.{statement}
 use Rattle.worlds.proofs.discretion.heads.Tie as tie
 
 abbrev Inv-loop : tie.InvT-loop
-Inv-loop classes lead persons parts₀ found₀ m₀ parts found m = (length parts ≡ 64) × Found (looseBy (entry lead)) persons classes m found parts
+Inv-loop lead persons parts₀ found₀ fresh₀ m₀ parts found fresh m =
+    (m < 2 ^ 64) × (length parts ≡ 64) × Renewed found fresh parts₀ parts
+    × ((pairs : List ℕ) (edges : ℕ) → Leads lead pairs edges → Found (looseBy (entry lead)) persons (joinedTo pairs edges) m found parts)
 
 abbrev μ-loop : tie.MeasureT-loop
-μ-loop classes lead persons parts₀ found₀ m₀ parts found m = m
+μ-loop lead persons parts₀ found₀ fresh₀ m₀ parts found fresh m = m
 
 whole-requires : tie.Need-whole-requires Inv-loop μ-loop
 whole-requires c κs = tt
 
 loop-holds : tie.Need-loop-holds Inv-loop μ-loop
-loop-holds c = (c .whole .ensures, found-none _ _ _ _ (c .before .before .fits .persons .fits))
+loop-holds c =
+    let fits = c .before .before .fits .persons .fits in
+    (fits, c .whole .ensures, renewed-none _, λ pairs edges L. found-none _ _ _ _ fits)
 
 low-requires : tie.Need-low-requires Inv-loop μ-loop
 low-requires c κs = c .loop-test .taken
 
-mul-class : tie.Need-mul-class Inv-loop μ-loop
-mul-class c = omega (arith, c .low .ensures .1)
-
-element-copy-out-class : tie.Need-element-copy-out-class Inv-loop μ-loop
-element-copy-out-class c = c .low .ensures .1
+component-requires : tie.Need-component-requires Inv-loop μ-loop
+component-requires c κs = c .low .ensures .1
 
 loose-requires : tie.Need-loose-requires Inv-loop μ-loop
 loose-requires c κs = tt
-
-mul-parts : tie.Need-mul-parts Inv-loop μ-loop
-mul-parts c = omega (arith, c .before .before .before .low .ensures .1)
-
-element-write-parts : tie.Need-element-write-parts Inv-loop μ-loop
-element-write-parts c = c .before .before .before .low .ensures .1
 
 cast-bit : tie.Need-cast-bit Inv-loop μ-loop
 cast-bit c = omega (arith, c .before .before .before .low .ensures .1)
 
 bit-requires : tie.Need-bit-requires Inv-loop μ-loop
 bit-requires c κs = c .before .before .before .low .ensures .1
+
+mul-if2 : tie.Need-mul-if2 Inv-loop μ-loop
+mul-if2 c = omega (arith, c .before .before .before .before .low .ensures .1)
+
+element-copy-out-if2 : tie.Need-element-copy-out-if2 Inv-loop μ-loop
+element-copy-out-if2 c = c .before .before .before .before .low .ensures .1
+
+mul-parts : tie.Need-mul-parts Inv-loop μ-loop
+mul-parts c = omega (arith, c .before .before .before .before .before .before .low .ensures .1)
+
+element-write-parts : tie.Need-element-write-parts Inv-loop μ-loop
+element-write-parts c = c .before .before .before .before .before .before .low .ensures .1
+
+cast-bit-2 : tie.Need-cast-bit-2 Inv-loop μ-loop
+cast-bit-2 c = omega (arith, c .before .before .before .before .before .before .low .ensures .1)
+
+bit-requires-2 : tie.Need-bit-requires-2 Inv-loop μ-loop
+bit-requires-2 c κs = c .before .before .before .before .before .before .low .ensures .1
 
 others-requires : tie.Need-others-requires Inv-loop μ-loop
 others-requires c κs = c .before .before .before .before .loop-test .taken
@@ -57,36 +74,62 @@ minus-requires c κs = tt
 loop-less : tie.Need-loop-less Inv-loop μ-loop
 loop-less c =
     let l = c .before .before .before .before .before .before .before in
-    subst (λ (x : ℕ). x < l .loop .m) (sym (c .minus .ensures)) (left-less (l .loop .m) (c .before .others .result) _ (l .loop .inv .1 .few) (c .before .others .ensures .1))
+    subst (λ (x : ℕ). x < l .loop .m) (sym (c .minus .ensures)) (left-less (l .loop .m) (c .before .others .result) _ (l .loop .inv .0) (c .before .others .ensures .1))
 
 loop-again : tie.Need-loop-again Inv-loop μ-loop
 unfolding union
 loop-again c =
     let l = c .before .before .before .before .before .before .before in
     let a = l .before .before .before .args in
-    let low = c .before .before .before .before .before .low in
+    let i = l .loop .inv in
     let o = c .before .others in
     let test = c .before .before .before .loose in
-    let class : ℕ = entry (a .classes .now) (low .result) in
-    let f = l .loop .inv .1 in
-    let turn = turn-has _ _ _ (f .few) (low .ensures) (o .ensures) in
+    let comp = c .before .before .before .before .component in
+    let low = c .before .before .before .before .before .low in
+    let t = low .result in
+    let ps = l .loop .parts in
+    let class = comp .result in
+    let turn = turn-has _ _ _ (i .0) (low .ensures) (o .ensures) in
+    let fits = lt-trans (left-less (l .loop .m) (o .result) class (i .0) (o .ensures .1)) (i .0) in
+    let less : c .minus .result < 2 ^ 64 = subst (λ (x : ℕ). x < 2 ^ 64) (sym (c .minus .ensures)) fits in
     ⊎-elim
     (λ w. (
-      ap length (w .2) ∙ length-set (l .loop .parts) (low .result) class ∙ l .loop .inv .0,
-      found-as (c .minus .ensures) (w .3 ∙ ap (union (l .loop .found)) (w .1 .ensures)) (w .2)
-          (found-in (looseBy (entry (a .lead .now))) (a .persons) (a .classes .now) (l .loop .m) (o .result) (low .result) (l .loop .found) (l .loop .parts) turn (o .ensures .1) f
-          (sym (test .ensures) ∙ w .0 .taken) (omega (arith, low .ensures .1, l .loop .inv .0))),
+      less,
+      ap length (w .5) ∙ length-set ps t class ∙ i .1,
+      renewed-as (w .6 ∙ ap (union (l .loop .found)) (w .1 .ensures)) (w .7 ∙ ap (union (l .loop .fresh)) (w .4 .ensures)) (w .5)
+          (renewed-more _ _ t _ ps (i .2) _ (λ p n. getD-set-other ps t p class 0 n)),
+      λ pairs edges L.
+          let is = comp .ensures .at pairs edges L in
+          found-as (c .minus .ensures ∙ ap (minus (o .result)) is) (w .6 ∙ ap (union (l .loop .found)) (w .1 .ensures)) (w .5)
+          (found-in (looseBy (entry (a .lead .now))) (a .persons) (joinedTo pairs edges) (l .loop .m) (o .result) t (l .loop .found) ps turn (o .ensures .1) (i .3 pairs edges L) _ (ap (looseBy (entry (a .lead .now))) (sym is) ∙ sym (test .ensures) ∙ w .0 .taken)
+          (getD-set-same ps t class 0 (omega (arith, low .ensures .1, i .1)) ∙ is) (λ p n. getD-set-other ps t p class 0 n)),
+    ))
+    (⊎-elim
+    (λ w. (
+      less,
+      ap length (w .4) ∙ i .1,
+      renewed-as (w .5 ∙ ap (union (l .loop .found)) (w .1 .ensures)) (w .6) (w .4) (renewed-same _ _ t _ ps (i .2)),
+      λ pairs edges L.
+          let is = comp .ensures .at pairs edges L in
+          found-as (c .minus .ensures ∙ ap (minus (o .result)) is) (w .5 ∙ ap (union (l .loop .found)) (w .1 .ensures)) (w .4)
+          (found-in (looseBy (entry (a .lead .now))) (a .persons) (joinedTo pairs edges) (l .loop .m) (o .result) t (l .loop .found) ps turn (o .ensures .1) (i .3 pairs edges L) ps (ap (looseBy (entry (a .lead .now))) (sym is) ∙ sym (test .ensures) ∙ w .0 .taken) (w .3 .left ∙ is) (λ p n. refl)),
     ))
     (λ w. (
-      ap length (w .1) ∙ l .loop .inv .0,
-      found-as (c .minus .ensures) (w .2) (w .1)
-          (found-out (looseBy (entry (a .lead .now))) (a .persons) (a .classes .now) (l .loop .m) (o .result) (low .result) (l .loop .found) (l .loop .parts) turn (o .ensures .1) f
-          (sym (test .ensures) ∙ w .0 .left)),
-    ))
+      less,
+      ap length (w .1) ∙ i .1,
+      renewed-as (w .2) (w .3) (w .1) (i .2),
+      λ pairs edges L.
+          let is = comp .ensures .at pairs edges L in
+          found-as (c .minus .ensures ∙ ap (minus (o .result)) is) (w .2) (w .1)
+          (found-out (looseBy (entry (a .lead .now))) (a .persons) (joinedTo pairs edges) (l .loop .m) (o .result) t (l .loop .found) ps turn (o .ensures .1) (i .3 pairs edges L)
+          (ap (looseBy (entry (a .lead .now))) (sym is) ∙ sym (test .ensures) ∙ w .0 .left)),
+    )))
     (c .before .before .if1 .came)
 
 returns : tie.Need-returns Inv-loop μ-loop
-returns c = found-all _ _ _ _ _ _ (c .loop-test .left) (c .before .loop .inv .1)
+returns c =
+    let i = c .before .loop .inv in
+    (record { at = λ pairs edges L. found-all _ _ _ _ _ _ (c .loop-test .left) (i .3 pairs edges L) }, i .2)
 
 pub heads-spec : {M : Type 1} → statement M
 heads-spec =
@@ -97,13 +140,16 @@ heads-spec =
     whole-requires
     loop-holds
     low-requires
-    mul-class
-    element-copy-out-class
+    component-requires
     loose-requires
-    mul-parts
-    element-write-parts
     cast-bit
     bit-requires
+    mul-if2
+    element-copy-out-if2
+    mul-parts
+    element-write-parts
+    cast-bit-2
+    bit-requires-2
     others-requires
     minus-requires
     loop-less

@@ -88,7 +88,8 @@ returns c =
     settles (a .t .now) (a .common) (a .active) (a .noted .now) (cuts .settle-cuts .last .1 .1 .0) _ (cuts .settle-cuts .result) (seed .gather .result) (left .minus .result) (moving .gather3 .result) _
     (notes .whole-notes .ensures)
     (record {
-      components = parts .loose-parts .ensures;
+      components = parts .loose-parts .ensures .0;
+      renewed = parts .loose-parts .ensures .1;
       seed = seed .gather .ensures;
       discretion = discretion .gather2 .ensures;
       cuts = cuts .settle-cuts .ensures .0;
