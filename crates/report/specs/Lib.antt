@@ -1,5 +1,6 @@
 pub mod Line
 pub mod LineAt
+pub mod Units
 pub mod EventList
 pub mod Operations
 pub mod Written
