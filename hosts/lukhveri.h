@@ -34,7 +34,7 @@ extern "C" {
 #define LUKHVERI_LINE_KIND 1
 #define LUKHVERI_LINE_ROLE 2
 #define LUKHVERI_LINE_BLOCK 3           /* 8 bytes: everyone counted together, the person too; 0 where it is open */
-#define LUKHVERI_LINE_OPEN_FACTS 11     /* 8 bytes: facts that could still change the line */
+#define LUKHVERI_LINE_OPEN_FACTS 11     /* 8 bytes: open facts whose influence holds the person */
 #define LUKHVERI_LINE_OPEN_DECISIONS 19 /* 2 bytes: unresolved decisions that could, by cut, then edge */
 #define LUKHVERI_LINE_CITATIONS 21      /* 8 bytes: citations of the rules that made the block */
 
@@ -113,10 +113,9 @@ extern "C" {
  * base-chain citation in the plan's heading there are none of kind 9. */
 #define LUKHVERI_MOST_EVENTS_LENGTH ((1368 + 21 * LUKHVERI_WORLDS) * LUKHVERI_EVENT)
 
-/* Bytes of stack that a call may take when so many events are lent. Measured: 138,792 bytes, or where there are many events of kind 9,
- * 98,072 bytes and 128 for each of them. 4,096 events need 672 KB at most; all that there can be need 11 MB, more than most threads have. The
- * time, too, grows with the square of the events of kind 9: 4,095 take 0.3 s, 16,380 take 5 s. */
-#define LUKHVERI_STACK(events) ((size_t)160 * 1024 + (size_t)128 * (events))
+/* Bytes of stack that are enough for a call, whatever is lent: measured @STACK@. The time grows with the square of the events of kind 9:
+ * @TIMES@. */
+#define LUKHVERI_STACK (256 * 1024)
 
 /* Checks a plan. */
 uint8_t lukhveri_check(const uint8_t *plan, size_t plan_length, uint64_t told[LUKHVERI_TOLD]);

@@ -49,7 +49,7 @@
 //! ```
 //!
 //! [`answer_into`] and [`show_into`] work in buffers that the caller lends and allocate nothing; [`Buffers`] keeps such buffers for many calls.
-//! Calls from several threads are independent. A call takes up to 672 KB of its thread's stack ([`stack_length`]).
+//! Calls from several threads are independent. A call takes less than 256 KB of its thread's stack ([`STACK`]).
 
 #![deny(unsafe_code)]
 #![cfg_attr(
@@ -87,8 +87,8 @@ pub use event::{EVENT, Event, Evidence};
 pub use handles::{BooleanId, CutId, EdgeId, FactId, NodeId, RelationId};
 pub use line::{LINE, Line, LineKind, Role};
 pub use operations::{
-    Answer, Answered, Buffers, EVENTS_LENGTH, LINES_LENGTH, MOST_EVENTS_LENGTH, answer,
-    answer_into, check, show, show_into, stack_length,
+    Answer, Answered, Buffers, EVENTS_LENGTH, LINES_LENGTH, MOST_EVENTS_LENGTH, STACK, answer,
+    answer_into, check, show, show_into,
 };
 pub use persons::{Numbers, Persons};
 pub use plan::Plan;

@@ -111,12 +111,12 @@ impl Line {
         bytes
     }
 
-    /// The facts that could still change the line, by their numbers in the plan's file.
+    /// The open facts whose influence holds the person, by their numbers in the plan's file.
     pub fn open_facts(&self) -> Numbers {
         Numbers::of(self.open_facts)
     }
 
-    /// The unresolved decisions that could still change the line, by their places in [`Plan::decisions`](crate::Plan::decisions).
+    /// The unresolved decisions whose influence holds the person, by their places in [`Plan::decisions`](crate::Plan::decisions).
     pub fn open_decisions(&self) -> Numbers {
         Numbers::of(u64::from(self.open_decisions))
     }

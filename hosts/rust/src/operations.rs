@@ -15,14 +15,11 @@ pub const EVENTS_LENGTH: usize = 4096 * EVENT;
 
 /// Bytes that hold the events of every case. Kinds 1 to 8 have at most 64 + 16 + 1,024 + 120 + 32 + 32 + 32 + 48 events; kind 9 at most 21
 /// in a world, since a component that is left to discretion has three persons or more, and there are at most 4,096 worlds.
-/// The time of a call grows with the square of the events of kind 9: 4,095 events took 0.3 s, 16,380 took 5 s.
+/// The time of a call grows with the square of the events of kind 9: @TIMES@.
 pub const MOST_EVENTS_LENGTH: usize = (1368 + 21 * 4096) * EVENT;
 
-/// Bytes of stack that a call takes when so many bytes are lent for events: 160 KB, and 128 bytes for each event. A call on the caller's
-/// thread with [`EVENTS_LENGTH`] takes 672 KB at most.
-pub const fn stack_length(events_length: usize) -> usize {
-    160 * 1024 + events_length / EVENT * 128
-}
+/// Bytes of stack that are enough for a call, whatever is lent.
+pub const STACK: usize = 256 * 1024;
 
 /// Checks a plan.
 pub fn check(plan: &[u8]) -> Result<(), Refusal> {
@@ -166,8 +163,8 @@ impl Buffers {
         answered(&told, plan, case, &self.lines, &self.events)
     }
 
-    /// Lends room for 4,096 events; if that is too short, for all that there can be, on a thread with stack for them.
-    fn ask(&mut self, call: impl Fn(&mut [u8], &mut [u8]) -> Told + Sync) -> Told {
+    /// Lends room for 4,096 events; if that is too short, for all that there can be.
+    fn ask(&mut self, call: impl Fn(&mut [u8], &mut [u8]) -> Told) -> Told {
         let length = EVENTS_LENGTH.min(self.events.len());
         let (first, _) = self.events.split_at_mut(length);
         let told = call(&mut self.lines, first);
@@ -175,21 +172,11 @@ impl Buffers {
             return told;
         }
         self.events.resize(MOST_EVENTS_LENGTH, 0);
-        let (lines, events) = (&mut self.lines, &mut self.events);
-        on_large_stack(|| call(lines, events)).unwrap_or(told)
+        call(&mut self.lines, &mut self.events)
     }
 }
 
-/// None where no such thread can be had: the first refusal, 13, then stands.
-fn on_large_stack(call: impl FnOnce() -> Told + Send) -> Option<Told> {
-    let size = stack_length(MOST_EVENTS_LENGTH);
-    std::thread::scope(|scope| {
-        let thread = std::thread::Builder::new().stack_size(size).spawn_scoped(scope, call);
-        thread.ok()?.join().ok()
-    })
-}
-
-/// Answers a case. There is always room: no refusal 12, and 13 only where a thread with a large stack was needed and could not be had.
+/// Answers a case. There is always room: no refusal 12 and no 13.
 pub fn answer(plan: &[u8], case: &[u8]) -> Result<Answer, Refusal> {
     Buffers::new().answer(plan, case).map(|answered| answered.to_answer())
 }

@@ -7,7 +7,7 @@ use std::sync::atomic::{AtomicUsize, Ordering};
 use std::sync::mpsc::{SyncSender, sync_channel};
 use std::thread;
 
-use lukhveri::{Buffers, EVENTS_LENGTH, stack_length};
+use lukhveri::{Buffers, STACK};
 
 use crate::cases::{CaseFile, Rows};
 
@@ -25,7 +25,7 @@ pub fn answer_all(
     thread::scope(|scope| {
         for number in 0..count {
             let (next, sender) = (&next, sender.clone());
-            let stack = stack_length(EVENTS_LENGTH) + (1 << 20);
+            let stack = STACK + (1 << 20);
             let work = move || work(plan, cases, next, &sender);
             match thread::Builder::new().stack_size(stack).spawn_scoped(scope, work) {
                 Err(error) if number == 0 => return Err(error),
