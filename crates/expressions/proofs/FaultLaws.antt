@@ -1,11 +1,13 @@
 -- Laws of faults that a record has beside the earlier ones, for families and booleans alike. Assumes nothing.
 use mathlib.Core.Path.{_≡_, refl, sym, ap, ap₂, _∙_}
 use mathlib.Core.Bool.{Bool, true, false, _||_, not, cond, or-comm}
-use mathlib.Core.List.{List, [], _∷_, map}
+use mathlib.Core.List.{List, [], _∷_, _++_, map}
 use Prim.Native.Nat.{ℕ, zero, suc, _+_, _≤_, _<_, min}
 use native.Mathlib.Nat.{add-zero}
+use native.Mathlib.Numerals.{add-one}
 use native.Mathlib.Omega.{arith}
-use lib.ListN.{length, getD, take, drop}
+use lib.ListN.{length, getD, take, drop, set}
+use lib.Seq.{take-suc-set}
 use lib.Dec.{eqb}
 use borrow.Author.Tests.{not-true, not-false}
 use Rattle.records.specs.Sets.{anyOf}
@@ -197,3 +199,17 @@ bindable-first C first r e h =
 pub bindable-rest : (C : paper.Case) (k : ℕ) (r : Checked) → k ≡ paper.booleansAt C → r ≡ checkedOf (firstFault k (booleanFaults [] (C .booleans)) passed) → r ≡ booleansChecked C
 bindable-rest C k r e h =
     h ∙ ap (λ (k : ℕ). checkedOf (firstFault k (booleanFaults [] (C .booleans)) passed)) e ∙ fault-any (paper.booleansAt C) (booleanFaults [] (C .booleans)) 0 C
+
+-- ---- the numbers that came before, in an array of their own
+
+pub any-numbers : {A B : Type 0} (g : A → ℕ) (h : A → B) (k : B → ℕ) → ((x : A) → k (h x) ≡ g x) → (v : ℕ) (xs : List A)
+    → anyOf (λ (e : ℕ). eqb e v) (map g xs) ≡ anyOf (λ (e : B). eqb (k e) v) (map h xs)
+unfolding anyOf
+any-numbers g h k same v [] = refl
+any-numbers g h k same v (x ∷ xs) = ap₂ _||_ (ap (λ (j : ℕ). eqb j v) (sym (same x))) (any-numbers g h k same v xs)
+
+pub numbers-next : {A : Type 0} (g : A → ℕ) (xs : List A) (earlier : List ℕ) (i : ℕ) (d : A) → i < length earlier → i < length xs → take i earlier ≡ map g (take i xs)
+    → take (i + 1) (set earlier i (g (getD xs i d))) ≡ map g (take (i + 1) xs)
+numbers-next g xs earlier i d h k e =
+    ap (λ (n : ℕ). take n (set earlier i (g (getD xs i d)))) (add-one i) ∙ take-suc-set earlier i (g (getD xs i d)) h
+    ∙ ap (λ (l : List ℕ). l ++ (g (getD xs i d) ∷ [])) e ∙ sym (front-more g xs i d k)
