@@ -20,7 +20,7 @@ use Rattle.records.specs.declared.case.Boolean.{Boolean}
 use Rattle.records.proofs.LoopLaws.{length-below}
 use Rattle.records.specs.Decoded.{booleanOf, observationsOf}
 use Rattle.expressions.specs.Bindings.{familyFaults, booleanFault, booleanFaults, bindable}
-use Rattle.expressions.proofs.ListLaws.{front-more, any-go, any-stop, any-last}
+use Rattle.expressions.proofs.ListLaws.{front-more, any-last}
 use Rattle.expressions.proofs.Rests.{made-next, made-none}
 
 -- ---- one of a list
@@ -31,22 +31,6 @@ any-more : {A B : Type 0} (p : B → Bool) (g : A → B) (xs : List A) (i : ℕ)
 unfolding anyOf
 any-more p g xs i d h =
     ap (anyOf p) (front-more g xs i d h) ∙ any-last p (map g (take i xs)) (g (getD xs i d)) ∙ or-comm (anyOf p (map g (take i xs))) (p (g (getD xs i d)))
-
--- a search through a made list
-module _ {A B : Type 0} (p : B → Bool) (g : A → B) (xs : List A) (n i : ℕ) where
-  abbrev pub anyFrom : ℕ → Bool
-  anyFrom k = anyOf p (drop k (map g (take n xs)))
-
-  pub any-end : min n (length xs) ≤ i → anyFrom i ≡ false
-  unfolding anyOf
-  any-end h = ap (anyOf p) (made-none g xs n i h)
-
-  module _ (d : A) (h : i < min n (length xs)) where
-    pub any-here : p (g (getD xs i d)) ≡ true → anyFrom i ≡ true
-    any-here e = ap (anyOf p) (made-next g xs n i d h) ∙ any-stop p (g (getD xs i d)) (drop (i + 1) (map g (take n xs))) e
-
-    pub any-on : p (g (getD xs i d)) ≡ false → anyFrom i ≡ anyFrom (i + 1)
-    any-on e = ap (anyOf p) (made-next g xs n i d h) ∙ any-go p (g (getD xs i d)) (drop (i + 1) (map g (take n xs))) e
 
 -- ---- the fault of each record: by whether an earlier one is like it, and by itself
 

@@ -1,5 +1,5 @@
 -- `bindings::bound_boolean`: explicit unknown first, then what was seen, then the default. Assumes nothing.
-use mathlib.Core.Path.{_≡_, refl, sym, ap, ap₂, _∙_}
+use mathlib.Core.Path.{ap, _∙_}
 use borrow.Author.Needs.{needs}
 use Rattle.expressions.specs.Seen.{boundBy}
 use Rattle.expressions.specs.Codes.{boundOf}
@@ -26,6 +26,6 @@ bound-boolean-spec =
     tie.close
     (tie.spec
     by-default-requires
-    returns
     weigh-requires
+    returns
     returns-2)
