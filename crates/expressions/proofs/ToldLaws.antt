@@ -1,7 +1,7 @@
 -- What is gathered of a fact binds it as the definitions do, and says whether it took its default. Assumes nothing.
-use mathlib.Core.Path.{_≡_, refl, sym, ap, ap₂, _∙_, subst}
+use mathlib.Core.Path.{_≡_, refl, sym, ap, ap₂, _∙_}
 use mathlib.Core.Bool.{Bool, true, false, _&&_, not, cond, Bool·not-not}
-use mathlib.Core.List.{List, [], _∷_, _++_, map}
+use mathlib.Core.List.{List, [], _∷_, map}
 use Prim.Native.Nat.{ℕ, _<_, min}
 use native.Mathlib.Omega.{arith}
 use lib.ListN.{length, getD, take}
@@ -11,7 +11,7 @@ use Rattle.records.specs.Sets.{has, below}
 use Rattle.records.specs.Plan as paper
 use Rattle.records.specs.Plan.{getFact, isBoolean}
 use Rattle.records.specs.Case.{Case, Family, caseHeading}
-use Rattle.records.specs.Decoded.{noElection, planOf, caseOf, factOf, familyOf, electionOf, booleanOf, relationOf}
+use Rattle.records.specs.Decoded.{noElection, planOf, caseOf, factOf, familyOf, electionOf}
 use Rattle.records.specs.declared.plan.Fact.{Fact}
 use Rattle.records.specs.declared.plan.Plan.{Plan as CodedPlan}
 use Rattle.records.specs.declared.plan.Facts.{Facts}
@@ -21,7 +21,7 @@ use Rattle.records.proofs.NamingLaws.{boolean-of, family-of}
 use Rattle.records.proofs.Listing.{below-ext}
 use Rattle.expressions.specs.Rules.{factCount}
 use Rattle.expressions.specs.Bindings.{Bound, unbound, unknown, observed, saidUnknown, elections, byDefault, defaultOf, scoped, inFamily, boundBoolean, bindingBy, bindingsBy, bindingAt, tookDefaultBy}
-use Rattle.expressions.specs.Seen.{nothing, lookAll, boundBy}
+use Rattle.expressions.specs.Seen.{nothing, boundBy}
 use Rattle.expressions.specs.Codes.{boundOf, silentCode}
 use Rattle.expressions.specs.Told.{Tells, booleanBy, relationBy, bindingFrom, defaultFrom}
 use Rattle.expressions.specs.declared.observations.Seen.{Seen}

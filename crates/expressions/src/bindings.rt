@@ -84,10 +84,8 @@ fn bound_boolean(told: Told) -> u8
 {
     let seen = told.seen;
     let election = told.election;
-    if told.unknown {
-        return 3;
-    }
-    weigh(seen, by_default(election))
+    let silent = by_default(election);
+    if told.unknown { 3 } else { weigh(seen, silent) }
 }
 
 // The roster's scope, 0 where there is no heading.

@@ -1,5 +1,5 @@
 -- `bindings::bound_boolean`: explicit unknown first, then what was seen, then the default. Assumes nothing.
-use mathlib.Core.Path.{_≡_, refl, sym, ap, ap₂, _∙_}
+use mathlib.Core.Path.{ap, _∙_}
 use borrow.Author.Needs.{needs}
 use Rattle.expressions.specs.Seen.{boundBy}
 use Rattle.expressions.specs.Codes.{boundOf}
@@ -7,25 +7,25 @@ use Rattle.expressions.specs.Told.{booleanBy}
 use Rattle.expressions.proofs.bindings.bound_boolean.Statement.{statement}
 use Rattle.expressions.proofs.bindings.bound_boolean.Tie as tie
 
+by-default-requires : tie.Need-by-default-requires
+by-default-requires c κs = search needs
+
 returns : tie.Need-returns
 unfolding booleanBy boundOf
 returns c = rw (c .if1 .taken)
-
-by-default-requires : tie.Need-by-default-requires
-by-default-requires c κs = search needs
 
 weigh-requires : tie.Need-weigh-requires
 weigh-requires c κs = search needs
 
 returns-2 : tie.Need-returns-2
 unfolding booleanBy
-returns-2 c = rw (c .before .before .if1 .left) (c .weigh .ensures ∙ ap (boundBy (c .before .before .before .before .before .args .told .seen)) (c .before .by-default .ensures))
+returns-2 c = rw (c .before .if1 .left) (c .weigh .ensures ∙ ap (boundBy (c .before .before .before .before .before .args .told .seen)) (c .before .before .by-default .ensures))
 
 pub bound-boolean-spec : {M : Type 1} → statement M
 bound-boolean-spec =
     tie.close
     (tie.spec
-    returns
     by-default-requires
     weigh-requires
+    returns
     returns-2)

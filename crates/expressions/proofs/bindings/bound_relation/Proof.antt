@@ -1,5 +1,4 @@
 -- `bindings::bound_relation`: Unknown without a family in scope, else what was seen, else what silence means. Assumes nothing.
-use mathlib.Core.Path.{_≡_, refl, sym, ap, ap₂, _∙_}
 use borrow.Author.Tests.{eq-eqb, ne-eqb}
 use borrow.Author.Needs.{needs}
 use Rattle.expressions.specs.Codes.{boundOf}

@@ -1,5 +1,5 @@
 -- `elections::elect`: the first of the attachments, over it the first of the cuts. Assumes nothing.
-use mathlib.Core.Path.{_≡_, refl, sym, ap, ap₂, _∙_}
+use mathlib.Core.Path.{sym, ap, _∙_}
 use mathlib.Core.List.{List, _++_, map}
 use lib.ListN.{take}
 use borrow.Author.Needs.{needs}

@@ -1,6 +1,6 @@
 -- `observations::look_in_booleans`: what is left of the records from record i on, seen after what was seen, gives the whole, for each fact. Assumes nothing.
 use Prim.Native.Nat.{ℕ, _≤_, _<_, _-_}
-use mathlib.Core.Path.{_≡_, refl, sym, ap, ap₂, _∙_}
+use mathlib.Core.Path.{_≡_, refl, sym, ap, _∙_}
 use mathlib.Core.Bool.{Bool, false, cond}
 use mathlib.Core.Logic.{⊎-elim}
 use mathlib.Core.List.{[], map}
@@ -14,7 +14,7 @@ use Rattle.records.specs.declared.case.Boolean.{Boolean}
 use Rattle.expressions.specs.declared.observations.Seen.{Seen}
 use Rattle.expressions.specs.declared.observations.Sights.{Sights}
 use Rattle.expressions.specs.Bindings.{observedInBooleans}
-use Rattle.expressions.specs.Seen.{nothing, lookAt, lookAll}
+use Rattle.expressions.specs.Seen.{nothing, lookAll}
 use Rattle.expressions.proofs.ListLaws.{changed-at}
 use Rattle.expressions.proofs.SeenLaws.{booleans-next, booleans-none}
 use Rattle.expressions.proofs.observations.look_in_booleans.Statement.{statement}

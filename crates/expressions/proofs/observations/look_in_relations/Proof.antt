@@ -1,6 +1,6 @@
 -- `observations::look_in_relations`: what is left of the records from record i on, seen after what was seen, gives the whole, for each fact. Assumes nothing.
 use Prim.Native.Nat.{ℕ, _≤_, _<_, _-_}
-use mathlib.Core.Path.{_≡_, refl, sym, ap, ap₂, _∙_}
+use mathlib.Core.Path.{_≡_, refl, sym, ap, _∙_}
 use mathlib.Core.Bool.{Bool, cond}
 use mathlib.Core.Logic.{⊎-elim}
 use mathlib.Core.List.{map}
@@ -9,7 +9,7 @@ use lib.Dec.{eqb}
 use lib.ListN.{length, getD, take, drop, length-map, length-set}
 use borrow.Author.Tests.{ne-eqb}
 use borrow.Author.Needs.{needs}
-use Rattle.records.specs.Decoded.{relationOf, observationsOf}
+use Rattle.records.specs.Decoded.{relationOf}
 use Rattle.records.specs.declared.case.Relation.{Relation}
 use Rattle.expressions.specs.declared.observations.Seen.{Seen}
 use Rattle.expressions.specs.declared.observations.Sights.{Sights}
