@@ -5,6 +5,7 @@ use mathlib.Core.List.{List, [], _∷_, _++_, map, flatMap}
 use Prim.Native.Nat.{ℕ, zero, suc, _+_, _*_, _-_, _/_, _%_, _≤_, _<_}
 use native.Mathlib.Omega.{arith}
 use lib.ListN.{length, length-append, length-map, replicate}
+use lib.Seq.{length-take-le}
 use lib.Dec.{ltb}
 use Rattle.records.specs.Sets.{members, membersFrom, when}
 use Rattle.report.specs.Line.{Line, lineBytes, bareLine}
@@ -20,7 +21,7 @@ use Rattle.listing.specs.Page.{Page, puts, begun}
 use Rattle.listing.specs.Listing.{longest, textOf, outcomeText, listing}
 use Rattle.listing.specs.Shown.{Tells, Listed}
 use Rattle.listing.specs.declared.list.Told.{Told}
-use Rattle.listing.proofs.PageLaws.{puts-begun}
+use Rattle.listing.proofs.PageLaws.{puts-begun, begun-inside}
 
 -- ---- no more lines than persons, and than the buffer holds
 
@@ -99,9 +100,16 @@ module _ (plan case lines₀ events₀ lines₁ events₁ : List ℕ) (a : Answe
     listed text e f g = record {
       lines = ap (λ (o : Outcome). o .lines) answered;
       events = ap (λ (o : Outcome). o .events) answered;
-      text = f ∙ puts-begun text out₀ ∙ ap (λ (s : List ℕ). begun s out₀) (sym (text-is ∙ e));
+      text = is;
+      inside = (fits, sym (length-take-le r out₁ fits));
       short = subst (λ (s : List ℕ). length s ≤ longest) (sym (text-is ∙ e)) g;
     }
+      where
+        is : _≡_ {A = Page} (record { count = r; out = out₁ }) (begun (listing plan case (length lines₀) (length events₀)) out₀)
+        is = f ∙ puts-begun text out₀ ∙ ap (λ (s : List ℕ). begun s out₀) (sym (text-is ∙ e))
+
+        fits : r ≤ length out₁
+        fits = subst (λ (p : Page). p .count ≤ length (p .out)) (sym is) (begun-inside (listing plan case (length lines₀) (length events₀)) out₀)
 
     pub listed-refused : (t .refusal ≡ 0 → ⊥) → _≡_ {A = Page} (record { count = r; out = out₁ }) (puts (record { count = 0; out = out₀ }) (refusedRow (t .refusal) (t .at)))
         → length (refusedRow (t .refusal) (t .at)) ≤ longest → Listed plan case lines₀ events₀ out₀ lines₁ events₁ out₁ r

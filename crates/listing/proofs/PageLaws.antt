@@ -4,8 +4,8 @@ use mathlib.Core.Bool.{Bool, true, false, cond}
 use mathlib.Core.List.{List, [], _∷_, _++_, append-assoc, append-nil}
 use Prim.Native.Nat.{ℕ, zero, suc, _+_, _≤_, _<_, min}
 use native.Mathlib.Omega.{arith}
-use native.Mathlib.Nat.{min-eq-left, zero-min, min-zero, suc-min-suc}
-use lib.ListN.{length, getD, take, drop, set, length-append, length-set}
+use native.Mathlib.Nat.{min-eq-left, min-comm, zero-min, min-zero, suc-min-suc}
+use lib.ListN.{length, getD, take, drop, set, length-append, length-take, length-set}
 use lib.Seq.{drop-cons, set-append-seam, take-nil, drop-nil, take-all, drop-length}
 use lib.Dec.{ltb}
 use borrow.Author.Tests.{lt-ltb, le-ltb}
@@ -96,6 +96,14 @@ behind (b ∷ bs) xs (y ∷ ys) =
 
 pub puts-begun : (text out : List ℕ) → puts (record { count = 0; out = out }) text ≡ begun text out
 puts-begun text out = behind text [] out ∙ page (omega arith) refl
+
+-- the count lies within the buffer
+pub begun-inside : (text out : List ℕ) → begun text out .count ≤ length (begun text out .out)
+begun-inside text out =
+    let l = length-append (take (length out) text) (drop (length text) out) in
+    let t = length-take (length out) text in
+    let m = min-comm (length out) (length text) in
+    omega arith
 
 -- a text for which there is room is not cut
 pub begun-whole : (text out : List ℕ) → length text ≤ length out → begun text out ≡ record { count = length text; out = text ++ drop (length text) out }

@@ -33,5 +33,7 @@ pub record Listed (plan case lines₀ events₀ out₀ lines₁ events₁ out₁
   pub events : events₁ ≡ operations.answer plan case (length lines₀) (length events₀) .events
   -- what does not fit is left out, what the text does not reach stays
   pub text : _≡_ {A = Page} (record { count = r; out = out₁ }) (begun (listing plan case (length lines₀) (length events₀)) out₀)
-  -- but nothing is left out of a buffer of that length
+  -- the count lies within the buffer
+  pub inside : (r ≤ length out₁) × (r ≡ length (take r out₁))
+  -- and nothing is left out of a buffer of that length
   pub short : length (listing plan case (length lines₀) (length events₀)) ≤ longest
