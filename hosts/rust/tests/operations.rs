@@ -2,8 +2,8 @@
 
 use lukhveri::{
     Buffers, CaseBuilder, Cut, Decision, EVENTS_LENGTH, Edge, Election, Event, File, LINES_LENGTH,
-    LineKind, Persons, Plan, PlanBuilder, Policy, Reason, Role, Status, answer, answer_into, check,
-    show,
+    LineKind, MOST_EVENTS_LENGTH, Persons, Plan, PlanBuilder, Policy, Reason, Role, STACK, Status,
+    answer, answer_into, check, show,
 };
 
 fn persons(numbers: &[u8]) -> Persons {
@@ -123,6 +123,14 @@ fn more_events_than_the_lister_takes() {
     let answered = buffers.answer(plan.bytes(), &case).expect("an answer");
     assert_eq!(answered.worlds(), 4096);
     assert_eq!(answered.events().count(), 24 + 2 * (4096 - 13));
+    // The stack that is said to be enough is enough, with room for what a thread needs of its own.
+    let mut events = vec![0; MOST_EVENTS_LENGTH];
+    let call = || answer_into(plan.bytes(), &case, &mut [0; LINES_LENGTH], &mut events).is_ok();
+    let answered = std::thread::scope(|scope| {
+        let thread = std::thread::Builder::new().stack_size(STACK).spawn_scoped(scope, call);
+        thread.expect("a thread").join()
+    });
+    assert!(answered.expect("no panic"));
     let small = pair();
     let small_case = complete(&small, &[0, 1]);
     let answered = buffers.answer(small.bytes(), &small_case).expect("an answer");
