@@ -1,14 +1,15 @@
-//! Links the static library of the proved crates, which tools/port/run makes first.
+//! Links the static library that the package names, which tools/port/run makes first.
 
+use std::env;
 use std::path::Path;
 
 fn main() {
-    let root = Path::new(env!("CARGO_MANIFEST_DIR")).join("../..");
-    let folder = root.join("target/staticlib");
+    let library = env::var("CARGO_MANIFEST_LINKS").expect("the package names a library");
+    let mut above = Path::new(env!("CARGO_MANIFEST_DIR")).ancestors();
+    let root = above.find(|folder| folder.join("crates.txt").exists());
+    let folder = root.expect("the repository").join("target/staticlib");
     println!("cargo:rustc-link-search=native={}", folder.display());
-    println!("cargo:rustc-link-lib=static=exports");
-    println!(
-        "cargo:rerun-if-changed={}",
-        folder.join("libexports.a").display()
-    );
+    println!("cargo:rustc-link-lib=static={library}");
+    let archive = folder.join(format!("lib{library}.a"));
+    println!("cargo:rerun-if-changed={}", archive.display());
 }

@@ -1,3 +1,1 @@
-pub mod Entering
-pub mod VariableLaws
 pub mod HandLaws

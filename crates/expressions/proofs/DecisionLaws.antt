@@ -1,20 +1,30 @@
 -- Laws of the unresolved decisions: searched by number, listed one by one, and how many there are. Assumes nothing.
-use Prim.Native.Nat.{ℕ, zero, suc, _+_, _<_}
-use mathlib.Core.Path.{_≡_, refl, sym, ap, ap₂, _∙_}
+use Prim.Native.Nat.{ℕ, zero, suc, _+_, _<_, min}
+use mathlib.Core.Path.{_≡_, refl, sym, ap, ap₂, _∙_, subst}
 use mathlib.Core.Bool.{Bool, true, false, _&&_, _||_, or-true, and-false}
 use mathlib.Core.Logic.{_⊎_, ⊎-elim}
 use mathlib.Core.List.{List, [], _∷_, _++_}
 use native.Mathlib.Nat.{le-of-suc-le-suc, not-suc-le-zero, eq-or-lt-of-le}
 use native.Mathlib.Omega.{arith}
-use lib.ListN.{length, set}
+use lib.ListN.{length, getD, set}
 use lib.Seq.{getD-set-same, getD-set-other}
 use lib.Dec.{eqb}
 use borrow.Author.Tests.{eq-eqb, ne-eqb}
-use Rattle.records.specs.Sets.{below, numbers, anyOf}
+use Rattle.records.specs.Sets.{union, below, numbers, anyOf}
+use Rattle.records.specs.Sound.{All}
+use Rattle.records.specs.Decoded.{cutOf, edgeOf}
+use Rattle.records.specs.declared.plan.Cut.{Cut}
+use Rattle.records.specs.declared.plan.Edge.{Edge}
+use Rattle.records.specs.declared.plan.Cuts.{Cuts}
+use Rattle.records.specs.declared.plan.Edges.{Edges}
+use Rattle.records.proofs.LoopLaws.{all-at, getD-below, length-below}
+use Rattle.expressions.specs.Coded.{cutsOf, edgesOf}
+use Rattle.expressions.specs.Listed.{endsOf, cutHolds}
+use Rattle.expressions.specs.declared.decisions.Undecided.{Undecided}
 use Rattle.expressions.specs.Influence.{Open}
-use Rattle.expressions.specs.Undecided.{pairOf, openAt}
+use Rattle.expressions.specs.Undecided.{pairOf, openAt, opensOf, Named, openTouch}
 use Rattle.records.proofs.Listing.{below-more, below-ext}
-use Rattle.expressions.proofs.ListLaws.{any-last, below-last}
+use Rattle.expressions.proofs.ListLaws.{any-last, below-last, made-length, made-at}
 
 -- ---- any of f 0 … f (n − 1)
 
@@ -53,3 +63,30 @@ other-verdict a e b v n = ap (λ (x : Bool). eqb a e && x) (ne-eqb b v n) ∙ an
 
 pub this-one : (a e b v : ℕ) → a ≡ e → b ≡ v → (eqb a e && eqb b v) ≡ true
 this-one a e b v p q = ap₂ _&&_ (eq-eqb a e p) (eq-eqb b v q)
+
+-- ---- whom the decision of a number touches
+
+module _ (cuts : Cuts) (edges : Edges) (o : Undecided) (i : ℕ) (h : i < o .count) (all : All (Named (length (cutsOf cuts)) (length (edgesOf edges))) (opensOf o)) where
+  named-at : Named (length (cutsOf cuts)) (length (edgesOf edges)) (openAt (o .cuts) (o .edges) i)
+  unfolding opensOf
+  named-at =
+      let q = Named (length (cutsOf cuts)) (length (edgesOf edges)) in
+      subst q (getD-below (o .count) (openAt (o .cuts) (o .edges)) (pairOf 0 0) i h)
+      (all-at q (opensOf o) (pairOf 0 0) i all (subst (λ (n : ℕ). i < n) (sym (length-below (o .count) (openAt (o .cuts) (o .edges)))) h))
+
+  pub cut-in : length (cuts .items) ≡ 16 → getD (o .cuts) i 0 < min (cuts .count) 16
+  unfolding cutsOf
+  cut-in long = omega (arith, named-at .0, made-length cutOf (cuts .items) (cuts .count) 16 (min (cuts .count) 16) long refl)
+
+  pub edge-in : length (edges .items) ≡ 64 → getD (o .edges) i 0 < min (edges .count) 64
+  unfolding edgesOf
+  edge-in wide = omega (arith, named-at .1, made-length edgeOf (edges .items) (edges .count) 64 (min (edges .count) 64) wide refl)
+
+  pub touch-at : length (cuts .items) ≡ 16 → length (edges .items) ≡ 64 → (d : Cut) (e : Edge)
+      → union (getD (cuts .items) (getD (o .cuts) i 0) d .members) (endsOf (edgeOf (getD (edges .items) (getD (o .edges) i 0) e)))
+      ≡ openTouch (cutsOf cuts) (edgesOf edges) (openAt (o .cuts) (o .edges) i)
+  unfolding cutsOf edgesOf cutOf openTouch
+  touch-at long wide d e =
+      ap₂ union
+      (ap cutHolds (sym (made-at cutOf (cuts .items) (cuts .count) 16 (min (cuts .count) 16) long refl (getD (o .cuts) i 0) d _ (cut-in long))))
+      (ap endsOf (sym (made-at edgeOf (edges .items) (edges .count) 64 (min (edges .count) 64) wide refl (getD (o .edges) i 0) e _ (edge-in wide))))

@@ -1,17 +1,16 @@
 -- Laws of a fact's sort and family, and of the binding by them. Assumes nothing.
 use mathlib.Core.Path.{_≡_, refl, sym, ap, _∙_, subst}
-use mathlib.Core.Bool.{Bool, true, false, _&&_, not}
+use mathlib.Core.Bool.{true, false}
 use mathlib.Core.List.{List, [], _∷_, map}
 use Prim.Native.Nat.{ℕ, zero, suc, _+_, _<_}
 use lib.ListN.{length, getD, set, replicate, length-map, List·getD-map}
-use lib.Dec.{eqb}
 use Rattle.records.specs.Sets.{has, below, numbers}
 use Rattle.expressions.specs.Codes.{boundOf}
 use Rattle.expressions.specs.Coded.{Holds}
 use Rattle.records.specs.Plan as paper
 use Rattle.records.specs.Plan.{getFact, isBoolean}
 use Rattle.records.specs.Case.{Case, caseHeading}
-use Rattle.expressions.specs.Bindings.{Bound, unbound, bindingBy, boundBoolean, boundRelation, inScope, scoped, inFamily, observed, saidUnknown, defaultOf, elections, tookDefaultBy, tookDefault, bindings, bindingsBy, bindingOf, frameOf}
+use Rattle.expressions.specs.Bindings.{Bound, unbound, bindingBy, boundBoolean, boundRelation, inScope, scoped, inFamily, observed, tookDefaultBy, tookDefault, bindings, bindingsBy, bindingOf, frameOf}
 use Rattle.expressions.specs.Influence.{boundFacts}
 use Rattle.expressions.proofs.ListLaws.{filled-at, fill-next}
 
@@ -52,28 +51,6 @@ module _ (g : ℕ → Bound) where
   pub filled-end : (out : List ℕ) (n : ℕ) → Filled out n → (k : ℕ) → boundOf (getD out k 0) ≡ getD (below n g) k unbound
   unfolding boundOf
   filled-end out n f k = sym (List·getD-map boundOf out k 0) ∙ f .at k
-
--- ---- which facts took their default
-
-module _ (P : paper.Plan) (C : Case) (set f : ℕ) where
-  abbrev pub silentOn : Bool
-  silentOn = eqb (length (saidUnknown C f)) 0 && eqb (length (observed C f)) 0
-
-  pub default-unbound : has set f ≡ false → false ≡ tookDefaultBy P C set f
-  unfolding tookDefaultBy
-  default-unbound h = rw h
-
-  pub default-relation : has set f ≡ true → isBoolean (getFact P f) ≡ false → false ≡ tookDefaultBy P C set f
-  unfolding tookDefaultBy
-  default-relation h b = rw (h, b)
-
-  pub default-told : has set f ≡ true → isBoolean (getFact P f) ≡ true → silentOn ≡ false → false ≡ tookDefaultBy P C set f
-  unfolding tookDefaultBy
-  default-told h b s = rw (h, b, s)
-
-  pub default-taken : has set f ≡ true → isBoolean (getFact P f) ≡ true → silentOn ≡ true → not (eqb (length (defaultOf (elections P f))) 0) ≡ tookDefaultBy P C set f
-  unfolding tookDefaultBy
-  default-taken h b s = rw (h, b, s)
 
 -- ---- the set of the facts to bind is that of those in use
 

@@ -1,11 +1,13 @@
 -- Laws of faults that a record has beside the earlier ones, for families and booleans alike. Assumes nothing.
 use mathlib.Core.Path.{_≡_, refl, sym, ap, ap₂, _∙_}
 use mathlib.Core.Bool.{Bool, true, false, _||_, not, cond, or-comm}
-use mathlib.Core.List.{List, [], _∷_, map}
+use mathlib.Core.List.{List, [], _∷_, _++_, map}
 use Prim.Native.Nat.{ℕ, zero, suc, _+_, _≤_, _<_, min}
 use native.Mathlib.Nat.{add-zero}
+use native.Mathlib.Numerals.{add-one}
 use native.Mathlib.Omega.{arith}
-use lib.ListN.{length, getD, take, drop}
+use lib.ListN.{length, getD, take, drop, set}
+use lib.Seq.{take-suc-set}
 use lib.Dec.{eqb}
 use borrow.Author.Tests.{not-true, not-false}
 use Rattle.records.specs.Sets.{anyOf}
@@ -18,7 +20,7 @@ use Rattle.records.specs.declared.case.Boolean.{Boolean}
 use Rattle.records.proofs.LoopLaws.{length-below}
 use Rattle.records.specs.Decoded.{booleanOf, observationsOf}
 use Rattle.expressions.specs.Bindings.{familyFaults, booleanFault, booleanFaults, bindable}
-use Rattle.expressions.proofs.ListLaws.{front-more, any-go, any-stop, any-last}
+use Rattle.expressions.proofs.ListLaws.{front-more, any-last}
 use Rattle.expressions.proofs.Rests.{made-next, made-none}
 
 -- ---- one of a list
@@ -29,22 +31,6 @@ any-more : {A B : Type 0} (p : B → Bool) (g : A → B) (xs : List A) (i : ℕ)
 unfolding anyOf
 any-more p g xs i d h =
     ap (anyOf p) (front-more g xs i d h) ∙ any-last p (map g (take i xs)) (g (getD xs i d)) ∙ or-comm (anyOf p (map g (take i xs))) (p (g (getD xs i d)))
-
--- a search through a made list
-module _ {A B : Type 0} (p : B → Bool) (g : A → B) (xs : List A) (n i : ℕ) where
-  abbrev pub anyFrom : ℕ → Bool
-  anyFrom k = anyOf p (drop k (map g (take n xs)))
-
-  pub any-end : min n (length xs) ≤ i → anyFrom i ≡ false
-  unfolding anyOf
-  any-end h = ap (anyOf p) (made-none g xs n i h)
-
-  module _ (d : A) (h : i < min n (length xs)) where
-    pub any-here : p (g (getD xs i d)) ≡ true → anyFrom i ≡ true
-    any-here e = ap (anyOf p) (made-next g xs n i d h) ∙ any-stop p (g (getD xs i d)) (drop (i + 1) (map g (take n xs))) e
-
-    pub any-on : p (g (getD xs i d)) ≡ false → anyFrom i ≡ anyFrom (i + 1)
-    any-on e = ap (anyOf p) (made-next g xs n i d h) ∙ any-go p (g (getD xs i d)) (drop (i + 1) (map g (take n xs))) e
 
 -- ---- the fault of each record: by whether an earlier one is like it, and by itself
 
@@ -197,3 +183,17 @@ bindable-first C first r e h =
 pub bindable-rest : (C : paper.Case) (k : ℕ) (r : Checked) → k ≡ paper.booleansAt C → r ≡ checkedOf (firstFault k (booleanFaults [] (C .booleans)) passed) → r ≡ booleansChecked C
 bindable-rest C k r e h =
     h ∙ ap (λ (k : ℕ). checkedOf (firstFault k (booleanFaults [] (C .booleans)) passed)) e ∙ fault-any (paper.booleansAt C) (booleanFaults [] (C .booleans)) 0 C
+
+-- ---- the numbers that came before, in an array of their own
+
+pub any-numbers : {A B : Type 0} (g : A → ℕ) (h : A → B) (k : B → ℕ) → ((x : A) → k (h x) ≡ g x) → (v : ℕ) (xs : List A)
+    → anyOf (λ (e : ℕ). eqb e v) (map g xs) ≡ anyOf (λ (e : B). eqb (k e) v) (map h xs)
+unfolding anyOf
+any-numbers g h k same v [] = refl
+any-numbers g h k same v (x ∷ xs) = ap₂ _||_ (ap (λ (j : ℕ). eqb j v) (sym (same x))) (any-numbers g h k same v xs)
+
+pub numbers-next : {A : Type 0} (g : A → ℕ) (xs : List A) (earlier : List ℕ) (i : ℕ) (d : A) → i < length earlier → i < length xs → take i earlier ≡ map g (take i xs)
+    → take (i + 1) (set earlier i (g (getD xs i d))) ≡ map g (take (i + 1) xs)
+numbers-next g xs earlier i d h k e =
+    ap (λ (n : ℕ). take n (set earlier i (g (getD xs i d)))) (add-one i) ∙ take-suc-set earlier i (g (getD xs i d)) h
+    ∙ ap (λ (l : List ℕ). l ++ (g (getD xs i d) ∷ [])) e ∙ sym (front-more g xs i d k)

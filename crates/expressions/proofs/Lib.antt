@@ -21,4 +21,5 @@ pub mod FactLaws
 pub mod CountLaws
 pub mod FaultLaws
 pub mod MaskLaws
+pub mod ToldLaws
 pub mod SlotLaws

@@ -7,7 +7,9 @@ use mathlib.Core.List.{append-assoc, List, [], _∷_, _++_, map, map-append, map
 use native.Mathlib.Numerals.{add-one}
 use native.Mathlib.Omega.{arith}
 use lib.ListN.{length, getD, take, drop, set, replicate, length-take, drop-of-length-le}
-use lib.Seq.{ext-getD, take-suc-set, drop-cons, getD-take, take-suc, take-all, length-take-le}
+use lib.Dec.{eqb}
+use lib.Seq.{ext-getD, getD-set-same, getD-set-other, take-suc-set, drop-cons, getD-take, take-suc, take-all, length-take-le}
+use borrow.Author.Tests.{eqb-true, eqb-false}
 use Rattle.records.specs.Sets.{allOf, anyOf, numbers, below}
 use Rattle.records.specs.Sound.{All}
 use Rattle.records.proofs.LoopLaws.{getD-below, getD-past, length-below, all-at}
@@ -183,6 +185,17 @@ pub store-next : {A : Type 0} (d : A) (sets before ms : List A) (k i : ℕ) → 
 store-next d sets before ms k i h l e =
     ap (λ (n : ℕ). take n (set sets k (getD ms i d))) (add-one k) ∙ take-suc-set sets k (getD ms i d) h ∙ ap (λ (x : List _). x ++ (getD ms i d ∷ [])) e
     ∙ append-assoc before (take i ms) (getD ms i d ∷ []) ∙ ap (λ (x : List _). before ++ x) (sym (ap (λ (n : ℕ). take n ms) (add-one i) ∙ take-suc ms i d l))
+
+-- an entry that is changed, seen by number
+pub changed-at : {A : Type 0} (xs : List A) (g f : ℕ) (h : A → A) (v d : A) → g < length xs → v ≡ h (getD xs g d)
+    → getD (set xs g v) f d ≡ cond (eqb g f) (h (getD xs f d)) (getD xs f d)
+changed-at xs g f h v d l e = pick (eqb g f) refl
+  where
+    pick : (b : Bool) → eqb g f ≡ b → getD (set xs g v) f d ≡ cond b (h (getD xs f d)) (getD xs f d)
+    pick true k =
+        let same = eqb-true g f k in
+        ap (λ (j : ℕ). getD (set xs g v) j d) (sym same) ∙ getD-set-same xs g v d l ∙ e ∙ ap (λ (j : ℕ). h (getD xs j d)) same
+    pick false k = getD-set-other xs g f v d (λ q. eqb-false g f k (sym q))
 
 -- the front of an array, by number
 pub front-below : {A : Type 0} (d : A) (xs : List A) (n : ℕ) → n ≤ length xs → take n xs ≡ below n (λ i. getD xs i d)

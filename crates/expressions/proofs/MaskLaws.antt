@@ -1,14 +1,15 @@
 -- A mask built by a test of each number. Assumes nothing.
 use Prim.Native.Nat.{ℕ, zero, suc, _+_, _≤_, _<_}
 use mathlib.Core.Path.{_≡_, refl, sym, ap, ap₂, _∙_}
-use mathlib.Core.Bool.{Bool, true, false, _||_, or-false}
+use mathlib.Core.Bool.{Bool, true, false, _&&_, _||_, or-false}
 use mathlib.Core.Logic.{_⊎_, ⊎-elim}
 use native.Mathlib.Nat.{not-suc-le-zero, le-of-suc-le-suc, eq-or-lt-of-le}
 use native.Mathlib.Numerals.{add-one}
 use native.Mathlib.Omega.{arith}
-use borrow.Author.Tests.{eq-eqb, ne-eqb}
+use lib.Dec.{ltb}
+use borrow.Author.Tests.{eq-eqb, ne-eqb, lt-ltb, le-ltb}
 use Rattle.records.specs.Sets.{has, one, union, only, unionBelow}
-use Rattle.records.proofs.SetLaws.{has-union, has-none, has-one}
+use Rattle.records.proofs.SetLaws.{has-union, has-none, has-one, lt-or-le}
 
 module _ (b : ℕ → Bool) where
   abbrev pub built : ℕ → ℕ
@@ -47,3 +48,6 @@ module _ (b : ℕ → Bool) where
       ∙ ⊎-elim (λ e. ap (λ (q : ℕ). has (built n) q || has (only (b n) (one n)) q) e ∙ ap₂ _||_ (past n n (omega arith)) (itself n) ∙ ap b (sym e))
       (λ l. ap₂ _||_ (has-built n p l) (other n p (λ e. absurd (omega arith))) ∙ or-false (b p))
       (eq-or-lt-of-le (le-of-suc-le-suc h))
+
+  pub built-has : (n p : ℕ) → has (built n) p ≡ (ltb p n && b p)
+  built-has n p = ⊎-elim (λ l. has-built n p l ∙ sym (ap (λ (x : Bool). x && b p) (lt-ltb p n l))) (λ l. past n p l ∙ sym (ap (λ (x : Bool). x && b p) (le-ltb p n l))) (lt-or-le p n)

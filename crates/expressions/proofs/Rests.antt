@@ -3,7 +3,7 @@ use mathlib.Core.Path.{_≡_, refl, ap, _∙_}
 use mathlib.Core.List.{List, [], _∷_, map}
 use Prim.Native.Nat.{ℕ, _+_, _≤_, _<_, min}
 use native.Mathlib.Omega.{arith}
-use lib.ListN.{length, getD, take, drop, drop-of-length-le, List·getD-eq-default}
+use lib.ListN.{length, getD, take, drop, drop-of-length-le}
 use Rattle.records.specs.Sets.{below}
 use Rattle.records.proofs.LoopLaws.{length-below, getD-below}
 use Rattle.records.proofs.ListLaws.{length-front, getD-front}
@@ -18,9 +18,6 @@ made-next g xs n i d h =
 
 pub made-none : {A B : Type 0} (g : A → B) (xs : List A) (n i : ℕ) → min n (length xs) ≤ i → drop i (map g (take n xs)) ≡ []
 made-none g xs n i h = let e = length-front g xs n (length xs) refl in drop-of-length-le (map g (take n xs)) {i = i} (omega arith)
-
-pub made-past : {A B : Type 0} (g : A → B) (xs : List A) (n i : ℕ) (e : B) → min n (length xs) ≤ i → getD (map g (take n xs)) i e ≡ e
-made-past g xs n i e h = let k = length-front g xs n (length xs) refl in List·getD-eq-default (map g (take n xs)) e {n = i} (omega arith)
 
 -- of f 0 … f (n − 1)
 pub below-next : {A : Type 0} (n : ℕ) (f : ℕ → A) (i : ℕ) → i < n → drop i (below n f) ≡ f i ∷ drop (i + 1) (below n f)

@@ -1,16 +1,15 @@
 -- Laws of the list of a plan's rules, as it is put together. Assumes nothing.
 use Prim.Native.Nat.{ℕ, _+_}
-use mathlib.Core.Path.{_≡_, sym, ap, ap₂, _∙_, subst₂}
+use mathlib.Core.Path.{_≡_, sym, ap, ap₂, _∙_, subst, subst₂}
 use mathlib.Core.List.{List, [], _∷_, _++_, map, map-append, append-assoc, append-nil}
-use native.Mathlib.Nat.{add-zero, le-refl}
+use native.Mathlib.Nat.{add-zero, add-assoc, le-refl}
 use native.Mathlib.Omega.{arith}
 use lib.ListN.{length, getD, length-append}
 use lib.Seq.{take-length}
 use Rattle.records.specs.Sets.{below}
 use Rattle.records.specs.Plan.{Plan}
 use Rattle.expressions.specs.Rules.{ruleSets, pair, span, edge, cut, attachment, bar}
-use Rattle.expressions.specs.declared.rules.Rules.{Rules}
-use Rattle.expressions.specs.Listed.{Added, usesOf, personsOf, endsOf, spanOf, cutHolds, barHolds}
+use Rattle.expressions.specs.Listed.{Rules, lists, Added, usesOf, personsOf, endsOf, spanOf, cutHolds, barHolds}
 use Rattle.expressions.proofs.ListLaws.{below-map, front-below}
 
 pub added-none : (r : Rules) → Added r r [] []
@@ -28,10 +27,12 @@ added-then {a} {b} {c} {us} {ps} {vs} {qs} h k =
     }
 
 -- a rule that stands for x, behind those that stand for xs
-pub added-next : {A : Type 0} (g h : A → ℕ) {a b c : Rules} (xs ys : List A) (x : A) {u p : ℕ} → Added a b (map g xs) (map h xs) → Added b c (u ∷ []) (p ∷ [])
-    → u ≡ g x → p ≡ h x → ys ≡ xs ++ (x ∷ []) → Added a c (map g ys) (map h ys)
-added-next g h {a} {b} {c} xs ys x {u} {p} before one e k s =
-    subst₂ (Added a c) (last g e) (last h k) (added-then before one)
+pub added-next : {A : Type 0} (g h : A → ℕ) (at i : ℕ) {us ps vs qs vs′ qs′ : List ℕ} (xs ys : List A) (x : A) {u p : ℕ}
+    → Added (lists at us ps) (lists (at + i) vs qs) (map g xs) (map h xs) → Added (lists (at + i) vs qs) (lists (at + i + 1) vs′ qs′) (u ∷ []) (p ∷ [])
+    → u ≡ g x → p ≡ h x → ys ≡ xs ++ (x ∷ []) → Added (lists at us ps) (lists (at + (i + 1)) vs′ qs′) (map g ys) (map h ys)
+added-next g h at i {us} {ps} {vs} {qs} {vs′} {qs′} xs ys x {u} {p} before one e k s =
+    subst (λ (n : ℕ). Added (lists at us ps) (lists n vs′ qs′) (map g ys) (map h ys)) (add-assoc at i 1)
+    (subst₂ (Added (lists at us ps) (lists (at + i + 1) vs′ qs′)) (last g e) (last h k) (added-then before one))
   where
     last : (f : _ → ℕ) {v : ℕ} → v ≡ f x → map f xs ++ (v ∷ []) ≡ map f ys
     last f e = ap (λ (v : ℕ). map f xs ++ (v ∷ [])) e ∙ sym (map-append f xs (x ∷ [])) ∙ ap (map f) (sym s)

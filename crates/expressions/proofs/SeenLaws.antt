@@ -1,6 +1,6 @@
 -- Laws of what the code keeps of a fact's observations, and the binding that follows. Assumes nothing.
 use mathlib.Core.Path.{_≡_, refl, sym, ap, ap₂, _∙_}
-use mathlib.Core.Bool.{Bool, true, false, _&&_, _||_, not, cond, and-false, or-true, or-false}
+use mathlib.Core.Bool.{Bool, true, false, _&&_, _||_, not, cond, or-assoc, or-true, or-false}
 use mathlib.Core.List.{List, [], _∷_, _++_, map, flatMap}
 use Prim.Native.Nat.{ℕ, _+_, _≤_, _<_, min}
 use lib.ListN.{length, getD, take, drop}
@@ -49,24 +49,13 @@ boolean-first s f b bs = pick (eqb (b .fact) f)
     pick true = look-append s (observationsOf (b .observations)) (observedInBooleans bs f)
     pick false = refl
 
-module _ (s t : Seen) (items : List Boolean) (n f i : ℕ) (d : Boolean) (h : i < min n (length items)) where
-  abbrev after : Seen
-  after = cond (eqb (getD items i d .fact) f) (lookAll s (observationsOf (getD items i d .observations))) s
-
-  booleans-next : t ≡ after
-      → lookAll t (observedInBooleans (drop (i + 1) (map booleanOf (take n items))) f) ≡ lookAll s (observedInBooleans (drop i (map booleanOf (take n items))) f)
-  booleans-next e =
-      ap (λ (x : Seen). lookAll x (observedInBooleans (drop (i + 1) (map booleanOf (take n items))) f)) e
-      ∙ sym (boolean-first s f (getD items i d) (drop (i + 1) (map booleanOf (take n items))))
-      ∙ ap (λ (bs : List paper.Boolean). lookAll s (observedInBooleans bs f)) (sym (made-next booleanOf items n i d h))
-
-  pub booleans-seen : getD items i d .fact ≡ f → t ≡ lookAll s (observationsOf (getD items i d .observations))
-      → lookAll t (observedInBooleans (drop (i + 1) (map booleanOf (take n items))) f) ≡ lookAll s (observedInBooleans (drop i (map booleanOf (take n items))) f)
-  booleans-seen k e = booleans-next (e ∙ sym (ap (λ (b : Bool). cond b (lookAll s (observationsOf (getD items i d .observations))) s) (eq-eqb _ _ k)))
-
-  pub booleans-other : (getD items i d .fact ≡ f → ⊥) → t ≡ s
-      → lookAll t (observedInBooleans (drop (i + 1) (map booleanOf (take n items))) f) ≡ lookAll s (observedInBooleans (drop i (map booleanOf (take n items))) f)
-  booleans-other k e = booleans-next (e ∙ sym (ap (λ (b : Bool). cond b (lookAll s (observationsOf (getD items i d .observations))) s) (ne-eqb _ _ k)))
+pub booleans-next : (s t : Seen) (items : List Boolean) (n f i : ℕ) (d : Boolean) → i < min n (length items)
+    → t ≡ cond (eqb (getD items i d .fact) f) (lookAll s (observationsOf (getD items i d .observations))) s
+    → lookAll t (observedInBooleans (drop (i + 1) (map booleanOf (take n items))) f) ≡ lookAll s (observedInBooleans (drop i (map booleanOf (take n items))) f)
+booleans-next s t items n f i d h e =
+    ap (λ (x : Seen). lookAll x (observedInBooleans (drop (i + 1) (map booleanOf (take n items))) f)) e
+    ∙ sym (boolean-first s f (getD items i d) (drop (i + 1) (map booleanOf (take n items))))
+    ∙ ap (λ (bs : List paper.Boolean). lookAll s (observedInBooleans bs f)) (sym (made-next booleanOf items n i d h))
 
 pub booleans-none : (s : Seen) (items : List Boolean) (n f i : ℕ) → min n (length items) ≤ i
     → lookAll s (observedInBooleans (drop i (map booleanOf (take n items))) f) ≡ s
@@ -86,24 +75,13 @@ relation-first s f r rs = pick (eqb (r .fact) f)
     pick true = refl
     pick false = refl
 
-module _ (s t : Seen) (items : List Relation) (n f i : ℕ) (d : Relation) (h : i < min n (length items)) where
-  abbrev here : Observation
-  here = record { value = getD items i d .value; evidence = getD items i d .evidence }
-
-  relations-next : t ≡ cond (eqb (getD items i d .fact) f) (lookAt s here) s
-      → lookAll t (observedInRelations (drop (i + 1) (map relationOf (take n items))) f) ≡ lookAll s (observedInRelations (drop i (map relationOf (take n items))) f)
-  relations-next e =
-      ap (λ (x : Seen). lookAll x (observedInRelations (drop (i + 1) (map relationOf (take n items))) f)) e
-      ∙ sym (relation-first s f (getD items i d) (drop (i + 1) (map relationOf (take n items))))
-      ∙ ap (λ (rs : List paper.Relation). lookAll s (observedInRelations rs f)) (sym (made-next relationOf items n i d h))
-
-  pub relations-seen : getD items i d .fact ≡ f → t ≡ lookAt s here
-      → lookAll t (observedInRelations (drop (i + 1) (map relationOf (take n items))) f) ≡ lookAll s (observedInRelations (drop i (map relationOf (take n items))) f)
-  relations-seen k e = relations-next (e ∙ sym (ap (λ (b : Bool). cond b (lookAt s here) s) (eq-eqb _ _ k)))
-
-  pub relations-other : (getD items i d .fact ≡ f → ⊥) → t ≡ s
-      → lookAll t (observedInRelations (drop (i + 1) (map relationOf (take n items))) f) ≡ lookAll s (observedInRelations (drop i (map relationOf (take n items))) f)
-  relations-other k e = relations-next (e ∙ sym (ap (λ (b : Bool). cond b (lookAt s here) s) (ne-eqb _ _ k)))
+pub relations-next : (s t : Seen) (items : List Relation) (n f i : ℕ) (d : Relation) → i < min n (length items)
+    → t ≡ cond (eqb (getD items i d .fact) f) (lookAt s (record { value = getD items i d .value; evidence = getD items i d .evidence })) s
+    → lookAll t (observedInRelations (drop (i + 1) (map relationOf (take n items))) f) ≡ lookAll s (observedInRelations (drop i (map relationOf (take n items))) f)
+relations-next s t items n f i d h e =
+    ap (λ (x : Seen). lookAll x (observedInRelations (drop (i + 1) (map relationOf (take n items))) f)) e
+    ∙ sym (relation-first s f (getD items i d) (drop (i + 1) (map relationOf (take n items))))
+    ∙ ap (λ (rs : List paper.Relation). lookAll s (observedInRelations rs f)) (sym (made-next relationOf items n i d h))
 
 pub relations-none : (s : Seen) (items : List Relation) (n f i : ℕ) → min n (length items) ≤ i
     → lookAll s (observedInRelations (drop i (map relationOf (take n items))) f) ≡ s
@@ -124,24 +102,19 @@ said-first f b bs = pick (eqb (b .fact) f) (b .unknown)
     pick true false = refl
     pick false u = refl
 
-module _ (items : List Boolean) (n f i : ℕ) (d : Boolean) (h : i < min n (length items)) where
-  said-next : (t : Bool) → (eqb (getD items i d .fact) f && getD items i d .unknown) ≡ t
-      → said (drop i (map booleanOf (take n items))) f ≡ cond t true (said (drop (i + 1) (map booleanOf (take n items))) f)
-  said-next t e =
-      ap (λ (bs : List paper.Boolean). said bs f) (made-next booleanOf items n i d h)
-      ∙ said-first f (getD items i d) (drop (i + 1) (map booleanOf (take n items)))
-      ∙ ap (λ (b : Bool). cond b true (said (drop (i + 1) (map booleanOf (take n items))) f)) e
+or-cond : (b c : Bool) → (b || c) ≡ cond b true c
+or-cond true c = refl
+or-cond false c = refl
 
-  pub said-here : getD items i d .fact ≡ f → getD items i d .unknown ≡ true → said (drop i (map booleanOf (take n items))) f ≡ true
-  said-here k u = said-next true (ap₂ _&&_ (eq-eqb _ _ k) u)
-
-  pub said-other : (getD items i d .fact ≡ f → ⊥)
-      → said (drop i (map booleanOf (take n items))) f ≡ said (drop (i + 1) (map booleanOf (take n items))) f
-  said-other k = said-next false (ap (λ (b : Bool). b && getD items i d .unknown) (ne-eqb _ _ k))
-
-  pub said-not : getD items i d .unknown ≡ false
-      → said (drop i (map booleanOf (take n items))) f ≡ said (drop (i + 1) (map booleanOf (take n items))) f
-  said-not u = said-next false (ap (λ (b : Bool). eqb (getD items i d .fact) f && b) u ∙ and-false (eqb (getD items i d .fact) f))
+-- the fact was said so before, or is by this record, or by one of those left
+pub said-next : (items : List Boolean) (n f i : ℕ) (d : Boolean) (before now : Bool) → i < min n (length items)
+    → now ≡ (before || (eqb (getD items i d .fact) f && getD items i d .unknown))
+    → (now || said (drop (i + 1) (map booleanOf (take n items))) f) ≡ (before || said (drop i (map booleanOf (take n items))) f)
+said-next items n f i d before now h e =
+    let here = eqb (getD items i d .fact) f && getD items i d .unknown in
+    let left = said (drop (i + 1) (map booleanOf (take n items))) f in
+    ap (λ (b : Bool). b || left) e ∙ or-assoc before here left
+    ∙ ap (λ (b : Bool). before || b) (or-cond here left ∙ sym (ap (λ (bs : List paper.Boolean). said bs f) (made-next booleanOf items n i d h) ∙ said-first f (getD items i d) (drop (i + 1) (map booleanOf (take n items)))))
 
 pub said-none : (items : List Boolean) (n f i : ℕ) → min n (length items) ≤ i → said (drop i (map booleanOf (take n items))) f ≡ false
 unfolding unknownIn flatMap

@@ -11,6 +11,7 @@ pub mod Bindings
 pub mod Seen
 pub mod Evident
 pub mod Codes
+pub mod Told
 pub mod Variables
 pub mod Counted
 pub mod Slots

@@ -6,7 +6,6 @@ use lib.ListN.{length, getD, take}
 use Rattle.records.specs.Sets.{one, union, unionOf, setOf, has, only, below}
 use Rattle.records.specs.Plan.{Plan, Fact, Edge, Cut, Attachment, Bar, Status}
 use Rattle.expressions.specs.Rules.{ruleSets}
-use Rattle.expressions.specs.declared.rules.Rules.{Rules}
 
 -- what a list of nodes' uses says of a node
 abbrev pub usedAt : List ℕ → ℕ → ℕ
@@ -74,7 +73,15 @@ touchBy us ps constraints roster bound fs f =
 unfoldable pub touchesBy : List ℕ → List ℕ → ℕ → ℕ → ℕ → List Fact → List ℕ
 touchesBy us ps constraints roster bound fs = below (length fs) (touchBy us ps constraints roster bound fs)
 
--- ---- the code's list of rules
+-- ---- the code's two lists, of which `count` entries are in use
+
+pub record Rules : Type 0 where
+  pub count : ℕ
+  pub uses : List ℕ
+  pub persons : List ℕ
+
+abbrev pub lists : ℕ → List ℕ → List ℕ → Rules
+lists n us ps = record { count = n; uses = us; persons = ps }
 
 abbrev pub usesOf : Rules → List ℕ
 usesOf r = take (r .count) (r .uses)
@@ -93,7 +100,10 @@ pub record Joining (P : Plan) (at : ℕ → ℕ) (r : Rules) : Type 0 where
   pub uses : usesOf r ≡ joiningUses at P
   pub persons : personsOf r ≡ ruleSets P
   pub few : r .count ≤ 144
+  pub room : (length (r .uses) ≡ 176) × (length (r .persons) ≡ 176)
 
 pub record Listed (P : Plan) (at : ℕ → ℕ) (r : Rules) : Type 0 where
   pub uses : usesOf r ≡ ruleUses at P
   pub persons : personsOf r ≡ rulePersons P
+  pub few : r .count ≤ 176
+  pub room : (length (r .uses) ≡ 176) × (length (r .persons) ≡ 176)

@@ -17,34 +17,16 @@ ghost use Rattle.records.specs.Decoded.{caseOf, familyOf, booleanOf, observatio
 ghost use Rattle.records.specs.Check.{checkedOf};
 ghost use Rattle.expressions.specs.Bindings.{familyFaults, booleanFaults, bindable as bindableCase};
 
-// Whether a family record before record i has the number.
-fn family_before(families: Families, i: usize, number: u8) -> bool
-    ensures { λ r. ⌜ r ≡ anyOf (λ e. eqb (e .number) number) (map familyOf (take i (families .items))) ⌝ }
+// Whether a number is among these.
+fn appears(numbers: &[u8], number: u8) -> bool
+    ensures { λ r. ⌜ r ≡ anyOf (λ e. eqb e number) (now (numbers .entry)) ⌝ }
 {
-    let n = upto(i, 16);
-    let mut j: usize = 0;
-    while j < n {
-        let m = families.items[j];
-        if m.number == number {
+    let mut i: usize = 0;
+    while i < numbers.len() {
+        if numbers[i] == number {
             return true;
         }
-        j = j + 1;
-    }
-    false
-}
-
-// Whether a boolean record before record i is of the fact.
-fn fact_before(booleans: Booleans, i: usize, fact: u8) -> bool
-    ensures { λ r. ⌜ r ≡ anyOf (λ e. eqb (e .fact) fact) (map booleanOf (take i (booleans .items))) ⌝ }
-{
-    let n = upto(i, 64);
-    let mut j: usize = 0;
-    while j < n {
-        let b = booleans.items[j];
-        if b.fact == fact {
-            return true;
-        }
-        j = j + 1;
+        i = i + 1;
     }
     false
 }
@@ -55,15 +37,17 @@ fn family_faults(families: Families, first: usize) -> Checked
     ensures { λ r. ⌜ r ≡ checkedOf {A = ℕ} (firstFault first (familyFaults [] (map familyOf (take (families .count) (families .items)))) (fine 0)) ⌝ }
 {
     let n = upto(families.count, 16);
+    let mut earlier = [0u8; 16];
     let mut i: usize = 0;
     while i < n {
         let m = families.items[i];
-        if family_before(families, i, m.number) {
+        if appears(&earlier[..i], m.number) {
             return Checked::Refused {
                 number: 5,
                 record: first + i,
             };
         }
+        earlier[i] = m.number;
         i = i + 1;
     }
     Checked::Accepted
@@ -83,6 +67,7 @@ fn boolean_faults(booleans: Booleans, first: usize) -> Checked
     ensures { λ r. ⌜ r ≡ checkedOf {A = ℕ} (firstFault first (booleanFaults [] (map booleanOf (take (booleans .count) (booleans .items)))) (fine 0)) ⌝ }
 {
     let n = upto(booleans.count, 64);
+    let mut earlier = [0u8; 64];
     let mut i: usize = 0;
     while i < n {
         let b = booleans.items[i];
@@ -92,12 +77,13 @@ fn boolean_faults(booleans: Booleans, first: usize) -> Checked
                 record: first + i,
             };
         }
-        if fact_before(booleans, i, b.fact) {
+        if appears(&earlier[..i], b.fact) {
             return Checked::Refused {
                 number: 5,
                 record: first + i,
             };
         }
+        earlier[i] = b.fact;
         i = i + 1;
     }
     Checked::Accepted

@@ -1,29 +1,45 @@
 // The binding of each fact, as a number: 0 unbound, 1 known false, 2 known true, 3 unknown, 4 conflict of false, 5 conflict of true, 6 conflict of both.
+// What case and plan tell of the facts is gathered by fact first, so that a binding looks at no table.
 use crate::counts::upto;
-use crate::counts::wide;
-use crate::elections::election_on;
+use crate::elections::elect;
 use crate::observations::Seen;
 use crate::observations::said_unknown;
-use crate::observations::seen_of;
+use crate::observations::sights_of;
 use records::case::Case;
 use records::case::Families;
 use records::plan::Election;
 use records::plan::Fact;
-use records::plan::Facts;
 use records::plan::Plan;
+use records::sets::bit;
 use records::sets::contains;
+use records::sets::union;
 ghost use mathlib.Core.Path.{_≡_};
 ghost use mathlib.Core.Bool.{not, _&&_};
 ghost use mathlib.Core.List.{List, [], _∷_, map};
 ghost use Prim.Native.Nat.{ℕ};
-ghost use lib.Dec.{eqb};
+ghost use lib.Dec.{eqb, ltb};
 ghost use lib.ListN.{length, getD, take};
-ghost use Rattle.records.specs.Plan.{getFact};
+ghost use Rattle.records.specs.Sets.{has};
 ghost use Rattle.records.specs.Case.{caseHeading};
-ghost use Rattle.records.specs.Decoded.{planOf, caseOf, factOf, electionOf, familyOf};
-ghost use Rattle.expressions.specs.Bindings.{saidUnknown, byDefault, defaultOf, observed, inFamily, boundBoolean, boundRelation, scoped, bindingBy, bindingsBy, bindingAt, tookDefaultBy};
+ghost use Rattle.records.specs.Decoded.{planOf, caseOf, electionOf, familyOf};
+ghost use Rattle.expressions.specs.Rules.{factCount};
+ghost use Rattle.expressions.specs.Bindings.{byDefault, defaultOf, scoped, bindingsBy, bindingAt, tookDefaultBy};
 ghost use Rattle.expressions.specs.Seen.{boundBy};
 ghost use Rattle.expressions.specs.Codes.{boundOf, silentCode};
+ghost use Rattle.expressions.specs.Told.{booleanBy, relationBy, bindingFrom, defaultFrom, BindsFacts};
+
+// What is told of a fact: its observations, whether it is said to be unknown, the first election on it.
+pub struct Told {
+    pub seen: Seen,
+    pub unknown: bool,
+    pub election: Election,
+}
+
+// The binding of each fact, and the facts that took their election's default.
+pub struct Bound {
+    pub codes: [u8; 64],
+    pub defaults: u64,
+}
 
 // What was seen decides; where nothing was, what is said beside it.
 fn weigh(seen: Seen, silent: u8) -> u8
@@ -62,14 +78,14 @@ fn by_default(e: Election) -> u8
     3
 }
 
-fn bound_boolean(plan: Plan, case: Case, fact: u8) -> u8
-    ensures { λ r. ⌜ boundOf r ≡ boundBoolean (planOf plan) (caseOf case) fact ⌝ }
+// Explicit unknown first, then what was seen, then an election's default.
+fn bound_boolean(told: Told) -> u8
+    ensures { λ r. ⌜ boundOf r ≡ booleanBy told ⌝ }
 {
-    let booleans = case.booleans;
-    if said_unknown(booleans, fact) {
-        return 3;
-    }
-    weigh(seen_of(case, fact), by_default(election_on(plan, fact)))
+    let seen = told.seen;
+    let election = told.election;
+    let silent = by_default(election);
+    if told.unknown { 3 } else { weigh(seen, silent) }
 }
 
 // The roster's scope, 0 where there is no heading.
@@ -99,62 +115,27 @@ fn silence(families: Families, number: u8, scope: u8) -> u8
     0
 }
 
-// A fact past the last one is as a boolean.
-fn fact_at(facts: Facts, fact: u8) -> Fact
-    ensures { λ r. ⌜ factOf r ≡ getD (map factOf (take (facts .count) (facts .items))) fact (record { family = []; tuple = [] }) ⌝ }
+fn bound_relation(seen: Seen, silent: u8) -> u8
+    ensures { λ r. ⌜ boundOf r ≡ relationBy silent seen ⌝ }
 {
-    let at = wide(fact);
-    if at < upto(facts.count, 64) {
-        facts.items[at]
-    } else {
-        Fact {
-            boolean: true,
-            family: 0,
-            count: 0,
-            tuple: [0; 4],
-        }
-    }
-}
-
-fn bound_relation(case: Case, family: u8, fact: u8) -> u8
-    ensures { λ r. ⌜ boundOf r ≡ inFamily (scoped (family ∷ []) (caseHeading (caseOf case) .scope) (caseOf case .families)) (observed (caseOf case) fact) ⌝ }
-{
-    let families = case.families;
-    let silent = silence(families, family, scope_of(case));
     if silent == 0 {
         return 3;
     }
-    weigh(seen_of(case, fact), silent)
+    weigh(seen, silent)
 }
 
-// The binding of a fact, where `set` has the facts to bind.
-pub fn binding(plan: Plan, case: Case, set: u64, fact: u8) -> u8
-    ensures { λ r. ⌜ boundOf r ≡ bindingBy (planOf plan) (caseOf case) set fact ⌝ }
+// The binding of a fact by what is told of it; 0 for one that is not bound.
+fn binding(bound: bool, fact: Fact, told: Told, families: Families, scope: u8) -> u8
+    ensures { λ r. ⌜ boundOf r ≡ bindingFrom bound fact told (map familyOf (take (families .count) (families .items))) scope ⌝ }
 {
-    if !contains(set, fact) {
+    let seen = told.seen;
+    if !bound {
         return 0;
     }
-    let facts = plan.facts;
-    let f = fact_at(facts, fact);
-    if f.boolean {
-        bound_boolean(plan, case, fact)
-    } else {
-        bound_relation(case, f.family, fact)
+    if fact.boolean {
+        return bound_boolean(told);
     }
-}
-
-// The binding of each fact; 0 past the last.
-pub fn bindings(plan: Plan, case: Case, set: u64) -> [u8; 64]
-    ensures { λ r. ⌜ ((f : ℕ) → boundOf (getD r f 0) ≡ bindingAt (bindingsBy (planOf plan) (caseOf case) set) f) ⌝ }
-{
-    let mut out = [0u8; 64];
-    let n = upto(plan.facts.count, 64);
-    let mut i: usize = 0;
-    while i < n {
-        out[i] = binding(plan, case, set, i as u8);
-        i = i + 1;
-    }
-    out
+    bound_relation(seen, silence(families, fact.family, scope))
 }
 
 fn has_default(e: Election) -> bool
@@ -169,32 +150,78 @@ fn has_default(e: Election) -> bool
     e.policy == 2
 }
 
-// Whether the case says nothing of a fact.
-fn is_silent(case: Case, fact: u8) -> bool
-    ensures { λ r. ⌜ r ≡ (eqb (length (saidUnknown (caseOf case) fact)) 0 && eqb (length (observed (caseOf case) fact)) 0) ⌝ }
+// Whether a bound fact of which the case says nothing has an election's default.
+fn takes_default(bound: bool, fact: Fact, told: Told) -> bool
+    ensures { λ r. ⌜ r ≡ defaultFrom bound fact told ⌝ }
 {
-    let records = case.booleans;
-    if said_unknown(records, fact) {
+    let seen = told.seen;
+    let election = told.election;
+    if !bound {
         return false;
     }
-    let seen = seen_of(case, fact);
-    !seen.any
+    if !fact.boolean {
+        return false;
+    }
+    if told.unknown {
+        return false;
+    }
+    if seen.any {
+        return false;
+    }
+    has_default(election)
 }
 
-// Whether a bound fact took its election's default.
-pub fn took_default(plan: Plan, case: Case, set: u64, fact: u8) -> bool
-    ensures { λ r. ⌜ r ≡ tookDefaultBy (planOf plan) (caseOf case) set fact ⌝ }
+// All bindings (0 past the last fact) and the facts that took their default, where `set` has the facts to bind.
+pub fn bind_facts(plan: Plan, case: Case, set: u64) -> Bound
+    ensures { λ r. ⌜ BindsFacts (planOf plan) (caseOf case) set r ⌝ }
 {
-    if !contains(set, fact) {
-        return false;
-    }
     let facts = plan.facts;
-    let f = fact_at(facts, fact);
-    if !f.boolean {
-        return false;
+    let families = case.families;
+    let booleans = case.booleans;
+    let relations = case.relations;
+    let scope = scope_of(case);
+    let sights = sights_of(booleans, relations);
+    let unknown = said_unknown(booleans);
+    let elections = elect(plan);
+    let mut codes = [0u8; 64];
+    let mut defaults: u64 = 0;
+    let n = upto(facts.count, 64);
+    let mut i: usize = 0;
+    while i < n {
+        let k = i as u8;
+        let fact = facts.items[i];
+        let seen = sights.items[i];
+        let election = elections.items[i];
+        let bound = contains(set, k);
+        let told = Told {
+            seen: seen,
+            unknown: contains(unknown, k),
+            election: election,
+        };
+        codes[i] = binding(bound, fact, told, families, scope);
+        if takes_default(bound, fact, told) {
+            defaults = union(defaults, bit(k));
+        }
+        i = i + 1;
     }
-    if !is_silent(case, fact) {
-        return false;
+    Bound {
+        codes: codes,
+        defaults: defaults,
     }
-    has_default(election_on(plan, fact))
+}
+
+// The binding of each fact; 0 past the last.
+pub fn bindings(plan: Plan, case: Case, set: u64) -> [u8; 64]
+    ensures { λ r. ⌜ ((f : ℕ) → boundOf (getD r f 0) ≡ bindingAt (bindingsBy (planOf plan) (caseOf case) set) f) ⌝ }
+{
+    let found = bind_facts(plan, case, set);
+    found.codes
+}
+
+// The bound facts that took their election's default.
+pub fn defaults_taken(plan: Plan, case: Case, set: u64) -> u64
+    ensures { λ r. ⌜ ((f : ℕ) → has r f ≡ (ltb f (factCount (planOf plan)) && tookDefaultBy (planOf plan) (caseOf case) set f)) ⌝ }
+{
+    let found = bind_facts(plan, case, set);
+    found.defaults
 }

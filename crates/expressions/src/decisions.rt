@@ -8,7 +8,7 @@ use records::plan::Edges;
 use records::plan::Plan;
 use records::sets::union;
 ghost use mathlib.Core.Path.{_≡_};
-ghost use mathlib.Core.List.{[], _∷_, _++_, map};
+ghost use mathlib.Core.List.{_++_, map};
 ghost use Prim.Native.Nat.{_+_, _<_, _≤_};
 ghost use lib.ListN.{length};
 ghost use Rattle.records.specs.Sets.{below};
@@ -16,7 +16,7 @@ ghost use Rattle.records.specs.Decoded.{decisionsOf, planOf};
 ghost use Rattle.records.specs.Sound.{All, Sound};
 ghost use Rattle.expressions.specs.Coded.{Holds, EndsFit, cutsOf, edgesOf};
 ghost use Rattle.expressions.specs.Influence.{openDecisions, decisionCount, decisionTouch};
-ghost use Rattle.expressions.specs.Undecided.{decides, opensOf, openOf, openAll, pairOf, Named, openTouch};
+ghost use Rattle.expressions.specs.Undecided.{decides, opensOf, openOf, openAll, Named, openTouch};
 
 pub struct Undecided {
     pub count: usize,
@@ -44,17 +44,6 @@ pub fn says(decisions: Decisions, edge: u8, verdict: u8) -> bool
     false
 }
 
-fn put(mut found: Undecided, cut: u8, edge: u8) -> Undecided
-    requires { ⌜ found .count < 16 ⌝ }
-    ensures { λ r. ⌜ opensOf r ≡ opensOf found ++ (pairOf cut edge ∷ []) ⌝ }
-{
-    let i = found.count;
-    found.cuts[i] = cut;
-    found.edges[i] = edge;
-    found.count = i + 1;
-    found
-}
-
 // The unresolved decisions of the cut c, on edges below the count.
 fn open_in(found: Undecided, decisions: Decisions, c: u8, edges: usize) -> Undecided
     requires { ⌜ (edges ≤ 64) × (found .count + length (openOf (decisionsOf decisions) c edges) ≤ 16) ⌝ }
@@ -65,7 +54,10 @@ fn open_in(found: Undecided, decisions: Decisions, c: u8, edges: usize) -> Undec
     while e < edges {
         let k = e as u8;
         if says(decisions, k, 3) {
-            out = put(out, c, k);
+            let at = out.count;
+            out.cuts[at] = c;
+            out.edges[at] = k;
+            out.count = at + 1;
         }
         e = e + 1;
     }
@@ -109,18 +101,7 @@ pub fn open_decisions(plan: Plan) -> Undecided
     open_over(cuts, edge_count(edges))
 }
 
-// Whom a decision touches: the cut's members and the edge's ends.
-fn open_touch(cuts: Cuts, edges: Edges, c: u8, e: u8) -> u64
-    requires { ⌜ Named (length (cutsOf cuts)) (length (edgesOf edges)) (pairOf c e) × All EndsFit (edgesOf edges) ⌝ }
-    ensures { λ r. ⌜ r ≡ openTouch (cutsOf cuts) (edgesOf edges) (pairOf c e) ⌝ }
-{
-    let i = wide(c);
-    let cut = cuts.items[i];
-    let k = wide(e);
-    let edge = edges.items[k];
-    union(cut.members, ends(edge))
-}
-
+// Whom each decision touches: the cut's members and the edge's ends.
 fn touches_over(cuts: Cuts, edges: Edges, found: Undecided) -> [u64; 16]
     requires { ⌜ (found .count ≤ 16) × All (Named (length (cutsOf cuts)) (length (edgesOf edges))) (opensOf found) × All EndsFit (edgesOf edges) ⌝ }
     ensures { λ r. ⌜ Holds 0 r (map (openTouch (cutsOf cuts) (edgesOf edges)) (opensOf found)) ⌝ }
@@ -129,10 +110,11 @@ fn touches_over(cuts: Cuts, edges: Edges, found: Undecided) -> [u64; 16]
     let mut out = [0u64; 16];
     let mut i: usize = 0;
     while i < n {
-        let c = found.cuts[i];
-        let e = found.edges[i];
-        let t = open_touch(cuts, edges, c, e);
-        out[i] = t;
+        let c = wide(found.cuts[i]);
+        let cut = cuts.items[c];
+        let e = wide(found.edges[i]);
+        let edge = edges.items[e];
+        out[i] = union(cut.members, ends(edge));
         i = i + 1;
     }
     out

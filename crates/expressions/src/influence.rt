@@ -1,17 +1,17 @@
 // The influence of facts and decisions: whom they touch, closed under the rules.
-use crate::groups::Groups;
-use crate::groups::closing;
+use crate::counts::upto;
 use crate::reach::Reach;
 use records::sets::bit;
+use records::sets::close;
 use records::sets::contains;
 use records::sets::union;
 ghost use mathlib.Core.Path.{_≡_};
-ghost use mathlib.Core.List.{[], _∷_, _++_};
+ghost use mathlib.Core.List.{_++_};
 ghost use Prim.Native.Nat.{ℕ, _+_, _<_, _≤_};
 ghost use lib.Dec.{leb};
-ghost use lib.ListN.{getD, take};
+ghost use lib.ListN.{length, getD, take};
 ghost use Rattle.records.specs.Sets.{has, below};
-ghost use Rattle.expressions.specs.Influences.{setsOf, closedIf, closed, influenceBy};
+ghost use Rattle.expressions.specs.Influences.{setsOf, closedIf, influenceBy};
 
 // The sets of the facts, then those of the unresolved decisions.
 pub struct Influence {
@@ -19,51 +19,26 @@ pub struct Influence {
     pub sets: [u64; 80],
 }
 
-fn add(mut known: Influence, set: u64) -> Influence
-    requires { ⌜ known .count < 80 ⌝ }
-    ensures { λ r. ⌜ (r .count ≡ known .count + 1) × (setsOf r ≡ setsOf known ++ (set ∷ [])) ⌝ }
-{
-    let i = known.count;
-    known.sets[i] = set;
-    known.count = i + 1;
-    known
-}
+// A list has its 80 entries, which a reference to it does not tell the proof. The compiler drops the call with its copy.
+fn whole(list: [u64; 80])
+    ensures { λ r. ⌜ length list ≡ 80 ⌝ }
+{}
 
-// Of the facts below n; nobody for a fact that is no variable.
-fn fact_sets(groups: Groups, touches: [u64; 64], n: usize, variables: u64) -> Influence
-    requires { ⌜ n ≤ 64 ⌝ }
-    ensures { λ r. ⌜ (r .count ≡ n) × (setsOf r ≡ below n (closedIf (take (groups .count) (groups .sets)) variables touches)) ⌝ }
+// The closings of the sets of `touches` that are wanted by number, behind the first `at` of a list; nobody for the others.
+fn close_each(known: &mut [u64; 80], at: usize, groups: &[u64], touches: &[u64], wanted: u64)
+    requires { ⌜ at + length (now touches) ≤ 80 ⌝ }
+    ensures { λ r. ⌜ take (at + length (now (touches .entry))) (now (known .exit)) ≡ take at (now (known .entry)) ++ below (length (now (touches .entry))) (closedIf (now (groups .entry)) wanted (now (touches .entry))) ⌝ }
 {
-    let mut known = Influence {
-        count: 0,
-        sets: [0; 80],
-    };
+    whole(*known);
     let mut i: usize = 0;
-    while i < n {
-        let f = i as u8;
+    while i < touches.len() {
         let mut set: u64 = 0;
-        if contains(variables, f) {
-            set = closing(groups, touches[i]);
+        if contains(wanted, i as u8) {
+            set = close(groups, touches[i]);
         }
-        known = add(known, set);
+        known[at + i] = set;
         i = i + 1;
     }
-    known
-}
-
-// Of the decisions below n, behind those of the facts.
-fn decision_sets(facts: Influence, groups: Groups, touches: [u64; 16], n: usize) -> Influence
-    requires { ⌜ (facts .count ≤ 64) × (n ≤ 16) ⌝ }
-    ensures { λ r. ⌜ setsOf r ≡ setsOf facts ++ below n (closed (take (groups .count) (groups .sets)) touches) ⌝ }
-{
-    let mut known = facts;
-    let mut i: usize = 0;
-    while i < n {
-        let set = closing(groups, touches[i]);
-        known = add(known, set);
-        i = i + 1;
-    }
-    known
 }
 
 // The influence of each fact that is a variable, then of each unresolved decision.
@@ -72,11 +47,24 @@ pub fn influence_of(reach: Reach, variables: u64) -> Influence
     ensures { λ r. ⌜ setsOf r ≡ influenceBy reach variables ⌝ }
 {
     let groups = reach.groups;
+    let sets = groups.sets;
     let facts = reach.facts;
     let undecided = reach.undecided;
     let decisions = reach.decisions;
-    let first = fact_sets(groups, facts, reach.count, variables);
-    decision_sets(first, groups, decisions, undecided.count)
+    let n = upto(groups.count, 144);
+    let mut known = [0u64; 80];
+    close_each(&mut known, 0, &sets[..n], &facts[..reach.count], variables);
+    close_each(
+        &mut known,
+        reach.count,
+        &sets[..n],
+        &decisions[..undecided.count],
+        0xffffffffffffffff,
+    );
+    Influence {
+        count: reach.count + undecided.count,
+        sets: known,
+    }
 }
 
 // The variables among the facts, where a binding's number from 3 on is unknown or a conflict.

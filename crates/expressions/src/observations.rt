@@ -1,17 +1,21 @@
 // What a case says of a fact: its observations, and explicit unknown.
 ghost use mathlib.Core.Path.{_≡_};
-ghost use mathlib.Core.Bool.{not};
-ghost use mathlib.Core.List.{map};
+ghost use mathlib.Core.Bool.{not, _&&_, _||_};
+ghost use mathlib.Core.List.{_++_, map};
+ghost use Prim.Native.Nat.{ℕ, _<_};
 ghost use lib.ListN.{length, getD, take};
 ghost use lib.Dec.{eqb};
-ghost use Rattle.records.specs.Decoded.{observationsOf, booleanOf, relationOf, caseOf};
-ghost use Rattle.expressions.specs.Bindings.{observed, unknownIn, observedInBooleans, observedInRelations};
+ghost use Rattle.records.specs.Sets.{has};
+ghost use Rattle.records.specs.Decoded.{observationsOf, booleanOf, relationOf};
+ghost use Rattle.expressions.specs.Bindings.{unknownIn, observedInBooleans, observedInRelations};
 ghost use Rattle.expressions.specs.Seen.{nothing, lookAt, lookAll};
 use crate::counts::upto;
+use crate::counts::wide;
 use records::case::Booleans;
-use records::case::Case;
 use records::case::Observations;
 use records::case::Relations;
+use records::sets::bit;
+use records::sets::union;
 
 // What was seen of a fact so far: the first pair of value and evidence, whether another pair came, whether another value did.
 pub struct Seen {
@@ -78,67 +82,90 @@ pub fn look_all(seen: Seen, o: Observations) -> Seen
     s
 }
 
-pub fn look_in_booleans(seen: Seen, booleans: Booleans, fact: u8) -> Seen
-    ensures { λ r. ⌜ r ≡ lookAll seen (observedInBooleans (map booleanOf (take (booleans .count) (booleans .items))) fact) ⌝ }
+// What was seen of each fact.
+pub struct Sights {
+    pub items: [Seen; 64],
+}
+
+fn look_in_booleans(sights: Sights, booleans: Booleans) -> Sights
+    ensures { λ r. ⌜ ((f : ℕ) → f < 64 → getD (r .items) f nothing ≡ lookAll (getD (sights .items) f nothing) (observedInBooleans (map booleanOf (take (booleans .count) (booleans .items))) f)) ⌝ }
 {
-    let mut s = seen;
+    let mut s = sights;
     let n = upto(booleans.count, 64);
     let mut i: usize = 0;
     while i < n {
         let b = booleans.items[i];
-        if b.fact == fact {
+        let f = wide(b.fact);
+        if f < 64 {
             let o = b.observations;
-            s = look_all(s, o);
+            let seen = s.items[f];
+            let more = look_all(seen, o);
+            s.items[f] = more;
         }
         i = i + 1;
     }
     s
 }
 
-pub fn look_in_relations(seen: Seen, relations: Relations, fact: u8) -> Seen
-    ensures { λ r. ⌜ r ≡ lookAll seen (observedInRelations (map relationOf (take (relations .count) (relations .items))) fact) ⌝ }
+fn look_in_relations(sights: Sights, relations: Relations) -> Sights
+    ensures { λ r. ⌜ ((f : ℕ) → f < 64 → getD (r .items) f nothing ≡ lookAll (getD (sights .items) f nothing) (observedInRelations (map relationOf (take (relations .count) (relations .items))) f)) ⌝ }
 {
-    let mut s = seen;
+    let mut s = sights;
     let n = upto(relations.count, 256);
     let mut i: usize = 0;
     while i < n {
         let r = relations.items[i];
-        if r.fact == fact {
-            s = look(s, r.value, r.evidence);
+        let f = wide(r.fact);
+        if f < 64 {
+            let seen = s.items[f];
+            let more = look(seen, r.value, r.evidence);
+            s.items[f] = more;
         }
         i = i + 1;
     }
     s
 }
 
-// All that the case gives of a fact.
-pub fn seen_of(case: Case, fact: u8) -> Seen
-    ensures { λ r. ⌜ r ≡ lookAll nothing (observed (caseOf case) fact) ⌝ }
+// All that the case gives of each fact, in one pass over its records.
+pub fn sights_of(booleans: Booleans, relations: Relations) -> Sights
+    ensures { λ r. ⌜ ((f : ℕ) → f < 64 → getD (r .items) f nothing ≡ lookAll nothing (observedInBooleans (map booleanOf (take (booleans .count) (booleans .items))) f ++ observedInRelations (map relationOf (take (relations .count) (relations .items))) f)) ⌝ }
 {
-    let none = Seen {
-        any: false,
-        value: 0,
-        evidence: 0,
-        differs: false,
-        both: false,
+    let none = Sights {
+        items: [Seen {
+            any: false,
+            value: 0,
+            evidence: 0,
+            differs: false,
+            both: false,
+        }; 64],
     };
-    let booleans = case.booleans;
-    let relations = case.relations;
-    look_in_relations(look_in_booleans(none, booleans, fact), relations, fact)
+    look_in_relations(look_in_booleans(none, booleans), relations)
 }
 
-// Whether a boolean record says explicitly that the fact is unknown.
-pub fn said_unknown(booleans: Booleans, fact: u8) -> bool
-    ensures { λ r. ⌜ r ≡ not (eqb (length (unknownIn (map booleanOf (take (booleans .count) (booleans .items))) fact)) 0) ⌝ }
+// A fact that is said to be unknown joins the others.
+fn with_fact(m: u64, fact: u8, said: bool) -> u64
+    ensures { λ r. ⌜ ((f : ℕ) → f < 64 → has r f ≡ (has m f || (eqb fact f && said))) ⌝ }
+{
+    if !said {
+        return m;
+    }
+    if fact >= 64 {
+        return m;
+    }
+    union(m, bit(fact))
+}
+
+// The facts that a boolean record says explicitly to be unknown.
+pub fn said_unknown(booleans: Booleans) -> u64
+    ensures { λ r. ⌜ ((f : ℕ) → f < 64 → has r f ≡ not (eqb (length (unknownIn (map booleanOf (take (booleans .count) (booleans .items))) f)) 0)) ⌝ }
 {
     let n = upto(booleans.count, 64);
+    let mut m: u64 = 0;
     let mut i: usize = 0;
     while i < n {
         let b = booleans.items[i];
-        if b.fact == fact && b.unknown {
-            return true;
-        }
+        m = with_fact(m, b.fact, b.unknown);
         i = i + 1;
     }
-    false
+    m
 }

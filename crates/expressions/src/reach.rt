@@ -45,14 +45,23 @@ pub fn reach_of(plan: Plan, roster: u64, constraints: Constraints) -> Reach
 {
     let table = plan.nodes;
     let nodes = node_uses(table);
-    let joined = joining(plan, &nodes);
-    let rules = all_rules(plan, joined, &nodes);
+    let mut uses = [0u64; 176];
+    let mut persons = [0u64; 176];
+    let joined = joining(&mut uses, &mut persons, plan, &nodes);
+    let groups = groups_of(&persons[..joined]);
+    let rules = all_rules(&mut uses, &mut persons, joined, plan, &nodes);
     let used = constraint_uses(constraints, &nodes);
-    let bound = bound_facts(rules, used);
+    let bound = bound_facts(&uses[..rules], used);
     let known = plan.facts;
     let count = fact_count(known);
-    let facts = touches(known, rules, used, roster, bound);
-    let groups = groups_of(joined);
+    let facts = touches(
+        known,
+        &uses[..rules],
+        &persons[..rules],
+        used,
+        roster,
+        bound,
+    );
     let undecided = open_decisions(plan);
     let decisions = decision_touches(plan, undecided);
     Reach {

@@ -1,4 +1,4 @@
-// The rules of a plan in one list, made once: the facts that each uses, and whom it holds.
+// The rules of a plan in two lent lists, made once: the facts that each uses, and whom it holds.
 use crate::counts::upto;
 use crate::counts::wide;
 use crate::uses::used_by;
@@ -15,27 +15,27 @@ use records::sets::union;
 ghost use mathlib.Core.Path.{_≡_};
 ghost use mathlib.Core.List.{[], _∷_, map};
 ghost use Prim.Native.Nat.{_<_, _≤_, _+_};
+ghost use lib.ListN.{length};
 ghost use Rattle.records.specs.Sets.{one};
 ghost use Rattle.records.specs.Sound.{All, Sound};
 ghost use Rattle.records.specs.Decoded.{edgeOf, attachmentOf, planOf};
 ghost use Rattle.expressions.specs.Coded.{edgesOf, cutsOf, attachmentsOf, barsOf, statusesOf, EndsFit, AnchorFits, PersonFits};
-ghost use Rattle.expressions.specs.Listed.{Joining, Listed, usedAt, endsOf, spanOf, edgeUsed, cutUsed, cutHolds, attachmentUsed, barUsed, barHolds, statusUsed, statusHolds, Added};
+ghost use Rattle.expressions.specs.Listed.{lists, Joining, Listed, usedAt, endsOf, spanOf, edgeUsed, cutUsed, cutHolds, attachmentUsed, barUsed, barHolds, statusUsed, statusHolds, Added};
 
-pub struct Rules {
-    pub count: usize,
-    pub uses: [u64; 176],
-    pub persons: [u64; 176],
-}
+// A list has its 176 entries, which a reference to it does not tell the proof. The compiler drops the call with its copy.
+fn whole(list: [u64; 176])
+    ensures { λ r. ⌜ length list ≡ 176 ⌝ }
+{}
 
-fn push(mut rules: Rules, used: u64, held: u64) -> Rules
-    requires { ⌜ rules .count < 176 ⌝ }
-    ensures { λ r. ⌜ Added rules r (used ∷ []) (held ∷ []) ⌝ }
+// One rule more, behind the first `at`.
+fn push(uses: &mut [u64; 176], persons: &mut [u64; 176], at: usize, used: u64, held: u64)
+    requires { ⌜ at < 176 ⌝ }
+    ensures { λ r. ⌜ Added (lists at (now (uses .entry)) (now (persons .entry))) (lists (at + 1) (now (uses .exit)) (now (persons .exit))) (used ∷ []) (held ∷ []) ⌝ }
 {
-    let i = rules.count;
-    rules.uses[i] = used;
-    rules.persons[i] = held;
-    rules.count = i + 1;
-    rules
+    whole(*uses);
+    whole(*persons);
+    uses[at] = used;
+    persons[at] = held;
 }
 
 // The two persons of an edge.
@@ -64,28 +64,38 @@ fn edge_use(e: Edge, nodes: &[u64; 256]) -> u64
     union(own, used_by(defeaters, nodes))
 }
 
-fn add_edges(rules: Rules, edges: Edges, nodes: &[u64; 256]) -> Rules
-    requires { ⌜ (rules .count ≤ 112) × All EndsFit (edgesOf edges) ⌝ }
-    ensures { λ r. ⌜ Added rules r (map (edgeUsed (usedAt (now (nodes .entry)))) (edgesOf edges)) (map endsOf (edgesOf edges)) × (r .count ≤ rules .count + 64) ⌝ }
+fn add_edges(
+    uses: &mut [u64; 176],
+    persons: &mut [u64; 176],
+    at: usize,
+    edges: Edges,
+    nodes: &[u64; 256],
+) -> usize
+    requires { ⌜ (at ≤ 112) × All EndsFit (edgesOf edges) ⌝ }
+    ensures { λ r. ⌜ Added (lists at (now (uses .entry)) (now (persons .entry))) (lists r (now (uses .exit)) (now (persons .exit))) (map (edgeUsed (usedAt (now (nodes .entry)))) (edgesOf edges)) (map endsOf (edgesOf edges)) × (r ≤ at + 64) ⌝ }
 {
-    let mut all = rules;
     let n = upto(edges.count, 64);
     let mut i: usize = 0;
     while i < n {
         let e = edges.items[i];
         let used = edge_use(e, nodes);
         let held = ends(e);
-        all = push(all, used, held);
+        push(uses, persons, at + i, used, held);
         i = i + 1;
     }
-    all
+    at + n
 }
 
-fn add_cuts(rules: Rules, cuts: Cuts, nodes: &[u64; 256]) -> Rules
-    requires { ⌜ (rules .count ≤ 160) ⌝ }
-    ensures { λ r. ⌜ Added rules r (map (cutUsed (usedAt (now (nodes .entry)))) (cutsOf cuts)) (map cutHolds (cutsOf cuts)) × (r .count ≤ rules .count + 16) ⌝ }
+fn add_cuts(
+    uses: &mut [u64; 176],
+    persons: &mut [u64; 176],
+    at: usize,
+    cuts: Cuts,
+    nodes: &[u64; 256],
+) -> usize
+    requires { ⌜ (at ≤ 160) ⌝ }
+    ensures { λ r. ⌜ Added (lists at (now (uses .entry)) (now (persons .entry))) (lists r (now (uses .exit)) (now (persons .exit))) (map (cutUsed (usedAt (now (nodes .entry)))) (cutsOf cuts)) (map cutHolds (cutsOf cuts)) × (r ≤ at + 16) ⌝ }
 {
-    let mut all = rules;
     let n = upto(cuts.count, 16);
     let mut i: usize = 0;
     while i < n {
@@ -93,17 +103,22 @@ fn add_cuts(rules: Rules, cuts: Cuts, nodes: &[u64; 256]) -> Rules
         let k = wide(x.condition);
         let used = nodes[k];
         let held = x.members;
-        all = push(all, used, held);
+        push(uses, persons, at + i, used, held);
         i = i + 1;
     }
-    all
+    at + n
 }
 
-fn add_attachments(rules: Rules, attachments: Attachments, nodes: &[u64; 256]) -> Rules
-    requires { ⌜ (rules .count ≤ 144) × All AnchorFits (attachmentsOf attachments) ⌝ }
-    ensures { λ r. ⌜ Added rules r (map (attachmentUsed (usedAt (now (nodes .entry)))) (attachmentsOf attachments)) (map spanOf (attachmentsOf attachments)) × (r .count ≤ rules .count + 32) ⌝ }
+fn add_attachments(
+    uses: &mut [u64; 176],
+    persons: &mut [u64; 176],
+    at: usize,
+    attachments: Attachments,
+    nodes: &[u64; 256],
+) -> usize
+    requires { ⌜ (at ≤ 144) × All AnchorFits (attachmentsOf attachments) ⌝ }
+    ensures { λ r. ⌜ Added (lists at (now (uses .entry)) (now (persons .entry))) (lists r (now (uses .exit)) (now (persons .exit))) (map (attachmentUsed (usedAt (now (nodes .entry)))) (attachmentsOf attachments)) (map spanOf (attachmentsOf attachments)) × (r ≤ at + 32) ⌝ }
 {
-    let mut all = rules;
     let n = upto(attachments.count, 32);
     let mut i: usize = 0;
     while i < n {
@@ -111,17 +126,22 @@ fn add_attachments(rules: Rules, attachments: Attachments, nodes: &[u64; 256]) -
         let k = wide(x.condition);
         let used = nodes[k];
         let held = span(x);
-        all = push(all, used, held);
+        push(uses, persons, at + i, used, held);
         i = i + 1;
     }
-    all
+    at + n
 }
 
-fn add_bars(rules: Rules, bars: Bars, nodes: &[u64; 256]) -> Rules
-    requires { ⌜ (rules .count ≤ 144) ⌝ }
-    ensures { λ r. ⌜ Added rules r (map (barUsed (usedAt (now (nodes .entry)))) (barsOf bars)) (map barHolds (barsOf bars)) × (r .count ≤ rules .count + 32) ⌝ }
+fn add_bars(
+    uses: &mut [u64; 176],
+    persons: &mut [u64; 176],
+    at: usize,
+    bars: Bars,
+    nodes: &[u64; 256],
+) -> usize
+    requires { ⌜ (at ≤ 144) ⌝ }
+    ensures { λ r. ⌜ Added (lists at (now (uses .entry)) (now (persons .entry))) (lists r (now (uses .exit)) (now (persons .exit))) (map (barUsed (usedAt (now (nodes .entry)))) (barsOf bars)) (map barHolds (barsOf bars)) × (r ≤ at + 32) ⌝ }
 {
-    let mut all = rules;
     let n = upto(bars.count, 32);
     let mut i: usize = 0;
     while i < n {
@@ -129,17 +149,22 @@ fn add_bars(rules: Rules, bars: Bars, nodes: &[u64; 256]) -> Rules
         let k = wide(x.condition);
         let used = nodes[k];
         let held = x.members;
-        all = push(all, used, held);
+        push(uses, persons, at + i, used, held);
         i = i + 1;
     }
-    all
+    at + n
 }
 
-fn add_statuses(rules: Rules, statuses: Statuses, nodes: &[u64; 256]) -> Rules
-    requires { ⌜ (rules .count ≤ 144) × All PersonFits (statusesOf statuses) ⌝ }
-    ensures { λ r. ⌜ Added rules r (map (statusUsed (usedAt (now (nodes .entry)))) (statusesOf statuses)) (map statusHolds (statusesOf statuses)) × (r .count ≤ rules .count + 32) ⌝ }
+fn add_statuses(
+    uses: &mut [u64; 176],
+    persons: &mut [u64; 176],
+    at: usize,
+    statuses: Statuses,
+    nodes: &[u64; 256],
+) -> usize
+    requires { ⌜ (at ≤ 144) × All PersonFits (statusesOf statuses) ⌝ }
+    ensures { λ r. ⌜ Added (lists at (now (uses .entry)) (now (persons .entry))) (lists r (now (uses .exit)) (now (persons .exit))) (map (statusUsed (usedAt (now (nodes .entry)))) (statusesOf statuses)) (map statusHolds (statusesOf statuses)) × (r ≤ at + 32) ⌝ }
 {
-    let mut all = rules;
     let n = upto(statuses.count, 32);
     let mut i: usize = 0;
     while i < n {
@@ -147,37 +172,49 @@ fn add_statuses(rules: Rules, statuses: Statuses, nodes: &[u64; 256]) -> Rules
         let k = wide(x.condition);
         let used = nodes[k];
         let held = bit(x.person);
-        all = push(all, used, held);
+        push(uses, persons, at + i, used, held);
         i = i + 1;
     }
-    all
+    at + n
 }
 
 // The rules that a closing goes by: edges, cuts, attachments with anchor, bars.
-pub fn joining(plan: Plan, nodes: &[u64; 256]) -> Rules
+pub fn joining(
+    uses: &mut [u64; 176],
+    persons: &mut [u64; 176],
+    plan: Plan,
+    nodes: &[u64; 256],
+) -> usize
     requires { ⌜ Sound (planOf plan) ⌝ }
-    ensures { λ r. ⌜ Joining (planOf plan) (usedAt (now (nodes .entry))) r ⌝ }
+    ensures { λ r. ⌜ Joining (planOf plan) (usedAt (now (nodes .entry))) (lists r (now (uses .exit)) (now (persons .exit))) ⌝ }
 {
     let edges = plan.edges;
     let cuts = plan.cuts;
     let attachments = plan.attachments;
     let bars = plan.bars;
-    let none = Rules {
-        count: 0,
-        uses: [0; 176],
-        persons: [0; 176],
-    };
-    let first = add_edges(none, edges, nodes);
-    let second = add_cuts(first, cuts, nodes);
-    let third = add_attachments(second, attachments, nodes);
-    add_bars(third, bars, nodes)
+    let first = add_edges(uses, persons, 0, edges, nodes);
+    let second = add_cuts(uses, persons, first, cuts, nodes);
+    let third = add_attachments(uses, persons, second, attachments, nodes);
+    let n = add_bars(uses, persons, third, bars, nodes);
+    whole(*uses);
+    whole(*persons);
+    n
 }
 
 // All rules: statuses come last.
-pub fn all_rules(plan: Plan, joined: Rules, nodes: &[u64; 256]) -> Rules
-    requires { ⌜ Sound (planOf plan) × Joining (planOf plan) (usedAt (now nodes)) joined ⌝ }
-    ensures { λ r. ⌜ Listed (planOf plan) (usedAt (now (nodes .entry))) r ⌝ }
+pub fn all_rules(
+    uses: &mut [u64; 176],
+    persons: &mut [u64; 176],
+    joined: usize,
+    plan: Plan,
+    nodes: &[u64; 256],
+) -> usize
+    requires { ⌜ Sound (planOf plan) × Joining (planOf plan) (usedAt (now nodes)) (lists joined (now uses) (now persons)) ⌝ }
+    ensures { λ r. ⌜ Listed (planOf plan) (usedAt (now (nodes .entry))) (lists r (now (uses .exit)) (now (persons .exit))) ⌝ }
 {
     let statuses = plan.statuses;
-    add_statuses(joined, statuses, nodes)
+    let n = add_statuses(uses, persons, joined, statuses, nodes);
+    whole(*uses);
+    whole(*persons);
+    n
 }

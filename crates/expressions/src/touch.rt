@@ -1,7 +1,6 @@
 // Whom a fact touches: the persons it names, the roster if a constraint uses it, and the persons of the rules that use it.
 use crate::counts::upto;
 use crate::counts::wide;
-use crate::rules::Rules;
 use crate::uses::used_by;
 use records::case::Constraints;
 use records::plan::Fact;
@@ -11,12 +10,12 @@ use records::sets::bit;
 use records::sets::contains;
 use records::sets::union;
 ghost use mathlib.Core.Path.{_≡_};
-ghost use lib.ListN.{take};
+ghost use lib.ListN.{length, take};
 ghost use Rattle.records.specs.Sets.{union as both, unionOf, setOf};
 ghost use Rattle.records.specs.Sound.{All};
 ghost use Rattle.records.specs.Decoded.{factOf};
 ghost use Rattle.expressions.specs.Coded.{Holds, TupleFits, factsOf};
-ghost use Rattle.expressions.specs.Listed.{usedAt, usesOf, personsOf, usersIn, touchedBy, touchesBy};
+ghost use Rattle.expressions.specs.Listed.{usedAt, usersIn, touchedBy, touchesBy};
 
 // The facts that the constraints use.
 pub fn constraint_uses(constraints: Constraints, nodes: &[u64; 256]) -> u64
@@ -34,29 +33,28 @@ pub fn constraint_uses(constraints: Constraints, nodes: &[u64; 256]) -> u64
 }
 
 // Only facts that a condition, defeater or constraint uses are bound.
-pub fn bound_facts(rules: Rules, constraints: u64) -> u64
-    ensures { λ r. ⌜ r ≡ both constraints (unionOf (λ u. u) (usesOf rules)) ⌝ }
+pub fn bound_facts(uses: &[u64], constraints: u64) -> u64
+    ensures { λ r. ⌜ r ≡ both constraints (unionOf (λ u. u) (now (uses .entry))) ⌝ }
 {
-    let n = upto(rules.count, 176);
     let mut m = constraints;
     let mut i: usize = 0;
-    while i < n {
-        m = union(m, rules.uses[i]);
+    while i < uses.len() {
+        m = union(m, uses[i]);
         i = i + 1;
     }
     m
 }
 
 // All persons of rules that use the fact.
-fn users(rules: Rules, f: u8) -> u64
-    ensures { λ r. ⌜ r ≡ usersIn f (usesOf rules) (personsOf rules) ⌝ }
+fn users(uses: &[u64], persons: &[u64], f: u8) -> u64
+    requires { ⌜ length (now uses) ≡ length (now persons) ⌝ }
+    ensures { λ r. ⌜ r ≡ usersIn f (now (uses .entry)) (now (persons .entry)) ⌝ }
 {
-    let n = upto(rules.count, 176);
     let mut m: u64 = 0;
     let mut i: usize = 0;
-    while i < n {
-        if contains(rules.uses[i], f) {
-            m = union(m, rules.persons[i]);
+    while i < uses.len() {
+        if contains(uses[i], f) {
+            m = union(m, persons[i]);
         }
         i = i + 1;
     }
@@ -78,21 +76,35 @@ fn named(fact: Fact) -> u64
     m
 }
 
-pub fn touched(fact: Fact, f: u8, rules: Rules, constraints: u64, roster: u64) -> u64
-    requires { ⌜ TupleFits (factOf fact) ⌝ }
-    ensures { λ r. ⌜ r ≡ touchedBy (usesOf rules) (personsOf rules) constraints roster f (factOf fact) ⌝ }
+pub fn touched(
+    fact: Fact,
+    f: u8,
+    uses: &[u64],
+    persons: &[u64],
+    constraints: u64,
+    roster: u64,
+) -> u64
+    requires { ⌜ TupleFits (factOf fact) × (length (now uses) ≡ length (now persons)) ⌝ }
+    ensures { λ r. ⌜ r ≡ touchedBy (now (uses .entry)) (now (persons .entry)) constraints roster f (factOf fact) ⌝ }
 {
     let mut all: u64 = 0;
     if contains(constraints, f) {
         all = roster;
     }
-    union(named(fact), union(all, users(rules, f)))
+    union(named(fact), union(all, users(uses, persons, f)))
 }
 
 // Whom each fact touches; nobody for a fact that is not bound.
-pub fn touches(facts: Facts, rules: Rules, constraints: u64, roster: u64, bound: u64) -> [u64; 64]
-    requires { ⌜ All TupleFits (factsOf facts) ⌝ }
-    ensures { λ r. ⌜ Holds 0 r (touchesBy (usesOf rules) (personsOf rules) constraints roster bound (factsOf facts)) ⌝ }
+pub fn touches(
+    facts: Facts,
+    uses: &[u64],
+    persons: &[u64],
+    constraints: u64,
+    roster: u64,
+    bound: u64,
+) -> [u64; 64]
+    requires { ⌜ All TupleFits (factsOf facts) × (length (now uses) ≡ length (now persons)) ⌝ }
+    ensures { λ r. ⌜ Holds 0 r (touchesBy (now (uses .entry)) (now (persons .entry)) constraints roster bound (factsOf facts)) ⌝ }
 {
     let n = upto(facts.count, 64);
     let mut out = [0u64; 64];
@@ -102,7 +114,7 @@ pub fn touches(facts: Facts, rules: Rules, constraints: u64, roster: u64, bound:
         let f = i as u8;
         let mut t: u64 = 0;
         if contains(bound, f) {
-            t = touched(fact, f, rules, constraints, roster);
+            t = touched(fact, f, uses, persons, constraints, roster);
         }
         out[i] = t;
         i = i + 1;

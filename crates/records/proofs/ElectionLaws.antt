@@ -1,26 +1,30 @@
--- Laws of refusal 7: an election beside another, and beside all earlier ones. Assumes nothing.
-use mathlib.Core.Path.{_≡_, refl, sym, ap, _∙_}
+-- Laws of refusal 7: an election beside another, beside all earlier ones, and beside the one kept for its fact. Assumes nothing.
+use mathlib.Core.Path.{_≡_, refl, sym, ap, ap₂, _∙_}
 use mathlib.Core.Bool.{Bool, true, false, _&&_, cond}
 use mathlib.Core.List.{List, [], _∷_, _++_, map}
 use Prim.Native.Nat.{ℕ, zero, suc, _+_, _-_, _≤_, _<_}
+use native.Mathlib.Numerals.{add-one}
 use native.Mathlib.Omega.{arith}
-use mathlib.Core.Logic.{⊎-elim}
+use mathlib.Core.Logic.{_⊎_, ⊎-elim}
+use lib.Dec.{eqb}
 use lib.ListN.{length, getD, set, replicate, length-map, length-append, length-replicate, getD-replicate, List·getD-eq-default}
 use lib.Seq.{getD-set-same, getD-set-other}
+use borrow.Author.Tests.{eq-eqb, ne-eqb, eqb-true, eqb-false}
 use Rattle.records.specs.Sets.{allOf}
 use Rattle.records.specs.Fields.{fault}
 use Rattle.records.specs.Plan as paper
-use Rattle.records.specs.Decoded.{given, electionOf, noElection, cutOf, attachmentOf, planOf}
-use Rattle.records.specs.Named.{CountsOf}
+use Rattle.records.specs.Decoded.{given, electionOf, noElection, cutOf, attachmentOf}
+use Rattle.records.specs.PlanPasses.{cutsOf, attachmentsOf}
 use Rattle.records.specs.Elections.{earlier, agree, agreement}
-use Rattle.records.specs.declared.counts.Counts.{Counts}
 use Rattle.records.specs.declared.plan.Election.{Election}
 use Rattle.records.specs.declared.plan.Cut.{Cut}
+use Rattle.records.specs.declared.plan.Cuts.{Cuts}
 use Rattle.records.specs.declared.plan.Attachment.{Attachment}
-use Rattle.records.specs.declared.plan.Plan.{Plan}
+use Rattle.records.specs.declared.plan.Attachments.{Attachments}
 use Rattle.records.proofs.ListLaws.{all-append, getD-mapped, getD-front, getD-stay, getD-past}
 use Rattle.records.proofs.NamingLaws.{all-given}
-use Rattle.records.proofs.SetLaws.{lt-or-le}
+use Rattle.records.proofs.FactLaws.{and-true}
+use Rattle.records.proofs.SetLaws.{lt-or-le, and-parts}
 
 -- ---- two elections that may be there
 
@@ -66,17 +70,10 @@ fault-on acc [] k = refl
 fault-on acc (es ∷ ess) zero = refl
 fault-on acc (es ∷ ess) (suc k) = fault-on (es ++ acc) ess k
 
--- with one record fewer, and with none
-pub earlier-step : (es : List paper.Election) (ess : List (List paper.Election)) (j : ℕ) → 0 < j → agree es (earlier ess j) ≡ (agree es (getD ess (j - 1) []) && agree es (earlier ess (j - 1)))
+-- with one record more
+earlier-more : (es : List paper.Election) (ess : List (List paper.Election)) (k : ℕ) → agree es (earlier ess (k + 1)) ≡ (agree es (getD ess k []) && agree es (earlier ess k))
 unfolding earlier
-earlier-step es ess j h =
-    let s : j ≡ suc (j - 1) = omega arith in
-    ap (λ (k : ℕ). agree es (earlier ess k)) s ∙ agree-append es (getD ess (j - 1) []) (earlier ess (j - 1))
-
-pub earlier-none : (es : List paper.Election) (ess : List (List paper.Election)) → agree es (earlier ess 0) ≡ true
-unfolding earlier agree allOf
-earlier-none [] ess = refl
-earlier-none (e ∷ es) ess = earlier-none es ess
+earlier-more es ess k = ap (λ (j : ℕ). agree es (earlier ess j)) (add-one k) ∙ agree-append es (getD ess k []) (earlier ess k)
 
 -- the fault of record k, counted from the first cut
 pub election-fault : (P : paper.Plan) (k : ℕ) → fault 7 (agree (getD (paper.electionRecords P) k []) (earlier (paper.electionRecords P) k)) ≡ getD (agreement P) k 0
@@ -87,65 +84,117 @@ unfolding paper.electionFaults
 length-elections acc [] = refl
 length-elections acc (es ∷ ess) = ap suc (length-elections (es ++ acc) ess)
 
-pub length-records : (P : paper.Plan) (n : Counts) → CountsOf P n → length (paper.electionRecords P) ≡ n .cuts + n .attachments
-length-records P n h = simp (length-append, length-map, h .cuts, h .attachments)
+pub length-agreement : (P : paper.Plan) → length (agreement P) ≡ length (P .cuts) + length (P .attachments)
+length-agreement P = length-elections [] (paper.electionRecords P) ∙ simp (length-append, length-map)
 
-pub length-agreement : (P : paper.Plan) (n : Counts) → CountsOf P n → length (agreement P) ≡ n .cuts + n .attachments
-length-agreement P n h = length-elections [] (paper.electionRecords P) ∙ length-records P n h
+-- ---- the election of record k, of a plan that has these cuts and attachments
 
--- ---- the election of record k of a plan
+pub record Elects (x : Cuts) (y : Attachments) (P : paper.Plan) : Type 0 where
+  pub cuts-are : cutsOf x ≡ P .cuts
+  pub attachments-are : attachmentsOf y ≡ P .attachments
 
-module _ (p : Plan) (n : Counts) (h : CountsOf (planOf p) n) (k : ℕ) where
-  abbrev P : paper.Plan
-  P = planOf p
-
+module _ (x : Cuts) (y : Attachments) (P : paper.Plan) (b : Elects x y P) (k : ℕ) where
   abbrev cuts : List (List paper.Election)
   cuts = map (λ c. c .election) (P .cuts)
 
   abbrev attachments : List (List paper.Election)
   attachments = map (λ a. a .election) (P .attachments)
 
-  pub cut-election : (d : Cut) → k < n .cuts → electionOf ((getD (p .cuts .items) k d) .election) ≡ getD (paper.electionRecords P) k []
-  unfolding planOf cutOf
+  pub cut-election : (d : Cut) → k < length (P .cuts) → electionOf ((getD (x .items) k d) .election) ≡ getD (paper.electionRecords P) k []
+  unfolding cutOf
   cut-election d l =
-      sym (getD-stay cuts attachments (n .cuts) k [] (h .cuts ∙ sym (length-map (P .cuts) _)) l
-      ∙ getD-mapped (λ (c : paper.Cut). c .election) (P .cuts) k (cutOf d) [] (omega (arith, h .cuts))
-      ∙ ap (λ c. c .election) (getD-front cutOf (p .cuts .items) (p .cuts .count) k d (cutOf d) (omega (arith, h .cuts))))
+      sym (getD-stay cuts attachments (length (P .cuts)) k [] (sym (length-map (P .cuts) _)) l
+      ∙ getD-mapped (λ (c : paper.Cut). c .election) (P .cuts) k (cutOf d) [] l
+      ∙ ap (λ z. (getD z k (cutOf d)) .election) (sym (b .cuts-are))
+      ∙ ap (λ c. c .election) (getD-front cutOf (x .items) (x .count) k d (cutOf d) (rw (b .cuts-are) l)))
 
-  past-cuts : n .cuts ≤ k → getD attachments (k - n .cuts) [] ≡ getD (paper.electionRecords P) k []
-  past-cuts l = sym (getD-past cuts attachments (n .cuts) k [] (h .cuts ∙ sym (length-map (P .cuts) _)) l)
+  pub attachment-election : (m : ℕ) (d : Attachment) → m ≡ length (P .cuts) → m ≤ k → k - m < length (P .attachments)
+      → electionOf ((getD (y .items) (k - m) d) .election) ≡ getD (paper.electionRecords P) k []
+  unfolding attachmentOf
+  attachment-election m d e l u =
+      sym (getD-past cuts attachments m k [] (e ∙ sym (length-map (P .cuts) _)) l
+      ∙ getD-mapped (λ (a : paper.Attachment). a .election) (P .attachments) (k - m) (attachmentOf d) [] u
+      ∙ ap (λ z. (getD z (k - m) (attachmentOf d)) .election) (sym (b .attachments-are))
+      ∙ ap (λ a. a .election) (getD-front attachmentOf (y .items) (y .count) (k - m) d (attachmentOf d) (rw (b .attachments-are) u)))
 
-  pub attachment-election : (d : Attachment) → n .cuts ≤ k → k - n .cuts < n .attachments → electionOf ((getD (p .attachments .items) (k - n .cuts) d) .election) ≡ getD (paper.electionRecords P) k []
-  unfolding planOf attachmentOf
-  attachment-election d l m =
-      sym (getD-mapped (λ (a : paper.Attachment). a .election) (P .attachments) (k - n .cuts) (attachmentOf d) [] (omega (arith, h .attachments))
-      ∙ ap (λ a. a .election) (getD-front attachmentOf (p .attachments .items) (p .attachments .count) (k - n .cuts) d (attachmentOf d) (omega (arith, h .attachments))))
-      ∙ past-cuts l
+-- ---- one election kept for each fact
 
-  pub no-election : n .cuts ≤ k → n .attachments ≤ k - n .cuts → [] ≡ getD (paper.electionRecords P) k []
-  no-election l m = sym (List·getD-eq-default attachments [] (omega (arith, h .attachments, length-map (P .attachments) (λ (a : paper.Attachment). a .election)))) ∙ past-cuts l
+agree-none : (es : List paper.Election) → agree es [] ≡ true
+unfolding agree allOf
+agree-none [] = refl
+agree-none (e ∷ es) = agree-none es
 
--- ---- elections gathered one after another
+-- elections for one fact that agree are equal
+same-is : (x e : paper.Election) → x .fact ≡ e .fact → paper.sameElection x e ≡ true → x ≡ e
+unfolding paper.sameElection
+same-is x e f h =
+    let s : (eqb (x .actor) (e .actor) && (eqb (x .policy) (e .policy) && eqb (x .citation) (e .citation))) ≡ true = rw (eq-eqb (x .fact) (e .fact) f) at h in
+    let u = and-parts _ _ s in
+    let v = and-parts _ _ (u .1) in
+    let a = eqb-true (x .actor) (e .actor) (u .0) in
+    let p = eqb-true (x .policy) (e .policy) (v .0) in
+    let c = eqb-true (x .citation) (e .citation) (v .1) in
+    ap (λ (n : ℕ). record { fact = n; actor = x .actor; policy = x .policy; citation = x .citation }) f
+    ∙ ap (λ (n : ℕ). record { fact = e .fact; actor = n; policy = x .policy; citation = x .citation }) a
+    ∙ ap (λ (n : ℕ). record { fact = e .fact; actor = e .actor; policy = n; citation = x .citation }) p
+    ∙ ap (λ (n : ℕ). record { fact = e .fact; actor = e .actor; policy = e .policy; citation = n }) c
 
-module _ (P : paper.Plan) where
-  -- those of the first k records, and none behind them
-  pub record Known (k : ℕ) (items : List Election) : Type 0 where
-    pub front : (j : ℕ) → j < k → electionOf (getD items j noElection) ≡ getD (paper.electionRecords P) j []
-    pub rest : (j : ℕ) → k ≤ j → getD items j noElection ≡ noElection
+-- for the same fact: where e agrees with what was kept, it stands for both
+one-fact : (p q : Bool) (x e : paper.Election) (old : List paper.Election) → x .fact ≡ e .fact → agree (given p e) old ≡ true
+    → (agree (given q x) (given p e) && agree (given q x) old) ≡ agree (given q x) (cond p (given p e) old)
+unfolding agree allOf
+one-fact false q x e old f h = ap (λ b. b && agree (given q x) old) (agree-none (given q x))
+one-fact true false x e old f h = refl
+one-fact true true x e old f h = go (paper.sameElection x e) refl
+  where
+    go : (b : Bool) → paper.sameElection x e ≡ b → (agree (x ∷ []) (e ∷ []) && agree (x ∷ []) old) ≡ agree (x ∷ []) (e ∷ [])
+    go true s = ap (λ b. agree (x ∷ []) (e ∷ []) && b) (ap (λ z. agree (z ∷ []) old) (same-is x e f s) ∙ h) ∙ and-true _
+    go false s = rw (agree-given true true x e, s)
 
-  pub known-none : (n : ℕ) → Known 0 (replicate n noElection)
-  known-none n = record {
-    front = λ j l. absurd (omega arith);
-    rest = λ j l. ⊎-elim (λ u. getD-replicate n j noElection noElection u) (λ u. List·getD-eq-default (replicate n noElection) noElection (omega (arith, length-replicate n noElection))) (lt-or-le j n);
-  }
+other-fact : (p q : Bool) (x e : paper.Election) → (x .fact ≡ e .fact → ⊥) → agree (given q x) (given p e) ≡ true
+unfolding paper.sameElection
+other-fact true true x e f = agree-given true true x e ∙ rw (ne-eqb (x .fact) (e .fact) f)
+other-fact false true x e f = agree-given true false x e
+other-fact true false x e f = agree-given false true x e
+other-fact false false x e f = agree-given false false x e
 
-  pub known-more : (k : ℕ) (items : List Election) (e : Election) → k < length items → electionOf e ≡ getD (paper.electionRecords P) k [] → Known k items → Known (k + 1) (set items k e)
-  known-more k items e l h g = record {
-    front = λ j u. ⊎-elim (λ v. ap electionOf (getD-set-other items k j e noElection (λ q. omega (arith, q))) ∙ g .front j v)
-        (λ v. let s : j ≡ k = omega arith in ap (λ (i : ℕ). electionOf (getD (set items k e) i noElection)) s ∙ ap electionOf (getD-set-same items k e noElection l) ∙ h ∙ ap (λ (i : ℕ). getD (paper.electionRecords P) i []) (sym s)) (lt-or-le j k);
-    rest = λ j u. getD-set-other items k j e noElection (λ q. omega (arith, q)) ∙ g .rest j (omega arith);
-  }
+-- what was kept stands for all earlier ones
+abbrev pub Kept : List (List paper.Election) → ℕ → List Election → Type 0
+Kept ess k kept = (e : Election) → agree (electionOf e) (earlier ess k) ≡ agree (electionOf e) (electionOf (getD kept (e .fact) noElection))
 
-  pub known-all : (k : ℕ) (items : List Election) → length (paper.electionRecords P) ≤ k → Known k items → (j : ℕ) → electionOf (getD items j noElection) ≡ getD (paper.electionRecords P) j []
-  unfolding electionOf
-  known-all k items l g j = ⊎-elim (λ u. g .front j u) (λ u. ap electionOf (g .rest j u) ∙ sym (List·getD-eq-default (paper.electionRecords P) [] (omega arith))) (lt-or-le j k)
+pub kept-none : (ess : List (List paper.Election)) (n : ℕ) → Kept ess 0 (replicate n noElection)
+unfolding earlier electionOf
+kept-none ess n e = ap (λ z. agree (electionOf e) (electionOf z)) (sym (blank (lt-or-le (e .fact) n)))
+  where
+    blank : (e .fact < n) ⊎ (n ≤ e .fact) → getD (replicate n noElection) (e .fact) noElection ≡ noElection
+    blank = ⊎-elim (λ u. getD-replicate n (e .fact) noElection noElection u) (λ u. List·getD-eq-default (replicate n noElection) noElection (omega (arith, length-replicate n noElection)))
+
+-- one more election e, beside any x: what is kept then stands for it too
+kept-one : (kept : List Election) (e x : Election) → e .fact < length kept → agree (electionOf e) (electionOf (getD kept (e .fact) noElection)) ≡ true
+    → (b : Bool) → eqb (x .fact) (e .fact) ≡ b
+    → (agree (electionOf x) (electionOf e) && agree (electionOf x) (electionOf (getD kept (x .fact) noElection)))
+    ≡ agree (electionOf x) (electionOf (getD (set kept (e .fact) (cond (e .given) e (getD kept (e .fact) noElection))) (x .fact) noElection))
+unfolding electionOf
+kept-one kept e x l s true t =
+    let q = eqb-true (x .fact) (e .fact) t in
+    let old = getD kept (e .fact) noElection in
+    let new = cond (e .given) e old in
+    ap (λ (i : ℕ). agree (electionOf x) (electionOf e) && agree (electionOf x) (electionOf (getD kept i noElection))) q
+    ∙ one-fact (e .given) (x .given) _ _ (electionOf old) q s
+    ∙ ap (agree (electionOf x)) (either (e .given) e old)
+    ∙ ap (λ z. agree (electionOf x) (electionOf z)) (sym (ap (λ (i : ℕ). getD (set kept (e .fact) new) i noElection) q ∙ getD-set-same kept (e .fact) new noElection l))
+  where
+    either : (p : Bool) (m n : Election) → cond p (electionOf m) (electionOf n) ≡ electionOf (cond p m n)
+    either true m n = refl
+    either false m n = refl
+kept-one kept e x l s false t =
+    let n = eqb-false (x .fact) (e .fact) t in
+    let new = cond (e .given) e (getD kept (e .fact) noElection) in
+    ap (λ b. b && agree (electionOf x) (electionOf (getD kept (x .fact) noElection))) (other-fact (e .given) (x .given) _ _ n)
+    ∙ ap (λ z. agree (electionOf x) (electionOf z)) (sym (getD-set-other kept (e .fact) (x .fact) new noElection n))
+
+pub kept-more : (ess : List (List paper.Election)) (k : ℕ) (kept : List Election) (e : Election) → e .fact < length kept → electionOf e ≡ getD ess k []
+    → agree (electionOf e) (electionOf (getD kept (e .fact) noElection)) ≡ true → Kept ess k kept
+    → Kept ess (k + 1) (set kept (e .fact) (cond (e .given) e (getD kept (e .fact) noElection)))
+kept-more ess k kept e l h s g x =
+    earlier-more (electionOf x) ess k ∙ ap₂ (λ p q. p && q) (ap (agree (electionOf x)) (sym h)) (g x) ∙ kept-one kept e x l s (eqb (x .fact) (e .fact)) refl

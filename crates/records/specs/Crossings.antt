@@ -10,6 +10,7 @@ use Rattle.records.specs.Plan.{Plan, Cut, Edge, Decision, faults, crosse
 use Rattle.records.specs.Decoded.{cutOf, edgeOf}
 use Rattle.records.specs.declared.plan.Cut as cut
 use Rattle.records.specs.declared.plan.Edge as edge
+use Rattle.records.specs.declared.plan.Decisions as decisions
 use Rattle.records.specs.declared.crossing.Crossing.{Crossing}
 use Rattle.records.specs.declared.crossing.Crossing.the-variants.{At, Nowhere}
 
@@ -37,6 +38,6 @@ module _ (P : Plan) where
   abbrev pub crossingFaults : List ℕ
   crossingFaults = faults 6 (crossingsDecided P) (P .cuts)
 
--- what the test of one cut and one edge says, in every plan
-abbrev pub IsOpen : cut.Cut → ℕ → edge.Edge → Bool → Type 0
-IsOpen c k e r = (P : Plan) → r ≡ isOpen P (cutOf c) k (edgeOf e)
+-- what the test of one cut, by its members and decisions, and one edge says, in every plan
+abbrev pub IsOpen : ℕ → decisions.Decisions → ℕ → edge.Edge → Bool → Type 0
+IsOpen m ds k e r = (P : Plan) (c : cut.Cut) → c .members ≡ m → c .decisions ≡ ds → r ≡ isOpen P (cutOf c) k (edgeOf e)

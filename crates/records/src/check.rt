@@ -7,7 +7,6 @@ use crate::plan::Plan;
 use crate::read_plan::PlanRead;
 use crate::read_plan::read_plan;
 ghost use mathlib.Core.Path.{_≡_};
-ghost use Rattle.records.specs.Fields.{onFine};
 ghost use Rattle.records.specs.Plan.{planFaults, checkedPlan};
 ghost use Rattle.records.specs.Decoded.{planOf};
 ghost use Rattle.records.specs.Check.{checkedOf};
@@ -27,43 +26,22 @@ pub fn plan_faults(plan: Plan) -> Checked
     elections(plan)
 }
 
-// A plan that was read, or its refusal: with the checks after all records.
-pub fn after_records(read: PlanRead) -> PlanRead
-    ensures { λ r. ⌜ planReadOf r ≡ onFine (planReadOf read) planFaults ⌝ }
+// The plan that comes out of its bytes, or its refusal: for the crates above.
+pub fn decode_plan(s: &[u8]) -> PlanRead
+    ensures { λ r. ⌜ planReadOf r ≡ checkedPlan (now (s .entry)) ⌝ }
 {
+    let mut read = read_plan(s);
     if read.number != 0 {
         return read;
     }
     let plan = read.plan;
     let found = plan_faults(plan);
-    match found {
-        Checked::Accepted => read,
-        Checked::Refused { number, record } => PlanRead {
-            number: number,
-            record: record,
-            plan: plan,
-        },
-    }
-}
-
-pub fn answer(read: PlanRead) -> Checked
-    ensures { λ r. ⌜ r ≡ checkedOf (planReadOf read) ⌝ }
-{
-    if read.number == 0 {
-        return Checked::Accepted;
-    }
-    Checked::Refused {
-        number: read.number,
-        record: read.record,
-    }
-}
-
-// The plan that comes out of its bytes, or its refusal: for the crates above.
-pub fn decode_plan(s: &[u8]) -> PlanRead
-    ensures { λ r. ⌜ planReadOf r ≡ checkedPlan (now (s .entry)) ⌝ }
-{
-    let read = read_plan(s);
-    after_records(read)
+    let Checked::Refused { number, record } = found else {
+        return read;
+    };
+    read.number = number;
+    read.record = record;
+    read
 }
 
 // CHECK A PLAN
@@ -71,5 +49,11 @@ pub fn check(plan: &[u8]) -> Checked
     ensures { λ r. ⌜ r ≡ checkedOf (checkedPlan (now (plan .entry))) ⌝ }
 {
     let read = decode_plan(plan);
-    answer(read)
+    if read.number == 0 {
+        return Checked::Accepted;
+    }
+    Checked::Refused {
+        number: read.number,
+        record: read.record,
+    }
 }

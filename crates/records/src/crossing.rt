@@ -37,19 +37,18 @@ pub fn decided(decisions: Decisions, edge: usize) -> bool
     false
 }
 
-// Whether the edge of this number crosses the cut, with one end in it, and the cut does not decide it.
-pub fn undecided(cut: Cut, number: usize, edge: Edge) -> bool
-    ensures { λ r. ⌜ IsOpen cut number edge r ⌝ }
+// Whether the edge of this number crosses a cut of these members, with one end in it, and is not decided.
+pub fn undecided(members: u64, decisions: Decisions, number: usize, edge: Edge) -> bool
+    ensures { λ r. ⌜ IsOpen members decisions number edge r ⌝ }
 {
     if !edge.combination {
         return false;
     }
-    let left = contains(cut.members, edge.left);
-    let right = contains(cut.members, edge.right);
+    let left = contains(members, edge.left);
+    let right = contains(members, edge.right);
     if left == right {
         return false;
     }
-    let decisions = cut.decisions;
     !decided(decisions, number)
 }
 
@@ -65,9 +64,11 @@ pub fn first_crossing(plan: Plan) -> Crossing
     let mut cut: usize = 0;
     let mut edge: usize = 0;
     'search: while cut < cut_count {
+        let tested = cuts.items[cut];
+        let decisions = tested.decisions;
         edge = 0;
         while edge < edge_count {
-            if undecided(cuts.items[cut], edge, edges.items[edge]) {
+            if undecided(tested.members, decisions, edge, edges.items[edge]) {
                 hit = true;
                 break 'search;
             }

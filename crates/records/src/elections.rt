@@ -2,6 +2,7 @@
 use crate::checked::Checked;
 use crate::counts::Counts;
 use crate::counts::count_records;
+use crate::counts::wide;
 use crate::fields::no_election;
 use crate::plan::Attachment;
 use crate::plan::Attachments;
@@ -10,14 +11,12 @@ use crate::plan::Cuts;
 use crate::plan::Election;
 use crate::plan::Plan;
 ghost use mathlib.Core.Path.{_≡_};
-ghost use mathlib.Core.List.{[]};
-ghost use Prim.Native.Nat.{ℕ, _<_, _≤_};
-ghost use lib.ListN.{getD};
+ghost use mathlib.Core.Bool.{cond};
 ghost use Rattle.records.specs.Fields.{fine, firstFault};
-ghost use Rattle.records.specs.Plan.{cutsAt, electionRecords};
-ghost use Rattle.records.specs.Decoded.{planOf, electionOf, noElection};
+ghost use Rattle.records.specs.Plan.{cutsAt};
+ghost use Rattle.records.specs.Decoded.{planOf, electionOf};
 ghost use Rattle.records.specs.Check.{checkedOf};
-ghost use Rattle.records.specs.Elections.{agree, agreement, Gathered, Agrees};
+ghost use Rattle.records.specs.Elections.{agree, agreement};
 
 pub fn same(a: Election, b: Election) -> bool
     ensures { λ r. ⌜ r ≡ agree (electionOf a) (electionOf b) ⌝ }
@@ -40,85 +39,42 @@ pub fn same(a: Election, b: Election) -> bool
     a.citation == b.citation
 }
 
-// The election of record k, counted from the first cut.
-fn election_at(plan: Plan, k: usize) -> Election
-    ensures { λ r. ⌜ electionOf r ≡ getD (electionRecords (planOf plan)) k [] ⌝ }
+fn latest(earlier: Election, later: Election) -> Election
+    ensures { λ r. ⌜ r ≡ cond (later .given) later earlier ⌝ }
 {
-    let counts = count_records(plan);
-    if k < counts.cuts {
-        let cuts = plan.cuts;
-        let cut = cuts.items[k];
-        let election = cut.election;
-        return election;
-    }
-    let a = k - counts.cuts;
-    if a < counts.attachments {
-        let attachments = plan.attachments;
-        let attachment = attachments.items[a];
-        let election = attachment.election;
-        return election;
-    }
-    no_election()
+    if later.given { later } else { earlier }
 }
 
-// The elections of cuts and attachments in order, none past the last: gathered once, for each is held beside all earlier ones.
-struct Gathering {
-    items: [Election; 48],
-}
-
-fn gather(plan: Plan) -> Gathering
-    ensures { λ r. ⌜ Gathered (planOf plan) r ⌝ }
-{
-    let counts = count_records(plan);
-    let total = counts.cuts + counts.attachments;
-    let mut items = [no_election(); 48];
-    let mut k: usize = 0;
-    while k < total {
-        items[k] = election_at(plan, k);
-        k = k + 1;
-    }
-    Gathering { items: items }
-}
-
-fn recall(known: Gathering, k: usize) -> Election
-    ensures { λ r. ⌜ r ≡ getD (known .items) k noElection ⌝ }
-{
-    if k < 48 {
-        return known.items[k];
-    }
-    no_election()
-}
-
-// Whether the election of record k agrees with all earlier ones.
-fn agrees(known: Gathering, k: usize) -> bool
-    ensures { λ r. ⌜ Agrees known k r ⌝ }
-{
-    let later = recall(known, k);
-    let mut j: usize = k;
-    while j > 0 {
-        j = j - 1;
-        if !same(later, recall(known, j)) {
-            return false;
-        }
-    }
-    true
-}
-
+// One election for a fact is kept: as long as none differs, it stands for all of them.
 pub fn elections(plan: Plan) -> Checked
     ensures { λ r. ⌜ r ≡ checkedOf (firstFault (cutsAt (planOf plan)) (agreement (planOf plan)) (fine (planOf plan))) ⌝ }
 {
     let counts = count_records(plan);
     let first = counts.headings + counts.facts + counts.nodes + counts.edges;
-    let total = counts.cuts + counts.attachments;
-    let known = gather(plan);
+    let cut_count = counts.cuts;
+    let total = cut_count + counts.attachments;
+    let cuts = plan.cuts;
+    let attachments = plan.attachments;
+    let mut kept = [no_election(); 256];
     let mut k: usize = 0;
     while k < total {
-        if !agrees(known, k) {
+        let mut election = no_election();
+        if k < cut_count {
+            let cut = cuts.items[k];
+            election = cut.election;
+        } else {
+            let attachment = attachments.items[k - cut_count];
+            election = attachment.election;
+        }
+        let fact = wide(election.fact);
+        let earlier = kept[fact];
+        if !same(election, earlier) {
             return Checked::Refused {
                 number: 7,
                 record: first + k,
             };
         }
+        kept[fact] = latest(earlier, election);
         k = k + 1;
     }
     Checked::Accepted

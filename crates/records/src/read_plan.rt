@@ -56,47 +56,58 @@ fn refused(number: u8, k: usize) -> PlanRead
     }
 }
 
+// A refusal has a name before it is returned: the parts of the plan then need no common place before the end, and are copied once less.
 pub fn read_plan(s: &[u8]) -> PlanRead
     ensures { λ r. ⌜ planReadOf r ≡ paper.planRecords (now (s .entry)) ⌝ }
 {
     let h = read_heading(s);
     if h.number != 0 {
-        return refused(h.number, h.record);
+        let none = refused(h.number, h.record);
+        return none;
     }
     let headed = h.headings == 1;
     let f = read_facts(s, h.at, h.record, headed);
     if f.number != 0 {
-        return refused(f.number, f.record);
+        let none = refused(f.number, f.record);
+        return none;
     }
     let n = read_nodes(s, f.at, f.record, headed);
     if n.number != 0 {
-        return refused(n.number, n.record);
+        let none = refused(n.number, n.record);
+        return none;
     }
     let e = read_edges(s, n.at, n.record, headed);
     if e.number != 0 {
-        return refused(e.number, e.record);
+        let none = refused(e.number, e.record);
+        return none;
     }
     let c = read_cuts(s, e.at, e.record, headed);
     if c.number != 0 {
-        return refused(c.number, c.record);
+        let none = refused(c.number, c.record);
+        return none;
     }
     let a = read_attachments(s, c.at, c.record, headed);
     if a.number != 0 {
-        return refused(a.number, a.record);
+        let none = refused(a.number, a.record);
+        return none;
     }
     let b = read_bars(s, a.at, a.record, headed);
     if b.number != 0 {
-        return refused(b.number, b.record);
+        let none = refused(b.number, b.record);
+        return none;
     }
     let t = read_statuses(s, b.at, b.record, headed);
     if t.number != 0 {
-        return refused(t.number, t.record);
+        let none = refused(t.number, t.record);
+        return none;
     }
     if t.at < s.len() {
-        return refused(1, t.record);
+        let none = refused(1, t.record);
+        return none;
     }
     if t.record == 0 {
-        return refused(3, 0);
+        let none = refused(3, 0);
+        return none;
     }
     let facts = f.facts;
     let nodes = n.nodes;

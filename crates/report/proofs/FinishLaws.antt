@@ -3,12 +3,12 @@ use mathlib.Core.Path.{_≡_, refl, sym, ap, ap₂, _∙_, subst}
 use mathlib.Core.Bool.{Bool, true, false, _&&_, _||_, not, cond}
 use mathlib.Core.List.{List, [], _∷_, _++_, map, flatMap, append-assoc, append-nil}
 use mathlib.Core.Logic.{_⊎_, inl, inr, ⊎-elim}
-use Prim.Native.Nat.{ℕ, zero, suc, _+_, _*_, _-_, _^_, _≤_, _<_}
+use Prim.Native.Nat.{ℕ, _+_, _*_, _-_, _^_, _≤_, _<_}
 use native.Mathlib.Omega.{arith}
 use lib.ListN.{length, take, drop, replicate, length-map, length-append, length-replicate}
 use lib.Seq.{take-at, drop-append-add}
 use lib.Dec.{eqb}
-use borrow.Author.Tests.{eq-eqb, ne-eqb, lt-ltb, le-ltb}
+use borrow.Author.Tests.{eq-eqb, ne-eqb, lt-ltb}
 use Rattle.records.specs.Sets.{has, size, members, union, subset, allOf, anyOf, unionOf, unionBelow, lexLess}
 use Rattle.records.specs.Sound.{All}
 use Rattle.records.specs.Plan as paper
@@ -43,6 +43,7 @@ use Rattle.report.specs.Kept.{Kept}
 use Rattle.report.specs.Written.{SumsOf, LinesBy}
 use Rattle.report.specs.Walked.{worldAt}
 use Rattle.report.specs.Operations.{Outcome, filled, refusal, written, influences, linesOver, linesOf, eventsOver, answerReady, showFrom}
+use Rattle.report.specs.Bare.{worldless, Worldless}
 use Rattle.report.specs.Finish.{Ends, Placed, ended, Finishes}
 use Rattle.report.specs.declared.nine.Listing.{Listing}
 use Rattle.report.specs.declared.Answer.{Answer}
@@ -56,7 +57,7 @@ use Rattle.report.proofs.RisingKinds.{happened-rising}
 use Rattle.report.proofs.HappenedAll.{happened-same, defaults-asked, defaults-none}
 use Rattle.report.proofs.HappenedLaws.{Many, rules-many}
 use Rattle.report.proofs.NineLaws.{rising-twelve, flat-length}
-use Rattle.report.proofs.LinesAt.{line-length}
+use Rattle.report.proofs.FilledLaws.{zeros-drop, lines-filled, written-told}
 use Rattle.report.proofs.LineBlocks.{PartedIn, world-parted}
 
 -- ---- masks of kind 9 in the order of their events
@@ -174,35 +175,6 @@ unfolding flatMap
 flat-agree f g Q h [] a = refl
 flat-agree f g Q h (x ∷ xs) a = ap₂ _++_ (h x (a .0)) (flat-agree f g Q h xs (a .1))
 
--- one line after another
-flat-lines : {A : Type 0} (f : A → Line) (xs : List A) → flatMap (λ x. lineBytes (f x)) xs ≡ flatMap (λ b. b) (map lineBytes (map f xs))
-unfolding flatMap
-flat-lines f [] = refl
-flat-lines f (x ∷ xs) = ap (λ (l : List ℕ). lineBytes (f x) ++ l) (flat-lines f xs)
-
-lines-length : (ls : List Line) → length (flatMap (λ b. b) (map lineBytes ls)) ≡ 29 * length ls
-unfolding flatMap
-lines-length [] = refl
-lines-length (l ∷ ls) =
-    length-append (lineBytes l) (flatMap (λ b. b) (map lineBytes ls))
-    ∙ (let a = line-length l in let b = lines-length ls in let z : length (lineBytes l) + length (flatMap (λ b. b) (map lineBytes ls)) ≡ 29 * suc (length ls) = omega arith in z)
-
-zeros-drop : (n k : ℕ) → drop k (replicate {A = ℕ} n 0) ≡ replicate (n - k) 0
-zeros-drop zero zero = refl
-zeros-drop zero (suc k) = ap (λ (j : ℕ). replicate {A = ℕ} j 0) (let z : 0 ≡ 0 - suc k = omega arith in z)
-zeros-drop (suc n) zero = ap (λ (j : ℕ). replicate {A = ℕ} j 0) (let z : suc n ≡ suc n - 0 = omega arith in z)
-zeros-drop (suc n) (suc k) = zeros-drop n k ∙ ap (λ (j : ℕ). replicate {A = ℕ} j 0) (let z : n - k ≡ suc n - suc k = omega arith in z)
-
-lines-filled : (f : ℕ → Line) (roster : ℕ) (before after : List ℕ) → before ≡ replicate (length before) 0
-    → after ≡ flatMap (λ p. lineBytes (f p)) (members roster) ++ drop (29 * size roster) before
-    → after ≡ filled (length before) (map lineBytes (map f (members roster)))
-lines-filled f roster before after z h =
-    let s = flatMap (λ b. b) (map lineBytes (map f (members roster))) in
-    let n : 29 * size roster ≡ length s = sym (lines-length (map f (members roster)) ∙ ap (λ (k : ℕ). 29 * k) (length-map (members roster) f ∙ members-length roster)) in
-    h
-    ∙ ap₂ _++_ (flat-lines f (members roster))
-    (ap₂ drop n z ∙ zeros-drop (length before) (length s))
-
 -- a view by whether its person is marked
 abbrev viewBy : Bool → Bool → ℕ → ℕ → ℕ → View
 viewBy b o block role cs = cond b (record { block = 0; role = 0; kind = cond o 3 4; citations = 0 }) (record { block = block; role = role; kind = 0; citations = cs })
@@ -293,14 +265,6 @@ events-filled rs es count listed before after m long n b a =
 
 -- ---- the outcome
 
--- all that fits
-written-told : (lineRoom eventRoom : ℕ) (ls : List Line) (es : List (List ℕ)) (lines events : List ℕ) (people total n : ℕ) → 12 * length es ≤ eventRoom
-    → people ≡ length ls → total ≡ length es → lines ≡ filled lineRoom (map lineBytes ls) → events ≡ filled eventRoom es
-    → record { answer = Answered people total n; lines = lines; events = events } ≡ written lineRoom eventRoom ls es n
-unfolding written
-written-told lineRoom eventRoom ls es lines events people total n h p t l e =
-    rw (le-ltb eventRoom (12 * length es) h, p, t, l, e)
-
 -- more events than the buffer holds
 written-over : (lineRoom eventRoom : ℕ) (ls : List Line) (es : List (List ℕ)) (n : ℕ) → eventRoom < 12 * length es
     → written lineRoom eventRoom ls es n ≡ refusal lineRoom eventRoom (Refused 13 0)
@@ -324,10 +288,6 @@ no-nines l s N = pick (l .full) refl
     pick : (b : Bool) → l .full ≡ b → s ≡ replicate (length s) 0
     pick true e = let h = N .over e in absurd (let z : ⊥ = omega arith in z)
     pick false e = N .fitting e .2 ∙ ap (λ (k : ℕ). replicate {A = ℕ} k 0) (let z : length s - 12 * 0 ≡ length s = omega arith in z)
-
-no-events : (n : ℕ) → replicate n 0 ≡ filled n []
-unfolding flatMap
-no-events n = ap (λ (k : ℕ). replicate {A = ℕ} k 0) (let z : n ≡ n - 0 = omega arith in z)
 
 ended-all : (b : Bool) → b ≡ true → (lineRoom eventRoom : ℕ) (plan : Plan) (c : Case) (bs : List Bound) (n : ℕ) (ws : List World)
     → ended b lineRoom eventRoom plan c bs n ws ≡ answerReady lineRoom eventRoom (planOf plan) (caseOf c) bs ws
@@ -401,35 +361,19 @@ module _ {plan : Plan} {c : Case} {o : Opens} (w : Wanted) {walked : Walked} {no
       no-nines (walked .listing) events₀
       (subst (λ (ms : List ℕ). Nines (map nine ms) (walked .listing) events₀) (no-masks (K .masks) (λ m. K .components m ∙ and-false (not (eqb m 0)))) (K .nines))
 
-  none-is : (bs : List Bound) → answerReady (length lines₀) (length events₀) P C bs [] ≡ written (length lines₀) (length events₀) (map (bareLine 6) (members people)) [] 0
-  unfolding answerReady linesOver eventsOver lineOver
-  none-is bs = ap (λ (r : ℕ). written (length lines₀) (length events₀) (map (bareLine 6) (members r)) [] 0) same-roster
+  none-is : (bs : List Bound) (n : ℕ) → ended (w .all) (length lines₀) (length events₀) plan c bs n [] ≡ worldless (w .all) 6 people (length lines₀) (length events₀)
+  unfolding ended worldless answerReady linesOver eventsOver lineOver showFrom
+  none-is bs n =
+      ap (λ (r : ℕ). cond (w .all) (written (length lines₀) (length events₀) (map (bareLine 6) (members r)) [] 0) (refusal (length lines₀) (length events₀) (Refused 14 0)))
+      same-roster
 
-  one-is : (bs : List Bound) (n : ℕ) → showFrom (length lines₀) (length events₀) P C bs n [] ≡ refusal (length lines₀) (length events₀) (Refused 14 0)
-  unfolding showFrom
-  one-is bs n = refl
-
-  pub none-all : (lines₁ : List ℕ) (n : ℕ) → row sums 4 3 ≡ 0 → w .all ≡ true
-      → lines₁ ≡ flatMap (λ p. lineBytes (bareLine 6 p)) (members people) ++ drop (29 * size people) lines₀ → n ≡ size people
-      → Finishes plan c o w walked noted sums lines₀ lines₁ events₀ events₀ (Answered n 0 0)
-  none-all lines₁ n z all h e = record {
-    at = λ bs ws some pl K zl counts one asked none.
+  pub none : {lines₁ : List ℕ} {r : Answer} → row sums 4 3 ≡ 0 → Worldless w 6 people lines₀ lines₁ r → Finishes plan c o w walked noted sums lines₀ lines₁ events₀ events₀ r
+  none {lines₁} {r} z h = record {
+    at = λ bs ws some pl K zl counts one asked no.
         let v = begun-none ws some K z in
-        let K0 = subst KeptOf v K in
-        written-told (length lines₀) (length events₀) (map (bareLine 6) (members people)) [] lines₁ events₀ n 0 0 (omega arith)
-        (e ∙ sym (length-map (members people) (bareLine 6) ∙ members-length people)) refl
-        (lines-filled (bareLine 6) people lines₀ lines₁ zl h) (none-listed K0 ∙ no-events (length events₀))
-        ∙ sym (ended-all (w .all) all (length lines₀) (length events₀) plan c bs (walked .worlds) ws
-        ∙ ap (answerReady (length lines₀) (length events₀) P C bs) v ∙ none-is bs);
-  }
-
-  pub none-one : row sums 4 3 ≡ 0 → w .all ≡ false → Finishes plan c o w walked noted sums lines₀ lines₀ events₀ events₀ (Refused 14 0)
-  none-one z all = record {
-    at = λ bs ws some pl K zl counts one asked none.
-        let v = begun-none ws some K z in
-        outcome-same (Refused 14 0) zl (none-listed (subst KeptOf v K))
-        ∙ sym (ended-one (w .all) all (length lines₀) (length events₀) plan c bs (walked .worlds) ws
-        ∙ ap (showFrom (length lines₀) (length events₀) P C bs (walked .worlds)) v ∙ one-is bs (walked .worlds));
+        outcome-same r refl (none-listed (subst KeptOf v K))
+        ∙ h .at (length events₀) zl
+        ∙ sym (ap (ended (w .all) (length lines₀) (length events₀) plan c bs (walked .worlds)) v ∙ none-is bs (walked .worlds));
   }
 
   -- ---- with some world

@@ -31,6 +31,7 @@ pub mod KnownLaws
 pub mod HeadingLaws
 pub mod HappenedLaws
 pub mod RunLaws
+pub mod FilledLaws
 pub mod FinishLaws
 pub mod ReadyLaws
 pub mod OperateLaws

@@ -17,7 +17,7 @@ use Rattle.expressions.specs.Bindings.{frameOf, conflict, unknown, known, unbou
 use Rattle.expressions.specs.Variables.{choices}
 use Rattle.report.specs.Private.{Private}
 use Rattle.report.proofs.Weaker.{none, touchesBut, whole}
-use Rattle.report.proofs.Sanity.{Shown, table, oneCandidate, thePlan, first, second, Found, found, expected, number, sameBound, sameValues, computed, computed-one}
+use Rattle.report.proofs.Sanity.{Shown, table, oneCandidate, thePlan, first, second, Found, found, expected, number, sameBound, sameValues, computed}
 
 -- ---- bound alike, from the tests
 
@@ -80,7 +80,7 @@ clauses = refl
 -- EACH CLAUSE IS NEEDED: without it strangers show
 pub needed : (clause : ℕ) → clause < none → Private (touchesBut clause) _≡_ → ⊥
 needed clause l private =
-    refuted sameBound _≡_ bound-true row (all-at (λ x. found sameBound x ≡ expected x) table oneCandidate clause (each table computed) low)
+    refuted sameBound _≡_ bound-true row (all-at (λ x. found sameBound x ≡ expected x) table oneCandidate clause (each table (computed .0)) low)
     (subst (λ (k : ℕ). Private (touchesBut k) _≡_) is private)
   where
     row : Shown
@@ -97,5 +97,5 @@ needed clause l private =
 -- "both Known with one value, both Unknown, or Conflicts with equal candidates": equal values alone would not do, even with all clauses
 pub told-apart : Private touchesCircle (λ x y. choices x ≡ choices y) → ⊥
 told-apart private =
-    refuted sameValues (λ x y. choices x ≡ choices y) (λ x y e. ap choices (bound-true (conflict (choices x)) (conflict (choices y)) e)) oneCandidate computed-one
+    refuted sameValues (λ x y. choices x ≡ choices y) (λ x y e. ap choices (bound-true (conflict (choices x)) (conflict (choices y)) e)) oneCandidate (computed .1)
     (unfold oneCandidate in subst (λ (t : Frame → ℕ → ℕ → Bool). Private t (λ x y. choices x ≡ choices y)) (sym whole) private)

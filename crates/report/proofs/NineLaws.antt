@@ -7,7 +7,7 @@ use Prim.Native.Nat.{ℕ, zero, suc, _+_, _-_, _*_, _≤_, _<_}
 use native.Mathlib.Omega.{arith}
 use native.Mathlib.Numerals.{add-one, sub-one}
 use lib.ListN.{length, getD, take, drop, replicate, length-append, length-drop, take-append-drop, drop-of-length-le}
-use lib.Seq.{drop-cons, length-take-le, take-at, drop-at, take-all, drop-drop, drop-append-add}
+use lib.Seq.{drop-cons, length-take-le, take-at, drop-at, take-all, take-add, drop-drop, drop-append-add}
 use lib.Dec.{eqb, ltb}
 use borrow.Author.Tests.{eqb-true, eq-eqb, lt-ltb, le-ltb}
 use borrow.Rule.Slice.PartMut.{putMid}
@@ -68,13 +68,13 @@ ordered (x ∷ xs) (y ∷ ys) h = go (lt-or-le x y) (lt-or-le y x) (ordered xs y
     go (inr l) (inl k) o = more (rw (le-ltb x y l, lt-ltb y x k)) (less-head y x ys xs k)
     go (inr l) (inr k) o = next (rw (le-ltb x y l, le-ltb y x k)) (omega arith) o
 
-pub order-less : (f e : List ℕ) → length f ≡ length e → order f e ≡ 0 → lexLess f e ≡ true
-order-less f e h z = go (ordered f e h)
+pub order-less : (f e : List ℕ) → length f ≡ length e → (order f e ≡ 1 → ⊥) → (order f e ≡ 2 → ⊥) → lexLess f e ≡ true
+order-less f e h n m = go (ordered f e h)
   where
     go : Ordered f e (order f e) → lexLess f e ≡ true
     go (less r k) = k
-    go (same r k) = absurd (omega arith)
-    go (more r k) = absurd (omega arith)
+    go (same r k) = absurd (n r)
+    go (more r k) = absurd (m r)
 
 pub order-same : (f e : List ℕ) → length f ≡ length e → order f e ≡ 1 → f ≡ e
 order-same f e h z = go (ordered f e h)
@@ -84,12 +84,12 @@ order-same f e h z = go (ordered f e h)
     go (same r k) = k
     go (more r k) = absurd (omega arith)
 
-pub order-more : (f e : List ℕ) → length f ≡ length e → (order f e ≡ 1 → ⊥) → (order f e ≡ 0 → ⊥) → lexLess e f ≡ true
-order-more f e h n m = go (ordered f e h)
+pub order-more : (f e : List ℕ) → length f ≡ length e → order f e ≡ 2 → lexLess e f ≡ true
+order-more f e h z = go (ordered f e h)
   where
     go : Ordered f e (order f e) → lexLess e f ≡ true
-    go (less r k) = absurd (m r)
-    go (same r k) = absurd (n r)
+    go (less r k) = absurd (omega arith)
+    go (same r k) = absurd (omega arith)
     go (more r k) = k
 
 -- ---- inserting, by the first of the list
@@ -164,46 +164,99 @@ inserted-first s e n z h l = record {
   long = simp (length-append, length-drop) (omega arith);
 }
 
--- the part behind k bytes, and what the buffer is after the part behind the first event was worked on
+-- the part behind k bytes, and what the buffer is after a part was worked on
 pub rest-is : (s : List ℕ) (k : ℕ) → take (length s - k) (drop k s) ≡ drop k s
 rest-is s k = take-all (length s - k) (drop k s) (simp length-drop (omega arith))
 
-put-is : (s u : List ℕ) → putMid 12 (length s - 12) s u ≡ take 12 s ++ u
-put-is s u =
-    rw (drop-of-length-le (drop 12 s) {i = length s - 12} (simp length-drop (omega arith)), append-nil u)
+pub put-is : (s u : List ℕ) (a : ℕ) → putMid a (length s - a) s u ≡ take a s ++ u
+put-is s u a = rw (drop-of-length-le (drop a s) {i = length s - a} (simp length-drop (omega arith)), append-nil u)
 
--- s with n events, the first of which is the same, less, or more
-module _ (s e : List ℕ) (long : 12 ≤ length s) (h : length e ≡ 12) where
-  first : length (take 12 s) ≡ length e
-  first = length-take-le 12 s long ∙ sym h
+-- s with n events, the first of which is the same
+pub inserted-same : (s e : List ℕ) → 12 ≤ length s → length e ≡ 12 → (n : ℕ) → (n ≡ 0 → ⊥) → order (take 12 s) e ≡ 1 → Inserted n e s s n
+unfolding chunks
+inserted-same s e long h zero f o = absurd (f refl)
+inserted-same s e long h (suc k) f o = record {
+  events = λ rise. sym (insert-same e (take 12 s) (chunks k (drop 12 s)) (order-same (take 12 s) e (length-take-le 12 s long ∙ sym h) o));
+  behind = refl;
+  few = omega arith;
+  long = refl;
+}
 
-  pub inserted-same : (n : ℕ) → (n ≡ 0 → ⊥) → order (take 12 s) e ≡ 1 → Inserted n e s s n
-  unfolding chunks
-  inserted-same zero f o = absurd (f refl)
-  inserted-same (suc k) f o = record {
-    events = λ rise. sym (insert-same e (take 12 s) (chunks k (drop 12 s)) (order-same (take 12 s) e first o));
-    behind = refl;
-    few = omega arith;
-    long = refl;
-  }
+-- twelve bytes put at a place
+pub put-length : (k : ℕ) (d s : List ℕ) → length d ≡ 12 → k + 12 ≤ length s → length (take k s ++ (d ++ drop 12 (drop k s))) ≡ length s
+put-length k d s h l = let a = length-take-le k s (omega arith) in simp (length-append, length-drop) (rw (a, h) (omega arith))
 
-  pub inserted-less : (u : List ℕ) (n r : ℕ) → (n ≡ 0 → ⊥) → order (take 12 s) e ≡ 0 → Inserted (n - 1) e (take (length s - 12) (drop 12 s)) u r
-      → Inserted n e s (putMid 12 (length s - 12) s u) (r + 1)
-  inserted-less u zero r f o i = absurd (f refl)
-  inserted-less u (suc k) r f o i =
-      let j = inserted-on k r (take 12 s) (take 12 s) e e (drop 12 s) u (length-take-le 12 s long) (length-take-le 12 s long)
-      (λ rise. insert-on e (take 12 s) (chunks k (drop 12 s)) (order-less (take 12 s) e first o)) (rw (sub-one, rest-is s 12) at i) in
-      rw put-is (subst (λ (x : List ℕ). Inserted (suc k) e x (take 12 s ++ u) (r + 1)) (take-append-drop 12 s) j)
+-- ---- an event carried along n events of a buffer: the first i are settled, and d goes on to the rest
+module _ (n : ℕ) (e s₀ : List ℕ) where
+  -- whatever is made of the rest by putting d in, the whole is as if e had been put in
+  abbrev pub Carried : ℕ → List ℕ → List ℕ → Type 0
+  Carried i d s =
+      (i ≤ n) × (n * 12 + 12 ≤ length s) × (length d ≡ 12)
+      × ((u : List ℕ) (r : ℕ) → Inserted (n - i) d (drop (i * 12) s) u r → Inserted n e s₀ (take (i * 12) s ++ u) (r + i))
 
-  pub inserted-more : (u : List ℕ) (n r : ℕ) → (n ≡ 0 → ⊥) → (order (take 12 s) e ≡ 1 → ⊥) → (order (take 12 s) e ≡ 0 → ⊥)
-      → Inserted (n - 1) (take 12 s) (take (length (e ++ drop 12 s) - 12) (drop 12 (e ++ drop 12 s))) u r
-      → Inserted n e s (putMid 12 (length (e ++ drop 12 s) - 12) (e ++ drop 12 s) u) (r + 1)
-  inserted-more u zero r f n1 n0 i = absurd (f refl)
-  inserted-more u (suc k) r f n1 n0 i =
-      let j = inserted-on k r (take 12 s) e (take 12 s) e (drop 12 s) u (length-take-le 12 s long) h
-      (insert-further e (take 12 s) (chunks k (drop 12 s)) (order-more (take 12 s) e first n1 n0))
-      (rw (sub-one, rest-is (e ++ drop 12 s) 12, drop-at e (drop 12 s) 12 h) at i) in
-      rw (put-is, take-at e (drop 12 s) 12 h) (subst (λ (x : List ℕ). Inserted (suc k) e x (e ++ u) (r + 1)) (take-append-drop 12 s) j)
+  pub carried-first : length e ≡ 12 → n * 12 + 12 ≤ length s₀ → Carried 0 e s₀
+  carried-first h l =
+      let z : n - 0 ≡ n = omega arith in
+      (omega arith, l, h, λ u r i. let a : r + 0 ≡ r = omega arith in rw a (rw z at i))
+
+  module _ (i : ℕ) (d s : List ℕ) (below : i < n) (c : Carried i d s) where
+    abbrev rest : List ℕ
+    rest = drop (i * 12) s
+
+    abbrev others : List (List ℕ)
+    others = chunks (n - (i + 1)) (drop 12 rest)
+
+    room : 12 ≤ length rest
+    room = let l = c .1 in simp length-drop (omega arith)
+
+    first : length (take 12 rest) ≡ length d
+    first = length-take-le 12 rest room ∙ sym (c .2)
+
+    -- g is settled, and d′ goes on
+    carried-on : (g d′ s′ : List ℕ) → length g ≡ 12 → length d′ ≡ 12 → length s′ ≡ length s → take ((i + 1) * 12) s′ ≡ take (i * 12) s ++ g
+        → drop ((i + 1) * 12) s′ ≡ drop 12 rest → (Rises (take 12 rest ∷ others) → insert d (take 12 rest ∷ others) ≡ g ∷ insert d′ others) → Carried (i + 1) d′ s′
+    carried-on g d′ s′ hg hd hs front back step =
+        let l = c .1 in (
+          omega arith,
+          omega arith,
+          hd,
+          λ u r j.
+              let k : suc (n - (i + 1)) ≡ n - i = omega arith in
+              let m : (r + 1) + i ≡ r + (i + 1) = omega arith in
+              let on = inserted-on (n - (i + 1)) r (take 12 rest) g d′ d (drop 12 rest) u (length-take-le 12 rest room) hg step (rw back at j) in
+              let whole = c .3 (g ++ u) (r + 1) (rw (k, take-append-drop 12 rest) at on) in
+              rw (front, append-assoc (take (i * 12) s) g u) (rw m at whole),
+        )
+
+    pub carried-less : (order (take 12 rest) d ≡ 1 → ⊥) → (order (take 12 rest) d ≡ 2 → ⊥) → Carried (i + 1) d s
+    carried-less n1 n2 =
+        let k : (i + 1) * 12 ≡ i * 12 + 12 = omega arith in
+        carried-on (take 12 rest) d s (length-take-le 12 rest room) (c .2) refl (ap (λ (m : ℕ). take m s) k ∙ take-add (i * 12) 12 s)
+        (ap (λ (m : ℕ). drop m s) k ∙ sym (drop-drop 12 (i * 12) s)) (λ rise. insert-on d (take 12 rest) others (order-less (take 12 rest) d first n1 n2))
+
+    pub carried-more : order (take 12 rest) d ≡ 2 → Carried (i + 1) (take 12 rest) (take (i * 12) s ++ (d ++ drop 12 rest))
+    carried-more o =
+        let l = c .1 in
+        let a = length-take-le (i * 12) s (omega arith) in
+        let b : length (take (i * 12) s ++ d) ≡ (i + 1) * 12 = simp length-append (rw (a, c .2) (omega arith)) in
+        let whole = sym (append-assoc (take (i * 12) s) d (drop 12 rest)) in
+        carried-on d (take 12 rest) (take (i * 12) s ++ (d ++ drop 12 rest)) (c .2) (length-take-le 12 rest room)
+        (put-length (i * 12) d s (c .2) (omega arith))
+        (ap (take ((i + 1) * 12)) whole ∙ take-at (take (i * 12) s ++ d) (drop 12 rest) ((i + 1) * 12) b)
+        (ap (drop ((i + 1) * 12)) whole ∙ drop-at (take (i * 12) s ++ d) (drop 12 rest) ((i + 1) * 12) b)
+        (insert-further d (take 12 rest) others (order-more (take 12 rest) d first o))
+
+    pub carried-same : order (take 12 rest) d ≡ 1 → Inserted n e s₀ s n
+    carried-same o =
+        let m : (n - i) + i ≡ n = omega arith in
+        rw (m, take-append-drop (i * 12) s) at (c .3 rest (n - i) (inserted-same rest d room (c .2) (n - i) (λ z. absurd (omega arith)) o))
+
+  pub carried-last : (i : ℕ) (d s : List ℕ) → n ≤ i → Carried i d s → Inserted n e s₀ (take (n * 12) s ++ (d ++ drop 12 (drop (n * 12) s))) (n + 1)
+  carried-last i d s over c =
+      let l = c .1 in
+      let z : i ≡ n = omega arith in
+      let m : 1 + i ≡ n + 1 = omega arith in
+      rw (m, z) at (c .3 (d ++ drop 12 (drop (i * 12) s)) 1 (inserted-first (drop (i * 12) s) d (n - i) (omega arith) (c .2) (simp length-drop (omega arith))))
 
 -- ---- an event looked for among n
 

@@ -2,16 +2,16 @@
 -- the privacy of two answers.
 use mathlib.Core.Path.{_≡_, refl, sym, ap, ap₂, _∙_, subst}
 use mathlib.Core.Bool.{Bool, true, false, cond}
-use mathlib.Core.List.{List, [], _∷_, _++_, map, flatMap}
+use mathlib.Core.List.{List, [], _∷_}
 use mathlib.Core.Logic.{_⊎_, inl, inr}
-use Prim.Native.Nat.{ℕ, zero, suc, _+_, _*_, _-_, _^_, _≤_, min, zero-le}
+use Prim.Native.Nat.{ℕ, zero, suc, _*_, _-_, _^_, _≤_, min, zero-le}
 use native.Mathlib.Omega.{arith}
-use lib.ListN.{length, getD, drop, replicate, length-map, length-append, length-replicate, length-take}
+use lib.ListN.{length, getD, replicate, length-replicate, length-take}
 use lib.Seq.{getD-take}
 use lib.Pow.{pow-pos}
 use lib.Dec.{eqb, ltb}
-use borrow.Author.Tests.{eq-eqb, ne-eqb, ltb-true, ltb-false, le-ltb}
-use Rattle.records.specs.Sets.{size, subset, members}
+use borrow.Author.Tests.{eq-eqb, ne-eqb, ltb-true, ltb-false}
+use Rattle.records.specs.Sets.{size, subset}
 use Rattle.records.specs.Fields.{Verdict, fine, refused}
 use Rattle.records.specs.Plan.{Plan, Heading, checkedPlan}
 use Rattle.records.specs.Case.{Case, CaseHeading, readCase, caseHeading}
@@ -29,7 +29,6 @@ use Rattle.records.proofs.Accepted.{accepted}
 use Rattle.records.proofs.AcceptedCase.{accepted-case}
 use Rattle.records.proofs.CheckLaws.{refused-is}
 use Rattle.records.proofs.Every.{all-getD}
-use Rattle.records.proofs.MemberLaws.{members-length}
 use Rattle.expressions.specs.Rules.{rulePersons}
 use Rattle.expressions.specs.Influence.{Frame, openDecisions}
 use Rattle.expressions.specs.Bindings.{Bound, bindings, bindingsBy, bindingAt, bindable, frameOf}
@@ -45,19 +44,19 @@ use Rattle.expressions.proofs.OpenLaws.{opens-number}
 use Rattle.expressions.proofs.FactLaws.{bindings-by}
 use Rattle.expressions.proofs.ReachLaws.{heading-of, frame-of}
 use Rattle.report.proofs.ReadyLaws.{somebody}
-use Rattle.report.specs.Line.{Line, lineLength, lineBytes, bareLine}
+use Rattle.report.specs.Line.{lineLength}
 use Rattle.report.specs.LineAt.{lineAt}
-use Rattle.report.specs.Operations.{told, relationOf, mismatched, headingFault, tooMany, Opened, stopped, incomplete, ready, orStop, unlessFault, counted, bound, opened, Outcome, filled, refusal, written, answerOpened, answer, showOpened, show}
+use Rattle.report.specs.Operations.{told, relationOf, mismatched, headingFault, tooMany, Opened, stopped, incomplete, ready, orStop, unlessFault, counted, bound, opened, Outcome, refusal, answerOpened, answer, showOpened, show}
 use Rattle.report.specs.Opening.{RulePersons, HeadingFault}
 use Rattle.report.specs.Operate.{judged, headed, outcome, Operates}
+use Rattle.report.specs.Bare.{worldless, Worldless}
 use Rattle.report.specs.Ready.{readyOutcome, AnswersReady}
 use Rattle.report.specs.Private.{PrivateLines}
 use Rattle.report.specs.declared.Answer.{Answer}
-use Rattle.report.specs.declared.Answer.the-variants.{Accepted, Answered, Refused, TooManyWorlds}
+use Rattle.report.specs.declared.Answer.the-variants.{Refused, TooManyWorlds}
 use Rattle.report.specs.declared.run.Wanted.{Wanted}
 use Rattle.report.proofs.Answered.{bindable-split}
 use Rattle.report.proofs.OpenedLaws.{on-roster}
-use Rattle.report.proofs.LinesAt.{line-length}
 use Rattle.report.proofs.Privacy.{privacy}
 
 -- ---- plan and case as they were read
@@ -270,38 +269,6 @@ zeros-long l n z = ap length z ∙ length-replicate n 0
 pub zeros-all : (l : List ℕ) (n : ℕ) → l ≡ replicate n 0 → l ≡ replicate (length l) 0
 zeros-all l n z = z ∙ ap (λ (k : ℕ). replicate {A = ℕ} k 0) (sym (zeros-long l n z))
 
--- ---- lines one after another
-
-flat-lines : (f : ℕ → Line) (ps : List ℕ) → flatMap (λ p. lineBytes (f p)) ps ≡ flatMap (λ b. b) (map lineBytes (map f ps))
-unfolding flatMap
-flat-lines f [] = refl
-flat-lines f (p ∷ ps) = ap (λ (l : List ℕ). lineBytes (f p) ++ l) (flat-lines f ps)
-
-lines-length : (ls : List Line) → length (flatMap (λ b. b) (map lineBytes ls)) ≡ 29 * length ls
-unfolding flatMap
-lines-length [] = refl
-lines-length (l ∷ ls) =
-    length-append (lineBytes l) (flatMap (λ b. b) (map lineBytes ls))
-    ∙ (let a = line-length l in let b = lines-length ls in let z : length (lineBytes l) + length (flatMap (λ b. b) (map lineBytes ls)) ≡ 29 * suc (length ls) = omega arith in z)
-
-zeros-drop : (n k : ℕ) → drop k (replicate {A = ℕ} n 0) ≡ replicate (n - k) 0
-zeros-drop zero zero = refl
-zeros-drop zero (suc k) = ap (λ (j : ℕ). replicate {A = ℕ} j 0) (let z : 0 ≡ 0 - suc k = omega arith in z)
-zeros-drop (suc n) zero = ap (λ (j : ℕ). replicate {A = ℕ} j 0) (let z : suc n ≡ suc n - 0 = omega arith in z)
-zeros-drop (suc n) (suc k) = zeros-drop n k ∙ ap (λ (j : ℕ). replicate {A = ℕ} j 0) (let z : n - k ≡ suc n - suc k = omega arith in z)
-
-lines-filled : (f : ℕ → Line) (roster : ℕ) (before after : List ℕ) → before ≡ replicate (length before) 0
-    → after ≡ flatMap (λ p. lineBytes (f p)) (members roster) ++ drop (29 * size roster) before
-    → after ≡ filled (length before) (map lineBytes (map f (members roster)))
-lines-filled f roster before after z h =
-    let s = flatMap (λ b. b) (map lineBytes (map f (members roster))) in
-    let n : 29 * size roster ≡ length s = sym (lines-length (map f (members roster)) ∙ ap (λ (k : ℕ). 29 * k) (length-map (members roster) f ∙ members-length roster)) in
-    h ∙ ap₂ _++_ (flat-lines f (members roster)) (ap₂ drop n z ∙ zeros-drop (length before) (length s))
-
-none-filled : (e : List ℕ) → e ≡ replicate (length e) 0 → e ≡ filled (length e) []
-unfolding flatMap
-none-filled e n = n ∙ ap (λ (k : ℕ). replicate {A = ℕ} k 0) (let z : length e ≡ length e - 0 = omega arith in z)
-
 -- ---- what an operation makes of it
 
 module _ (w : Wanted) where
@@ -335,27 +302,9 @@ module _ (w : Wanted) where
   -- ---- a roster that is not complete
 
   module _ (roster : ℕ) (l₀ e₀ : List ℕ) (z : l₀ ≡ replicate (length l₀) 0) (n : e₀ ≡ replicate (length e₀) 0) {o : Opened} (h : o ≡ incomplete roster) where
-    pub no-world : w .all ≡ false → Operates w o l₀ l₀ e₀ e₀ (Refused 14 0)
-    no-world f = record {
-      outcome = ap₂ (λ (l e : List ℕ). made (Refused 14 0) l e) z n
-          ∙ sym (by-wanted (length l₀) (length e₀) (incomplete roster) false f)
-          ∙ ap (λ (o : Opened). outcome w (length l₀) (length e₀) o) (sym h);
-    }
-
-    pub bare-lines : (l₁ : List ℕ) (count : ℕ) → w .all ≡ true → count ≡ size roster
-        → l₁ ≡ flatMap (λ p. lineBytes (bareLine 5 p)) (members roster) ++ drop (29 * size roster) l₀ → Operates w o l₀ l₁ e₀ e₀ (Answered count 0 0)
-    unfolding written
-    bare-lines l₁ count t k lines = record {
-      outcome = ap₂ (λ (l e : List ℕ). made (Answered count 0 0) l e) (lines-filled (bareLine 5) roster l₀ l₁ z lines) (none-filled e₀ n)
-          ∙ ap (λ (x : ℕ). made (Answered x 0 0) ls (filled (length e₀) [])) (k ∙ sym (length-map (members roster) (bareLine 5) ∙ members-length roster))
-          ∙ ap (λ (b : Bool). cond b (refusal (length l₀) (length e₀) (Refused 13 0)) (made (Answered (length (map (bareLine 5) (members roster))) 0 0) ls (filled (length e₀) []))) (sym (le-ltb (length e₀) 0 zero-le))
-          ∙ sym (by-wanted (length l₀) (length e₀) (incomplete roster) true t)
-          ∙ ap (λ (o : Opened). outcome w (length l₀) (length e₀) o) (sym h);
-    }
-      where
-        -- all bytes of the buffer
-        ls : List ℕ
-        ls = filled (length l₀) (map lineBytes (map (bareLine 5) (members roster)))
+    pub bare : (l₁ : List ℕ) (a : Answer) → Worldless w 5 roster l₀ l₁ a → Operates w o l₀ l₁ e₀ e₀ a
+    unfolding worldless
+    bare l₁ a k = record { outcome = ap (λ (e : List ℕ). made a l₁ e) n ∙ k .at (length e₀) z ∙ ap (λ (o : Opened). outcome w (length l₀) (length e₀) o) (sym h) }
 
 -- ---- answering and showing
 

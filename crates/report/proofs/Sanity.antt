@@ -26,7 +26,7 @@ use Rattle.report.specs.LineAt.{lineAt}
 use Rattle.report.specs.EventList.{insert, rising, defaultEvents}
 use Rattle.report.specs.Operations.{Outcome, told, check, mismatched, headingFault, tooMany, counted, bound, opened, written, influences, allWorlds, linesOver, eventsOver, linesOf, answerReady, answer, showFrom, show}
 use Rattle.report.proofs.Starred.{mask, chain, always, base, roster₀}
-use Rattle.report.proofs.Weaker.{edges, cuts, attachments, anchors, bars, decisions, tuples, strangers, rosters, edgeUsers, defeaters, cutUsers, attachmentUsers, barUsers, statusUsers, none, edgeUsesBut, touchedBut, touchBut, spanBut, joinsBut, touchesBut}
+use Rattle.report.proofs.Weaker.{edges, cuts, attachments, anchors, bars, decisions, tuples, strangers, rosters, edgeUsers, defeaters, cutUsers, attachmentUsers, barUsers, statusUsers, sharedFacts, none, edgeUsesBut, touchedBut, touchBut, spanBut, joinsBut, touchesBut}
 
 -- ---- the table: plans and cases of which person 0 has the first line
 
@@ -86,6 +86,18 @@ twoSay out rules more persons byte before after = record {
   value₂ = after;
 }
 
+-- facts that name 0 and q, 1 and q, the second Unknown or Known: marks of 1 come to 0 by the influence of both
+abbrev through : ℕ → ℕ → ℕ → Shown
+through out q persons = record {
+  out = out;
+  plan = chain ++ (related 1 0 q ++ (related 2 1 q ++ (always ++ (node 0 ++ (node 1 ++ (cutIf 0 0b0110 ++ (cutIf 0 0b1010 ++ (barIf 1 0 ++ barIf 2 0))))))));
+  case₁ = roster₀ persons;
+  case₂ = roster₀ persons ++ complete 2;
+  byte = 1;
+  value₁ = 3;
+  value₂ = 0;
+}
+
 -- bytes of a line: 1 its kind, 2 its role, 3 the lowest of its block, 11 of its open facts, 21 of its citations
 unfoldable pub table : List Shown
 table =
@@ -110,16 +122,8 @@ table =
       value₁ = 3;
       value₂ = 0;
     } ∷
-    -- facts that name 0 and 9, 1 and 9, where 9 is off the roster; the second Unknown or Known
-    record {
-      out = strangers;
-      plan = chain ++ (related 1 0 9 ++ (related 2 1 9 ++ (always ++ (node 0 ++ (node 1 ++ (cutIf 0 0b0110 ++ (cutIf 0 0b1010 ++ (barIf 1 0 ++ barIf 2 0))))))));
-      case₁ = roster₀ 0b1111;
-      case₂ = roster₀ 0b1111 ++ complete 2;
-      byte = 1;
-      value₁ = 3;
-      value₂ = 0;
-    } ∷
+    -- the go-between is off the roster
+    through strangers 9 0b1111 ∷
     -- a constraint on the fact: inconsistent or decided
     twoSay rosters [] (5 ∷ 0b1 ∷ 1 ∷ []) 0b1 1 6 0 ∷
     -- 0–1 if the fact holds; unless it holds
@@ -129,7 +133,9 @@ table =
     twoSay cutUsers (base 0 1 0 ++ cutIf 1 0b01) [] 0b11 3 0b11 0b01 ∷
     twoSay attachmentUsers (moveIf 1 0b01 1) [] 0b11 3 0b01 0b11 ∷
     twoSay barUsers (barIf 1 0b1) [] 0b1 2 1 3 ∷
-    twoSay statusUsers (statusIf 1 0) [] 0b1 2 1 2 ∷ []
+    twoSay statusUsers (statusIf 1 0) [] 0b1 2 1 2 ∷
+    -- the go-between is on the roster, joined to 0 and to 1 by a fact each and by no rule
+    through sharedFacts 4 0b11111 ∷ []
 
 -- Known true, and a Conflict of true and true; cuts {0,1}, {0,2} mark 0, and the fact of a bar on 0 is open or not
 unfoldable pub oneCandidate : Shown
@@ -244,10 +250,6 @@ sameValues x y = sameBound (conflict (choices x)) (conflict (choices y))
 
 -- ---- THE TABLE HOLDS
 
-pub computed : map (found sameBound) table ≡ map expected table
-unfolding table edgeUsesBut touchedBut touchBut spanBut joinsBut touchesBut lineAt flatMap onesIn trailingZeros has one union meet minus disjoint meets subset setOf size lowest membersFrom members lexLess risingLess absorb pass passes closeOf numbers below anyBelow unionBelow foldBelow allOf anyOf unionOf byteAt bytesAt repeat little fieldAt fieldsAt recordAt readFrom firstFault planFormats nodeOf electionOf decisionsOf addToPlan planCounts isBoolean rises factsRise decidedOnce unresolvedIn unresolved judgePlan planRecords eachFrom getFact nodeSound edgeSound electionSound cutSound attachmentSound namingFaults crosses crossingsDecided sameElection electionFaults planFaults checkedPlan caseFormats observationsOf addToCase caseCounts judgeCase caseRecords relationSound caseNamingFaults readCase caseHeading edge cut attachment bar status pair span ruleSets chained value valuesFrom values uses usesFrom nodeUses openIn openBelow openDecisions openDecision decisionTouch edgeUses cutUses attachmentUses barUses statusUses usersOf constraintUses boundFacts touched touch touches decisionTouches joins circle touchesCircle evidenceOf valuesSeen weighed elections defaultOf boundBoolean inScope boundRelation bindingOf bindings tookDefault observedInBooleans observedInRelations unknownIn electionsIn scoped bindingBy bindingsBy tookDefaultBy familyFaults booleanFault booleanFaults bindable booleanCount slots waysOf worldCount set valuations admissible worlds factInfluence decisionInfluence influence flags active blocksEdge about baseSet baseSets clique loose looseComponent looseComponents spread chainStep preceded keptCut keptCuts overlappingCut overlappingCuts blockedBy blockedCut appliedCuts discretionSeed overlapSeed marksOf marked cutMembers appliedTo restSets firstBlock firstState move attach lastState barredBy excludedBy afterMarks worldOf roleOf edgeCitations leads cutCitations attachmentCitations barCitations statusCitations citations view littleBytes event listed frozenEvents appliedEvents blockedEvents leastOfMerged overlapEvents attachmentEvents barEvents statusEvents discretionEvents eventsOf lineBytes firstKind holding lineOver lineIn insert rising defaultEvents check checkedOf rulePersons mismatched headingFault tooMany counted bound opened written influences allWorlds linesOver eventsOver linesOf answerReady answer showFrom show
-computed = refl
-
-pub computed-one : found sameValues oneCandidate ≡ expected oneCandidate
-unfolding oneCandidate edgeUsesBut touchedBut touchBut spanBut joinsBut touchesBut lineAt flatMap onesIn trailingZeros has one union meet minus disjoint meets subset setOf size lowest membersFrom members lexLess risingLess absorb pass passes closeOf numbers below anyBelow unionBelow foldBelow allOf anyOf unionOf byteAt bytesAt repeat little fieldAt fieldsAt recordAt readFrom firstFault planFormats nodeOf electionOf decisionsOf addToPlan planCounts isBoolean rises factsRise decidedOnce unresolvedIn unresolved judgePlan planRecords eachFrom getFact nodeSound edgeSound electionSound cutSound attachmentSound namingFaults crosses crossingsDecided sameElection electionFaults planFaults checkedPlan caseFormats observationsOf addToCase caseCounts judgeCase caseRecords relationSound caseNamingFaults readCase caseHeading edge cut attachment bar status pair span ruleSets chained value valuesFrom values uses usesFrom nodeUses openIn openBelow openDecisions openDecision decisionTouch edgeUses cutUses attachmentUses barUses statusUses usersOf constraintUses boundFacts touched touch touches decisionTouches joins circle touchesCircle evidenceOf valuesSeen weighed elections defaultOf boundBoolean inScope boundRelation bindingOf bindings tookDefault observedInBooleans observedInRelations unknownIn electionsIn scoped bindingBy bindingsBy tookDefaultBy familyFaults booleanFault booleanFaults bindable booleanCount slots waysOf worldCount set valuations admissible worlds factInfluence decisionInfluence influence flags active blocksEdge about baseSet baseSets clique loose looseComponent looseComponents spread chainStep preceded keptCut keptCuts overlappingCut overlappingCuts blockedBy blockedCut appliedCuts discretionSeed overlapSeed marksOf marked cutMembers appliedTo restSets firstBlock firstState move attach lastState barredBy excludedBy afterMarks worldOf roleOf edgeCitations leads cutCitations attachmentCitations barCitations statusCitations citations view littleBytes event listed frozenEvents appliedEvents blockedEvents leastOfMerged overlapEvents attachmentEvents barEvents statusEvents discretionEvents eventsOf lineBytes firstKind holding lineOver lineIn insert rising defaultEvents check checkedOf rulePersons mismatched headingFault tooMany counted bound opened written influences allWorlds linesOver eventsOver linesOf answerReady answer showFrom show
-computed-one = refl
+pub computed : (map (found sameBound) table ≡ map expected table) × (found sameValues oneCandidate ≡ expected oneCandidate)
+unfolding table oneCandidate edgeUsesBut touchedBut touchBut spanBut joinsBut touchesBut lineAt flatMap onesIn trailingZeros has one union meet minus disjoint meets subset setOf size lowest membersFrom members lexLess risingLess absorb pass passes closeOf numbers below anyBelow unionBelow foldBelow allOf anyOf unionOf byteAt bytesAt repeat little fieldAt fieldsAt recordAt readFrom firstFault planFormats nodeOf electionOf decisionsOf addToPlan planCounts isBoolean rises factsRise decidedOnce unresolvedIn unresolved judgePlan planRecords eachFrom getFact nodeSound edgeSound electionSound cutSound attachmentSound namingFaults crosses crossingsDecided sameElection electionFaults planFaults checkedPlan caseFormats observationsOf addToCase caseCounts judgeCase caseRecords relationSound caseNamingFaults readCase caseHeading edge cut attachment bar status pair span ruleSets chained value valuesFrom values uses usesFrom nodeUses openIn openBelow openDecisions openDecision decisionTouch edgeUses cutUses attachmentUses barUses statusUses usersOf constraintUses boundFacts touched touch touches decisionTouches joins circle touchesCircle evidenceOf valuesSeen weighed elections defaultOf boundBoolean inScope boundRelation bindingOf bindings tookDefault observedInBooleans observedInRelations unknownIn electionsIn scoped bindingBy bindingsBy tookDefaultBy familyFaults booleanFault booleanFaults bindable booleanCount slots waysOf worldCount set valuations admissible worlds factInfluence decisionInfluence influence flags active blocksEdge about baseSet baseSets clique loose looseComponent looseComponents spread chainStep preceded keptCut keptCuts overlappingCut overlappingCuts blockedBy blockedCut appliedCuts discretionSeed overlapSeed marksOf marked cutMembers appliedTo restSets firstBlock firstState move attach lastState barredBy excludedBy afterMarks worldOf roleOf edgeCitations leads cutCitations attachmentCitations barCitations statusCitations citations view littleBytes event listed frozenEvents appliedEvents blockedEvents leastOfMerged overlapEvents attachmentEvents barEvents statusEvents discretionEvents eventsOf lineBytes firstKind holding lineOver lineIn insert rising defaultEvents check checkedOf rulePersons mismatched headingFault tooMany counted bound opened written influences allWorlds linesOver eventsOver linesOf answerReady answer showFrom show
+computed = (refl, refl)

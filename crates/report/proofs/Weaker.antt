@@ -61,9 +61,13 @@ barUsers = 13
 abbrev pub statusUsers : ℕ
 statusUsers = 14
 
+-- "or one fact touches both"
+abbrev pub sharedFacts : ℕ
+sharedFacts = 15
+
 -- no clause is left out
 abbrev pub none : ℕ
-none = 15
+none = 16
 
 -- ---- what is left
 
@@ -99,7 +103,7 @@ module _ (out : ℕ) where
       let P = F .plan in
       (parts edges (below (edgeCount P) (pair P)) ++ (parts cuts (below (cutCount P) (λ i. cut P i .members))
       ++ (parts attachments (below (attachmentCount P) (spanBut P)) ++ parts bars (below (barCount P) (λ i. bar P i .members)))))
-      ++ (below (factCount P) (touchBut F) ++ parts decisions (decisionTouches F))
+      ++ (parts sharedFacts (below (factCount P) (touchBut F)) ++ parts decisions (decisionTouches F))
 
   unfoldable pub touchesBut : Frame → ℕ → ℕ → Bool
   touchesBut F f p = meets (touchBut F f) (closeOf (joinsBut F) (one p))

@@ -1,5 +1,6 @@
 pub mod Line
 pub mod LineAt
+pub mod Units
 pub mod EventList
 pub mod Operations
 pub mod Written
@@ -14,6 +15,7 @@ pub mod Known
 pub mod Opening
 pub mod EventsWritten
 pub mod Run
+pub mod Bare
 pub mod Finish
 pub mod Ready
 pub mod Operate

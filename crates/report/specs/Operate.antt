@@ -1,21 +1,15 @@
 -- The refusals of a case in their order, as the code goes.
 use mathlib.Core.Path.{_≡_}
-use mathlib.Core.Bool.{cond, true}
+use mathlib.Core.Bool.{cond}
 use mathlib.Core.List.{List}
-use Prim.Native.Nat.{ℕ, _*_, _≤_}
+use Prim.Native.Nat.{ℕ}
 use lib.ListN.{length, replicate}
-use lib.Dec.{eqb}
-use Rattle.records.specs.Sets.{size, subset}
 use Rattle.records.specs.Case.{caseHeading}
 use Rattle.records.specs.Sound.{Sound, SoundCase}
 use Rattle.records.specs.Decoded.{planOf, caseOf}
 use Rattle.records.specs.declared.plan.Plan.{Plan}
 use Rattle.records.specs.declared.case.Case.{Case}
-use Rattle.expressions.specs.Rules.{rulePersons}
 use Rattle.expressions.specs.Bindings.{bindings, bindable}
-use Rattle.expressions.specs.Coded.{frameBy}
-use Rattle.expressions.specs.Reached.{Reached}
-use Rattle.expressions.specs.declared.reach.Reach.{Reach}
 use Rattle.report.specs.Operations.{Opened, orStop, unlessFault, headingFault, counted, bound, Outcome, answerOpened, showOpened}
 use Rattle.report.specs.declared.Answer.{Answer}
 use Rattle.report.specs.declared.run.Wanted.{Wanted}
@@ -40,10 +34,3 @@ pub record Opening (plan : Plan) (c : Case) (lines events : List ℕ) : Type 0 w
   pub sane : SoundCase (planOf plan) (caseOf c)
   pub zeros : lines ≡ replicate (length lines) 0
   pub none : events ≡ replicate (length events) 0
-
-pub record Binding (plan : Plan) (c : Case) (reach : Reach) (lines events : List ℕ) : Type 0 where
-  pub opening : Opening plan c lines events
-  pub named : subset (rulePersons (planOf plan)) (c .heading .roster) ≡ true
-  pub peopled : c .heading .roster ≡ 0 → ⊥
-  pub reached : Reached (frameBy plan (c .heading .roster) (c .constraints)) reach
-  pub room : 29 * size (c .heading .roster) ≤ length lines

@@ -1,9 +1,9 @@
 // The answer, once all worlds are looked at: lines and events are written, or one of 13 and 14 is refused.
 use crate::Answer;
+use crate::bare::without_worlds;
 use crate::clear::clear;
 use crate::happened::count_events;
 use crate::happened::write_events;
-use crate::line::write_bare;
 use crate::lines::write_lines;
 use crate::run::Wanted;
 use crate::sums::BEGUN;
@@ -53,22 +53,10 @@ pub fn finish(
 {
     let heading = case.heading;
     let roster = heading.roster;
-    let people = size(roster) as usize;
-    let listing = walked.listing;
     if sums[TALLY][BEGUN] == 0 {
-        if wanted.all {
-            write_bare(lines, roster, 6);
-            return Answer::Answered {
-                lines: people,
-                events: 0,
-                worlds: 0,
-            };
-        }
-        return Answer::Refused {
-            number: 14,
-            record: 0,
-        };
+        return without_worlds(lines, roster, 6, wanted);
     }
+    let listing = walked.listing;
     let cuts = plan.cuts;
     let count = count_events(sums, noted, opens.defaults, upto(cuts.count, 16));
     let listed = listing.count;
@@ -94,6 +82,7 @@ pub fn finish(
         count,
         listed,
     );
+    let people = size(roster) as usize;
     Answer::Answered {
         lines: people,
         events: total,

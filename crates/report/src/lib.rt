@@ -1,4 +1,5 @@
 // The three operations: check a plan, answer a case, show a world.
+pub mod bare;
 pub mod clear;
 pub mod event;
 pub mod finish;

@@ -67,25 +67,29 @@ fn put_front(s: &mut [u8], e: [u8; 12])
     }
 }
 
-// Puts an event among the n rising ones at the start; how many there are then.
+// Puts an event among the n rising ones at the start; how many there are then. The greater of two goes on to the rest.
 pub fn insert(s: &mut [u8], n: usize, e: [u8; 12]) -> usize
     requires { ⌜ n * 12 + 12 ≤ length (now s) ⌝ }
     ensures { λ r. ⌜ Inserted n e (now (s .entry)) (now (s .exit)) r ⌝ }
 {
-    if n == 0 {
-        put_front(s, e);
-        return 1;
+    let mut carried = e;
+    let mut i: usize = 0;
+    while i < n {
+        let at = i * 12;
+        let f = front(&s[at..]);
+        let c = compare(f, carried);
+        if c == 1 {
+            return n;
+        }
+        if c == 2 {
+            put_front(&mut s[at..], carried);
+            carried = f;
+        }
+        i = i + 1;
     }
-    let f = front(s);
-    let c = compare(f, e);
-    if c == 1 {
-        return n;
-    }
-    if c == 0 {
-        return insert(&mut s[12..], n - 1, e) + 1;
-    }
-    put_front(s, e);
-    insert(&mut s[12..], n - 1, f) + 1
+    let end = n * 12;
+    put_front(&mut s[end..], carried);
+    n + 1
 }
 
 // Whether an event is among the first n.

@@ -1,14 +1,13 @@
 // A case answered, or one of its worlds shown: the refusals in their order, then the worlds.
 use crate::Answer;
+use crate::bare::without_worlds;
 use crate::clear::clear;
 use crate::heading::heading_fault;
 use crate::heading::rule_persons;
-use crate::line::write_bare;
 use crate::ready::answer_ready;
 use crate::run::Wanted;
 use expressions::bindable::bindable;
 use expressions::bindings::bindings;
-use expressions::reach::Reach;
 use expressions::reach::reach_of;
 use expressions::variables::count_worlds;
 use records::case::Case;
@@ -16,47 +15,14 @@ use records::check::decode_plan;
 use records::checked::Checked;
 use records::plan::Plan;
 use records::read_case::read_case;
-use records::sets::size;
 ghost use mathlib.Core.Path.{_≡_};
 ghost use lib.ListN.{length, replicate};
 ghost use Rattle.records.specs.Sound.{Sound, SoundCase};
 ghost use Rattle.records.specs.Decoded.{planOf, caseOf};
 ghost use Rattle.report.specs.Operations.{opened};
-ghost use Rattle.report.specs.Operate.{judged, headed, Operates, Binding, Opening};
+ghost use Rattle.report.specs.Operate.{headed, Operates, Opening};
 
-// The binding of the facts, refusals 5, 10 and 11, and the worlds.
-fn operate_bound(
-    plan: Plan,
-    case: Case,
-    reach: Reach,
-    wanted: Wanted,
-    lines: &mut [u8],
-    events: &mut [u8],
-) -> Answer
-    requires { ⌜ Binding plan case reach (now lines) (now events) ⌝ }
-    ensures { λ r. ⌜ Operates wanted (judged plan case) (now (lines .entry)) (now (lines .exit)) (now (events .entry)) (now (events .exit)) r ⌝ }
-{
-    let found = bindable(case);
-    if let Checked::Refused { number, record } = found {
-        return Answer::Refused {
-            number: number,
-            record: record,
-        };
-    }
-    let heading = case.heading;
-    let undecided = reach.undecided;
-    let codes = bindings(plan, case, reach.bound);
-    let count = count_worlds(codes, reach.count, undecided.count, heading.most_worlds);
-    if count.refused {
-        return Answer::TooManyWorlds {
-            count: count.count,
-            most: count.maximum,
-        };
-    }
-    answer_ready(plan, case, reach, codes, wanted, lines, events)
-}
-
-// The heading's refusals, and a roster that is not complete.
+// The refusals 8 to 12, a roster that is not complete, then the refusals 5, 10 and 11, and the worlds.
 fn operate_case(
     plan: Plan,
     case: Case,
@@ -80,21 +46,26 @@ fn operate_case(
             record: 0,
         };
     }
-    if heading.complete {
-        return operate_bound(plan, case, reach, wanted, lines, events);
+    if !heading.complete {
+        return without_worlds(lines, heading.roster, 5, wanted);
     }
-    if !wanted.all {
+    let found = bindable(case);
+    if let Checked::Refused { number, record } = found {
         return Answer::Refused {
-            number: 14,
-            record: 0,
+            number: number,
+            record: record,
         };
     }
-    write_bare(lines, heading.roster, 5);
-    Answer::Answered {
-        lines: size(heading.roster) as usize,
-        events: 0,
-        worlds: 0,
+    let undecided = reach.undecided;
+    let codes = bindings(plan, case, reach.bound);
+    let count = count_worlds(codes, reach.count, undecided.count, heading.most_worlds);
+    if count.refused {
+        return Answer::TooManyWorlds {
+            count: count.count,
+            most: count.maximum,
+        };
     }
+    answer_ready(plan, case, reach, codes, wanted, lines, events)
 }
 
 // Bytes to plan and case, with their refusals.

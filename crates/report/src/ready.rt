@@ -6,7 +6,7 @@ use crate::free::free_variables;
 use crate::run::Wanted;
 use crate::run::run;
 use crate::run::started;
-use expressions::bindings::took_default;
+use expressions::bindings::defaults_taken;
 use expressions::counts::upto;
 use expressions::influence::Influence;
 use expressions::influence::influence_of;
@@ -16,26 +16,9 @@ use expressions::slots::boolean_count;
 use expressions::slots::variable_order;
 use records::case::Case;
 use records::plan::Plan;
-use records::sets::bit;
 use worlds::make::common_of;
 use worlds::make::lay_tables;
-ghost use Rattle.report.specs.Ready.{Defaulted, Concerns, IsReady, AnswersReady};
-
-// The bound facts that took their default.
-fn defaults(plan: Plan, case: Case, bound: u64) -> u64
-    ensures { λ r. ⌜ Defaulted plan case bound r ⌝ }
-{
-    let n = upto(plan.facts.count, 64);
-    let mut found: u64 = 0;
-    let mut i: usize = 0;
-    while i < n {
-        if took_default(plan, case, bound, i as u8) {
-            found = found | bit(i as u8);
-        }
-        i = i + 1;
-    }
-    found
-}
+ghost use Rattle.report.specs.Ready.{Concerns, IsReady, AnswersReady};
 
 // What open persons' lines and events 8 need; nothing of it for a shown world.
 fn concerns(plan: Plan, case: Case, reach: Reach, influence: Influence, all: bool) -> Opens
@@ -50,7 +33,7 @@ fn concerns(plan: Plan, case: Case, reach: Reach, influence: Influence, all: boo
         return Opens {
             influence: used,
             facts: reach.count,
-            defaults: defaults(plan, case, reach.bound),
+            defaults: defaults_taken(plan, case, reach.bound),
         };
     }
     Opens {

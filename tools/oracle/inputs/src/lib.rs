@@ -3,9 +3,13 @@
 
 pub mod build;
 pub mod calls;
+pub mod classes;
 pub mod generate;
 pub mod mutate;
 pub mod random;
+pub mod samples;
 pub mod shrink;
+pub mod smallest;
 pub mod vectors;
+pub mod village;
 pub mod wire;

@@ -1,4 +1,5 @@
-//! One plan and case on both sides: the answer, and all worlds of small cases.
+//! One plan and case on the Rust and on those held to it: the answer, and all
+//! worlds of small cases.
 
 use std::collections::BTreeMap;
 
@@ -8,22 +9,36 @@ use reference::unit_derivation::evaluate::reach::World;
 use reference::unit_derivation::types::UnitDerivationError;
 
 use crate::rust::{Answer, NoAnswer, Oracle};
-use crate::sides::model_answers;
+use crate::sides::{Model, Side, run};
 
 const LINE: usize = model::report::LINE;
 const EVENT: usize = model::report::EVENT;
 /// Cases with so many worlds at most are shown world by world.
 pub const MOST_SHOWN: u64 = 64;
 
+/// An implementation that is held to the Rust, and the rule by which it cites
+/// bars and statuses.
+pub struct Voice<'a> {
+    pub name: &'a str,
+    pub citing: Citing,
+    pub side: &'a dyn Side,
+}
+
+/// The model, under either rule.
+pub const MODEL: [Voice<'static>; 2] = [
+    Voice { name: "model", citing: Citing::ByPerson, side: &Model(Citing::ByPerson) },
+    Voice { name: "model", citing: Citing::ByBlock, side: &Model(Citing::ByBlock) },
+];
+
 #[derive(Clone, Copy, Debug, PartialEq, Eq)]
 pub enum Verdict {
-    /// Both answered, with equal bytes under either citing rule.
+    /// All answered, with equal bytes under either citing rule.
     Answered {
         worlds: u64,
         /// The two citing rules give different lines.
         citing_differs: bool,
     },
-    /// Both refused the case for the same reason.
+    /// All refused the case for the same reason.
     Refused(u8),
 }
 
@@ -44,12 +59,15 @@ impl Covered {
 #[derive(Clone, Debug)]
 pub struct Difference {
     pub what: String,
+    /// The Rust has no answer, so that nothing was compared.
+    pub unanswered: bool,
     pub rust: String,
-    pub model: String,
+    pub other: String,
 }
 
-fn difference(what: &str, rust: impl std::fmt::Debug, model: impl std::fmt::Debug) -> Difference {
-    Difference { what: what.to_string(), rust: format!("{rust:?}"), model: format!("{model:?}") }
+fn difference(what: &str, rust: impl std::fmt::Debug, other: impl std::fmt::Debug) -> Difference {
+    let (rust, other) = (format!("{rust:?}"), format!("{other:?}"));
+    Difference { what: what.to_string(), unanswered: false, rust, other }
 }
 
 /// Refusals that the Rust, too, gives a case.
@@ -143,16 +161,22 @@ fn added_by_blocks(oracle: &Oracle, worlds: &[World]) -> BTreeMap<u8, u64> {
 struct Sides<'a> {
     plan: &'a [u8],
     case: &'a [u8],
+    voices: &'a [Voice<'a>],
 }
 
 impl Sides<'_> {
+    /// Every voice of that citing rule against the Rust.
     fn check(&self, op: Op, world: u64, citing: Citing, rust: &Answer) -> Result<(), Difference> {
         let call = call(op, self.plan, self.case, world, rust);
-        let (rust, model) = (as_expected(rust), model_answers(citing, &call));
-        if rust == model {
-            return Ok(());
+        let rust = as_expected(rust);
+        for voice in self.voices.iter().filter(|voice| voice.citing == citing) {
+            let found = run(voice.side, &call);
+            if rust != found {
+                let what = format!("{op:?} {world} of the {}, {citing:?}", voice.name);
+                return Err(difference(&what, rust, found));
+            }
         }
-        Err(difference(&format!("{op:?} {world} {citing:?}"), rust, model))
+        Ok(())
     }
 
     /// Both citing rules against the Rust; true if they differ.
@@ -186,52 +210,72 @@ impl Sides<'_> {
         Ok(differs)
     }
 
+    /// Every voice on a call with room for any answer.
+    fn all(&self, op: Op, world: u64) -> impl Iterator<Item = (&str, Expected)> {
+        let call = roomy(op, self.plan, self.case, world);
+        self.voices.iter().map(move |voice| (voice.name, run(voice.side, &call)))
+    }
+
     /// One world past the last is refused.
     fn check_beyond(&self, worlds: u64) -> Result<(), Difference> {
-        let found = model_answers(Citing::ByBlock, &roomy(Op::Show, self.plan, self.case, worlds));
         let wanted = Expected { refusal: 14, ..Expected::default() };
-        if found == wanted { Ok(()) } else { Err(difference("show past the last", wanted, found)) }
-    }
-
-    fn check_refusal(&self, error: &UnitDerivationError) -> Result<Verdict, Difference> {
-        let mut wanted = refusal_of(error);
-        let found = model_answers(Citing::ByBlock, &roomy(Op::Answer, self.plan, self.case, 0));
-        // The Rust names no record.
-        wanted.record = found.record;
-        if found == wanted {
-            Ok(Verdict::Refused(found.refusal))
-        } else {
-            Err(difference("refusal", error, found))
+        match self.all(Op::Show, worlds).find(|(_, found)| *found != wanted) {
+            None => Ok(()),
+            Some((name, found)) => {
+                Err(difference(&format!("show past the last of the {name}"), wanted, found))
+            }
         }
     }
+
+    /// The Rust names no record: all name the one that the first names.
+    fn check_refusal(&self, error: &UnitDerivationError) -> Result<Verdict, Difference> {
+        let mut wanted = refusal_of(error);
+        for (number, (name, found)) in self.all(Op::Answer, 0).enumerate() {
+            if number == 0 {
+                wanted.record = found.record;
+            }
+            if found != wanted {
+                return Err(difference(&format!("refusal of the {name}"), error, found));
+            }
+        }
+        Ok(Verdict::Refused(wanted.refusal))
+    }
 }
 
-/// Compares the two sides on one input that both accept, or refuse as a case
-/// for a reason that both know.
+/// Compares the Rust and the model on one input that both accept, or refuse
+/// as a case for a reason that both know.
 pub fn compare(plan: &[u8], case: &[u8], covered: &mut Covered) -> Result<Verdict, Difference> {
-    compare_with(Oracle::new(plan, case), plan, case, covered)
+    compare_voices(&MODEL, plan, case, covered)
 }
 
-/// The same for a plan that only document 01 accepts: evaluate.rs is asked
-/// without the judgement of `compile`.
+/// The same for any that are held to the Rust.
+pub fn compare_voices(
+    voices: &[Voice],
+    plan: &[u8],
+    case: &[u8],
+    covered: &mut Covered,
+) -> Result<Verdict, Difference> {
+    compare_with(Oracle::new(plan, case), Sides { plan, case, voices }, covered)
+}
+
+/// The Rust and the model on a plan that only document 01 accepts: evaluate.rs
+/// is asked without the judgement of `compile`.
 pub fn compare_unchecked(
     plan: &[u8],
     case: &[u8],
     covered: &mut Covered,
 ) -> Result<Verdict, Difference> {
-    compare_with(Oracle::unchecked(plan, case), plan, case, covered)
+    compare_with(Oracle::unchecked(plan, case), Sides { plan, case, voices: &MODEL }, covered)
 }
 
 fn compare_with(
     oracle: Result<Oracle, NoAnswer>,
-    plan: &[u8],
-    case: &[u8],
+    sides: Sides,
     covered: &mut Covered,
 ) -> Result<Verdict, Difference> {
-    let sides = Sides { plan, case };
     let none = |error| {
-        let model = model_answers(Citing::ByBlock, &roomy(Op::Answer, plan, case, 0));
-        difference("the Rust has no answer", error, model)
+        let others: Vec<(&str, Expected)> = sides.all(Op::Answer, 0).collect();
+        Difference { unanswered: true, ..difference("the Rust has no answer", error, others) }
     };
     let oracle = oracle.map_err(none)?;
     match oracle.answer() {

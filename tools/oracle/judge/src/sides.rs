@@ -49,7 +49,7 @@ impl Side for Model {
 
 /// A side's answer to a call, its buffers dirty beforehand; panics if a byte
 /// past the results is not zero.
-pub fn run(side: &impl Side, call: &Call) -> Expected {
+pub fn run(side: &dyn Side, call: &Call) -> Expected {
     let mut lines = vec![DIRT; call.lines_len];
     let mut events = vec![DIRT; call.events_len];
     let outcome = match call.op {
@@ -69,11 +69,7 @@ pub fn model_answers(citing: Citing, call: &Call) -> Expected {
 }
 
 /// What two sides answer, if it is not the same.
-pub fn difference(
-    left: &impl Side,
-    right: &impl Side,
-    call: &Call,
-) -> Option<(Expected, Expected)> {
+pub fn difference(left: &dyn Side, right: &dyn Side, call: &Call) -> Option<(Expected, Expected)> {
     let (left, right) = (run(left, call), run(right, call));
     (left != right).then_some((left, right))
 }

@@ -3,10 +3,11 @@
 //! last; of others one world, and one past the last.
 
 use inputs::random::Random;
+use inputs::samples::{self, Sample};
+use inputs::smallest::smallest;
 use inputs::vectors::to_hex;
+use judge::trial::count_and_seed;
 use port::alike::{Asked, Difference, Tally};
-use port::cases::{self, Sample};
-use port::smallest::smallest;
 
 /// The answer; all its worlds, or one of many; one past the last.
 fn all<'a>(plan: &'a [u8], case: &'a [u8], random: &mut Random) -> Vec<Asked<'a>> {
@@ -42,11 +43,11 @@ fn report(sample: Sample, first: Difference) {
 }
 
 fn main() {
-    let (count, seed) = port::count_and_seed("answered N SEED");
+    let (count, seed) = count_and_seed("answered");
     let mut tally = Tally::default();
     for number in 0..count {
         let random = &mut Random::stream(seed, number);
-        let sample = cases::answerable(random);
+        let sample = samples::answerable(random);
         let asked = all(&sample.plan, &sample.case, random);
         let alike = asked
             .into_iter()

@@ -5,6 +5,7 @@ use inputs::generate;
 use inputs::mutate;
 use inputs::random::Random;
 use inputs::vectors::to_hex;
+use judge::trial::count_and_seed;
 use port::alike::{Asked, Tally};
 
 /// Damage to the bytes, or to whole records.
@@ -30,7 +31,7 @@ fn compare(plan: &[u8], case: &[u8], random: &mut Random, tally: &mut Tally) {
 }
 
 fn main() {
-    let (count, seed) = port::count_and_seed("damaged N SEED");
+    let (count, seed) = count_and_seed("damaged");
     let (mut plans, mut cases) = (Tally::default(), Tally::default());
     for number in 0..count {
         let random = &mut Random::stream(seed, number);

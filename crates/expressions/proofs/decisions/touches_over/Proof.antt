@@ -1,15 +1,23 @@
 -- `decisions::touches_over`: after i decisions the array holds whom the first i touch. Assumes nothing.
-use Prim.Native.Nat.{ℕ, _≤_, _<_, _-_}
-use mathlib.Core.Path.{_≡_, refl, sym, ap, _∙_, subst}
+use Prim.Native.Nat.{ℕ, _≤_, _<_, _-_, min}
+use mathlib.Core.Path.{_≡_, refl, sym, ap, ap₂, _∙_, subst}
 use native.Mathlib.Omega.{arith}
-use lib.ListN.{length, length-set}
+use mathlib.Core.Bool.{false}
+use mathlib.Core.List.{[]}
+use lib.ListN.{length, getD, length-map, length-set}
 use borrow.Author.Needs.{needs}
-use Rattle.records.specs.Sets.{below, numbers}
-use Rattle.records.proofs.LoopLaws.{all-at, getD-below, length-below}
+use Rattle.records.specs.Sets.{union, below, numbers}
+use Rattle.records.specs.Decoded.{edgeOf}
+use Rattle.records.specs.declared.plan.Cut.{Cut}
+use Rattle.records.specs.declared.plan.Edge.{Edge}
+use Rattle.records.proofs.plan.Cut.{the-type as cut-type}
+use Rattle.records.proofs.plan.Edge.{the-type as edge-type}
 use Rattle.expressions.specs.Influence.{Open}
-use Rattle.expressions.specs.Coded.{Holds, cutsOf, edgesOf}
-use Rattle.expressions.specs.Undecided.{pairOf, openAt, opensOf, Named, openTouch}
-use Rattle.expressions.proofs.ListLaws.{holds-none, fill-next, below-map}
+use Rattle.expressions.specs.Coded.{Holds, EndsFit, cutsOf, edgesOf}
+use Rattle.expressions.specs.Listed.{endsOf}
+use Rattle.expressions.specs.Undecided.{openAt, opensOf, openTouch}
+use Rattle.expressions.proofs.ListLaws.{holds-none, fill-next, below-map, made-each}
+use Rattle.expressions.proofs.DecisionLaws.{cut-in, edge-in, touch-at}
 use Rattle.expressions.proofs.decisions.touches_over.Statement.{statement}
 use Rattle.expressions.proofs.decisions.touches_over.Tie as tie
 
@@ -20,6 +28,25 @@ Inv-loop cuts edges found n out₀ i₀ out i =
 abbrev μ-loop : tie.MeasureT-loop
 μ-loop cuts edges found n out₀ i₀ out i = n - i
 
+abbrev noCut : Cut
+noCut = record {
+  members = 0;
+  condition = 0;
+  citation = 0;
+  election = record { given = false; fact = 0; actor = 0; policy = 0; citation = 0 };
+  decisions = record { count = 0; edges = []; verdicts = [] };
+  precedes = record { count = 0; items = [] };
+}
+
+abbrev noEdge : Edge
+noEdge = record { left = 0; right = 0; condition = 0; citation = 0; defeaters = record { count = 0; items = [] }; combination = false }
+
+long : (c : tie.Start Inv-loop μ-loop) → length (c .args .t1 .items) ≡ 16
+long c = sym (length-map (c .args .t1 .items) (cut-type .to)) ∙ c .good .0 .1 .1 .1 .0 .1 .0 .1
+
+deep : (c : tie.Start Inv-loop μ-loop) → length (c .args .t2 .items) ≡ 64
+deep c = sym (length-map (c .args .t2 .items) (edge-type .to)) ∙ c .good .1 .0 .1 .1 .1 .0 .1 .0 .1
+
 upto-requires : tie.Need-upto-requires Inv-loop μ-loop
 upto-requires c κs = search needs
 
@@ -27,22 +54,46 @@ loop-holds : tie.Need-loop-holds Inv-loop μ-loop
 unfolding below numbers
 loop-holds c = (refl, search needs, holds-none 16 0)
 
-element-copy-out-c : tie.Need-element-copy-out-c Inv-loop μ-loop
-element-copy-out-c c = search needs
+element-copy-out-wide : tie.Need-element-copy-out-wide Inv-loop μ-loop
+element-copy-out-wide c = search needs
 
-element-copy-out-e : tie.Need-element-copy-out-e Inv-loop μ-loop
-element-copy-out-e c = search needs
+wide-requires : tie.Need-wide-requires Inv-loop μ-loop
+wide-requires c κs = search needs
 
-open-touch-requires : tie.Need-open-touch-requires Inv-loop μ-loop
-unfolding opensOf
-open-touch-requires c κs =
-    let l = c .before .before .before in
+mul-cut : tie.Need-mul-cut Inv-loop μ-loop
+mul-cut c = search needs
+
+element-copy-out-cut : tie.Need-element-copy-out-cut Inv-loop μ-loop
+element-copy-out-cut c =
     let s = c .before .before .before .before .before in
-    let o = s .args .t3 in
-    let i = l .loop .i in
-    let h : i < o .count = omega (arith, c .before .before .before .before .upto .ensures .0, c .before .before .loop-test .taken) in
-    let q = Named (length (cutsOf (s .args .cuts))) (length (edgesOf (s .args .edges))) in
-    (subst q (getD-below (o .count) (openAt (o .cuts) (o .edges)) (pairOf 0 0) i h) (all-at q (opensOf o) (pairOf 0 0) i (s .pre .1) (subst (λ (n : ℕ). i < n) (sym (length-below (o .count) (openAt (o .cuts) (o .edges)))) h)), s .pre .2)
+    let h : c .before .before .before .loop .i < s .args .t3 .count = omega (arith, c .before .before .before .before .upto .ensures .0, c .before .before .loop-test .taken) in
+    omega (arith, c .wide .ensures .0, cut-in (s .args .t1) (s .args .t2) (s .args .t3) (c .before .before .before .loop .i) h (s .pre .1) (long s))
+
+element-copy-out-wide-2 : tie.Need-element-copy-out-wide-2 Inv-loop μ-loop
+element-copy-out-wide-2 c = search needs
+
+wide-requires-2 : tie.Need-wide-requires-2 Inv-loop μ-loop
+wide-requires-2 c κs = search needs
+
+mul-edge : tie.Need-mul-edge Inv-loop μ-loop
+mul-edge c = search needs
+
+element-copy-out-edge : tie.Need-element-copy-out-edge Inv-loop μ-loop
+element-copy-out-edge c =
+    let s = c .before .before .before .before .before .before .before .before in
+    let h : c .before .before .before .before .before .before .loop .i < s .args .t3 .count = omega (arith, c .before .before .before .before .before .before .before .upto .ensures .0, c .before .before .before .before .before .loop-test .taken) in
+    omega (arith, c .wide2 .ensures .0, edge-in (s .args .t1) (s .args .t2) (s .args .t3) (c .before .before .before .before .before .before .loop .i) h (s .pre .1) (deep s))
+
+ends-requires : tie.Need-ends-requires Inv-loop μ-loop
+unfolding edgesOf
+ends-requires c κs =
+    let s = c .before .before .before .before .before .before .before .before .before in
+    let h : c .before .before .before .before .before .before .before .loop .i < s .args .t3 .count = omega (arith, c .before .before .before .before .before .before .before .before .upto .ensures .0, c .before .before .before .before .before .before .loop-test .taken) in
+    let k = edge-in (s .args .t1) (s .args .t2) (s .args .t3) (c .before .before .before .before .before .before .before .loop .i) h (s .pre .1) (deep s) in
+    made-each edgeOf (s .args .t2 .items) (s .args .t2 .count) 64 (min (s .args .t2 .count) 64) (deep s) refl EndsFit (c .before .wide2 .result) _ (omega (arith, c .before .wide2 .ensures .0, k)) (s .pre .2)
+
+union-requires : tie.Need-union-requires Inv-loop μ-loop
+union-requires c κs = search needs
 
 mul-out : tie.Need-mul-out Inv-loop μ-loop
 mul-out c = search needs
@@ -58,10 +109,15 @@ loop-less c = search needs
 
 loop-again : tie.Need-loop-again Inv-loop μ-loop
 loop-again c =
-    let l = c .before .before .before .before in
-    let s = c .before .before .before .before .before .before in
+    let l = c .before .before .before .before .before .before .before .before .before in
+    let s = c .before .before .before .before .before .before .before .before .before .before .before in
     let o = s .args .t3 in
-    (simp length-set (l .loop .inv .0), search needs, fill-next 0 (λ k. openTouch (cutsOf (s .args .cuts)) (edgesOf (s .args .edges)) (openAt (o .cuts) (o .edges) k)) (l .loop .out) (l .loop .i) (c .open-touch .result) (omega arith) (l .loop .inv .2) (c .open-touch .ensures))
+    let i = l .loop .i in
+    let h : i < o .count = omega (arith, c .before .before .before .before .before .before .before .before .before .before .upto .ensures .0, c .before .before .before .before .before .before .before .before .loop-test .taken) in
+    let new = c .union .ensures
+    ∙ ap₂ union (ap (λ (k : ℕ). getD (s .args .t1 .items) k noCut .members) (c .before .before .before .before .before .before .wide .ensures .0)) (c .before .ends .ensures ∙ ap (λ (k : ℕ). endsOf (edgeOf (getD (s .args .t2 .items) k noEdge))) (c .before .before .before .wide2 .ensures .0))
+    ∙ touch-at (s .args .t1) (s .args .t2) o i h (s .pre .1) (long s) (deep s) noCut noEdge in
+    (simp length-set (l .loop .inv .0), omega (arith, c .before .before .before .before .before .before .before .before .loop-test .taken), fill-next 0 (λ k. openTouch (cutsOf (s .args .t1)) (edgesOf (s .args .t2)) (openAt (o .cuts) (o .edges) k)) (l .loop .out) i (c .union .result) (omega (arith, l .loop .inv .0, c .before .before .before .before .before .before .before .before .loop-test .taken, c .before .before .before .before .before .before .before .before .before .before .upto .ensures .1)) (l .loop .inv .2) new)
 
 returns : tie.Need-returns Inv-loop μ-loop
 unfolding opensOf
@@ -70,7 +126,7 @@ returns c =
     let s = c .before .before .before in
     let o = s .args .t3 in
     let e : l .loop .i ≡ o .count = omega (arith, c .before .before .upto .ensures .0, s .pre .0) in
-    let g : Open → ℕ = openTouch (cutsOf (s .args .cuts)) (edgesOf (s .args .edges)) in
+    let g : Open → ℕ = openTouch (cutsOf (s .args .t1)) (edgesOf (s .args .t2)) in
     subst (Holds 0 (l .loop .out)) (ap (λ (n : ℕ). below n (λ k. g (openAt (o .cuts) (o .edges) k))) e ∙ sym (below-map g (o .count) (openAt (o .cuts) (o .edges)))) (l .loop .inv .2)
 
 pub touches-over-spec : {M : Type 1} → statement M
@@ -81,9 +137,16 @@ touches-over-spec =
     μ-loop
     upto-requires
     loop-holds
-    element-copy-out-c
-    element-copy-out-e
-    open-touch-requires
+    element-copy-out-wide
+    wide-requires
+    mul-cut
+    element-copy-out-cut
+    element-copy-out-wide-2
+    wide-requires-2
+    mul-edge
+    element-copy-out-edge
+    ends-requires
+    union-requires
     mul-out
     array-write-out
     add-i

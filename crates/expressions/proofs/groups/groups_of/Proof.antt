@@ -1,19 +1,20 @@
--- `groups::groups_of`: the front of one array, copied. Assumes nothing.
+-- `groups::groups_of`: one list, copied to the front of an array. Assumes nothing.
 use Prim.Native.Nat.{ℕ, _≤_, _<_, _-_}
 use mathlib.Core.Path.{_≡_, refl, sym, ap, _∙_}
 use mathlib.Core.List.{[]}
 use native.Mathlib.Omega.{arith}
-use lib.ListN.{length, take, length-map, length-set}
+use lib.ListN.{length, take, length-set}
+use lib.Seq.{take-all}
 use borrow.Author.Needs.{needs}
 use Rattle.expressions.proofs.ListLaws.{store-next}
 use Rattle.expressions.proofs.groups.groups_of.Statement.{statement}
 use Rattle.expressions.proofs.groups.groups_of.Tie as tie
 
 abbrev Inv-loop : tie.InvT-loop
-Inv-loop joined n sets₀ i₀ sets i = (length sets ≡ 144) × (i ≤ n) × (take i sets ≡ take i (joined .persons))
+Inv-loop persons n sets₀ i₀ sets i = (length sets ≡ 144) × (i ≤ n) × (take i sets ≡ take i persons)
 
 abbrev μ-loop : tie.MeasureT-loop
-μ-loop joined n sets₀ i₀ sets i = n - i
+μ-loop persons n sets₀ i₀ sets i = n - i
 
 loop-holds : tie.Need-loop-holds Inv-loop μ-loop
 loop-holds c = (refl, search needs, refl)
@@ -21,8 +22,8 @@ loop-holds c = (refl, search needs, refl)
 mul-s : tie.Need-mul-s Inv-loop μ-loop
 mul-s c = search needs
 
-element-copy-out-s : tie.Need-element-copy-out-s Inv-loop μ-loop
-element-copy-out-s c = search needs
+shared-slice-read-s : tie.Need-shared-slice-read-s Inv-loop μ-loop
+shared-slice-read-s c = search needs
 
 mul-sets : tie.Need-mul-sets Inv-loop μ-loop
 mul-sets c = search needs
@@ -39,17 +40,16 @@ loop-less c = search needs
 loop-again : tie.Need-loop-again Inv-loop μ-loop
 loop-again c =
     let l = c .before .before in
-    let ys = l .before .args .t1 .persons in
-    let long : length ys ≡ 176 = sym (length-map ys (λ v. v)) ∙ l .before .good .0 .1 .1 .1 .1 .0 .1 .0 .1 in
+    let ys = l .before .args .persons .now in
     let h : l .loop .i < length (l .loop .sets) = omega (arith, l .before .pre, l .loop .inv .0) in
-    let k : l .loop .i < length ys = omega (arith, l .before .pre, long) in
-    (simp length-set (l .loop .inv .0), search needs, store-next 0 (l .loop .sets) [] ys (l .loop .i) (l .loop .i) h k (l .loop .inv .2))
+    (simp length-set (l .loop .inv .0), search needs, store-next 0 (l .loop .sets) [] ys (l .loop .i) (l .loop .i) h (c .before .loop-test .taken) (l .loop .inv .2))
 
 returns : tie.Need-returns Inv-loop μ-loop
 returns c =
     let l = c .before in
-    let e : l .loop .i ≡ l .before .args .t1 .count = omega arith in
-    ap (λ (k : ℕ). take k (l .loop .sets)) (sym e) ∙ l .loop .inv .2 ∙ ap (λ (k : ℕ). take k (l .before .args .t1 .persons)) e
+    let ys = l .before .args .persons .now in
+    let e : l .loop .i ≡ length ys = omega arith in
+    ap (λ (k : ℕ). take k (l .loop .sets)) (sym e) ∙ l .loop .inv .2 ∙ take-all (l .loop .i) ys (c .loop-test .left)
 
 pub groups-of-spec : {M : Type 1} → statement M
 groups-of-spec =
@@ -59,7 +59,7 @@ groups-of-spec =
     μ-loop
     loop-holds
     mul-s
-    element-copy-out-s
+    shared-slice-read-s
     mul-sets
     array-write-sets
     add-i

@@ -1,32 +1,43 @@
--- `expressions::observations::look_in_relations` meets its contract: what is left of the records from record i on, seen after what was seen, gives the whole. Assumes nothing.
-use Prim.Native.Nat.{_≤_, _-_}
+-- `observations::look_in_relations`: what is left of the records from record i on, seen after what was seen, gives the whole, for each fact. Assumes nothing.
+use Prim.Native.Nat.{ℕ, _≤_, _<_, _-_}
+use mathlib.Core.Path.{_≡_, refl, sym, ap, _∙_}
+use mathlib.Core.Bool.{Bool, cond}
 use mathlib.Core.Logic.{⊎-elim}
 use mathlib.Core.List.{map}
-use mathlib.Core.Path.{_≡_, refl, sym, _∙_}
-use lib.ListN.{length, drop, take, length-map}
+use native.Mathlib.Omega.{arith}
+use lib.Dec.{eqb}
+use lib.ListN.{length, getD, take, drop, length-map, length-set}
+use borrow.Author.Tests.{ne-eqb}
 use borrow.Author.Needs.{needs}
-use Rattle.expressions.proofs.SeenLaws.{relations-seen, relations-other, relations-none}
-use Rattle.expressions.specs.Seen.{lookAll}
-use Rattle.expressions.specs.Bindings.{observedInRelations}
 use Rattle.records.specs.Decoded.{relationOf}
+use Rattle.records.specs.declared.case.Relation.{Relation}
+use Rattle.expressions.specs.declared.observations.Seen.{Seen}
+use Rattle.expressions.specs.declared.observations.Sights.{Sights}
+use Rattle.expressions.specs.Bindings.{observedInRelations}
+use Rattle.expressions.specs.Seen.{nothing, lookAt, lookAll}
+use Rattle.expressions.proofs.ListLaws.{changed-at}
+use Rattle.expressions.proofs.SeenLaws.{relations-next, relations-none}
 use Rattle.expressions.proofs.observations.look_in_relations.Statement.{statement}
 use Rattle.expressions.proofs.observations.look_in_relations.Tie as tie
 
+abbrev none : Relation
+none = record { fact = 0; value = 0; evidence = 0 }
+
 abbrev Inv-loop : tie.InvT-loop
-Inv-loop fact relations s₀ n i₀ s i =
+Inv-loop relations s₀ n i₀ s i =
     (length (relations .items) ≡ 256)
+    × (length (s .items) ≡ 64)
     × (i ≤ n)
-    × (lookAll s (observedInRelations (drop i (map relationOf (take (relations .count) (relations .items)))) fact)
-    ≡ lookAll s₀ (observedInRelations (map relationOf (take (relations .count) (relations .items))) fact))
+    × ((f : ℕ) → f < 64 → lookAll (getD (s .items) f nothing) (observedInRelations (drop i (map relationOf (take (relations .count) (relations .items)))) f) ≡ lookAll (getD (s₀ .items) f nothing) (observedInRelations (map relationOf (take (relations .count) (relations .items))) f))
 
 abbrev μ-loop : tie.MeasureT-loop
-μ-loop fact relations s₀ n i₀ s i = n - i
+μ-loop relations s₀ n i₀ s i = n - i
 
 upto-requires : tie.Need-upto-requires Inv-loop μ-loop
 upto-requires c κs = search needs
 
 loop-holds : tie.Need-loop-holds Inv-loop μ-loop
-loop-holds c = (simp length-map at (c .before .good .1 .0 .1 .1 .1 .0 .1 .0 .1), search needs, refl)
+loop-holds c = (simp length-map at (c .before .good .1 .0 .1 .1 .1 .0 .1 .0 .1), simp length-map at (c .before .good .0 .1 .1 .0 .1 .0 .1), search needs, λ f h. refl)
 
 mul-r : tie.Need-mul-r Inv-loop μ-loop
 mul-r c = search needs
@@ -34,8 +45,23 @@ mul-r c = search needs
 element-copy-out-r : tie.Need-element-copy-out-r Inv-loop μ-loop
 element-copy-out-r c = search needs
 
+wide-requires : tie.Need-wide-requires Inv-loop μ-loop
+wide-requires c κs = search needs
+
+mul-seen : tie.Need-mul-seen Inv-loop μ-loop
+mul-seen c = search needs
+
+element-copy-out-seen : tie.Need-element-copy-out-seen Inv-loop μ-loop
+element-copy-out-seen c = search needs
+
 look-requires : tie.Need-look-requires Inv-loop μ-loop
 look-requires c κs = search needs
+
+mul-more : tie.Need-mul-more Inv-loop μ-loop
+mul-more c = search needs
+
+element-set-from-more : tie.Need-element-set-from-more Inv-loop μ-loop
+element-set-from-more c = search needs
 
 add-i : tie.Need-add-i Inv-loop μ-loop
 add-i c = search needs
@@ -46,20 +72,31 @@ loop-less c = search needs
 loop-again : tie.Need-loop-again Inv-loop μ-loop
 loop-again c =
     let l = c .before .before .before .before in
-    let a = l .before .before .args in (
+    let a = c .before .before .before .before .before .before .args in
+    let xs = a .t2 .items in
+    let n = a .t2 .count in
+    let i = l .loop .i in
+    let old = l .loop .s .items in
+    let b = getD xs i none in
+    let look : Seen → Seen = λ s. lookAt s (record { value = b .value; evidence = b .evidence }) in
+    let g = c .before .wide .result in
+    let lies = c .before .wide .ensures .0 in (
       l .loop .inv .0,
+      ⊎-elim (λ w. ap (λ (s : Sights). length (s .items)) (w .3) ∙ length-set old g _ ∙ l .loop .inv .1) (λ w. ap (λ (s : Sights). length (s .items)) (w .1) ∙ l .loop .inv .1) (c .if1 .came),
       search needs,
-      ⊎-elim
-          (λ w. relations-seen (l .loop .s) (c .if1 .s) (a .t2 .items) (a .t2 .count) (a .fact) (l .loop .i) _ (search needs) (w .0 .taken) (w .2 ∙ w .1 .ensures))
-          (λ w. relations-other (l .loop .s) (c .if1 .s) (a .t2 .items) (a .t2 .count) (a .fact) (l .loop .i) _ (search needs) (w .0 .left) (w .1))
-          (c .if1 .came) ∙ l .loop .inv .2,
+      λ f h. relations-next (getD old f nothing) (getD (c .if1 .s .items) f nothing) xs n f i none (search needs)
+          (⊎-elim
+          (λ w. ap (λ (s : Sights). getD (s .items) f nothing) (w .3) ∙ changed-at old g f look _ nothing (omega (arith, l .loop .inv .1, w .0 .taken)) (w .2 .ensures) ∙ ap (λ (k : ℕ). cond (eqb k f) (look (getD old f nothing)) (getD old f nothing)) lies)
+          (λ w. ap (λ (s : Sights). getD (s .items) f nothing) (w .1) ∙ sym (ap (λ (t : Bool). cond t (look (getD old f nothing)) (getD old f nothing)) (ne-eqb (b .fact) f (λ q. omega (arith, lies, w .0 .left, h, q)))))
+          (c .if1 .came))
+          ∙ l .loop .inv .3 f h,
     )
 
 returns : tie.Need-returns Inv-loop μ-loop
-returns c =
+returns c = λ f h.
     let l = c .before in
-    let a = l .before .before .args in
-    sym (relations-none (l .loop .s) (a .t2 .items) (a .t2 .count) (a .fact) (l .loop .i) (search needs)) ∙ l .loop .inv .2
+    let a = c .before .before .before .args in
+    sym (relations-none (getD (l .loop .s .items) f nothing) (a .t2 .items) (a .t2 .count) f (l .loop .i) (search needs)) ∙ l .loop .inv .3 f h
 
 pub look-in-relations-spec : {M : Type 1} → statement M
 look-in-relations-spec =
@@ -71,7 +108,12 @@ look-in-relations-spec =
     loop-holds
     mul-r
     element-copy-out-r
+    wide-requires
+    mul-seen
+    element-copy-out-seen
     look-requires
+    mul-more
+    element-set-from-more
     add-i
     loop-less
     loop-again

@@ -1,29 +1,28 @@
--- `expressions::observations::said_unknown` meets its contract: none of the records passed says it. Assumes nothing.
-use Prim.Native.Nat.{_≤_, _-_}
-use mathlib.Core.Logic.{⊎-elim}
+-- `observations::said_unknown`: a fact was said to be unknown, or is by one of the records left. Assumes nothing.
+use Prim.Native.Nat.{ℕ, _≤_, _<_, _-_}
+use mathlib.Core.Path.{_≡_, sym, ap, _∙_}
+use mathlib.Core.Bool.{Bool, _||_, or-false}
 use mathlib.Core.List.{map}
-use mathlib.Core.Path.{_≡_, refl, sym, _∙_}
-use lib.ListN.{length, drop, take, length-map}
+use lib.ListN.{length, take, drop, length-map}
 use borrow.Author.Needs.{needs}
-use Rattle.expressions.proofs.SeenLaws.{said, said-here, said-other, said-not, said-none}
+use Rattle.records.specs.Sets.{has}
 use Rattle.records.specs.Decoded.{booleanOf}
+use Rattle.records.proofs.SetLaws.{has-none}
+use Rattle.expressions.proofs.SeenLaws.{said, said-next, said-none}
 use Rattle.expressions.proofs.observations.said_unknown.Statement.{statement}
 use Rattle.expressions.proofs.observations.said_unknown.Tie as tie
 
 abbrev Inv-loop : tie.InvT-loop
-Inv-loop fact booleans n i₀ i =
-    (length (booleans .items) ≡ 64)
-    × (i ≤ n)
-    × (said (drop i (map booleanOf (take (booleans .count) (booleans .items)))) fact ≡ said (map booleanOf (take (booleans .count) (booleans .items))) fact)
+Inv-loop booleans n m₀ i₀ m i = (length (booleans .items) ≡ 64) × (i ≤ n) × ((f : ℕ) → f < 64 → (has m f || said (drop i (map booleanOf (take (booleans .count) (booleans .items)))) f) ≡ said (map booleanOf (take (booleans .count) (booleans .items))) f)
 
 abbrev μ-loop : tie.MeasureT-loop
-μ-loop fact booleans n i₀ i = n - i
+μ-loop booleans n m₀ i₀ m i = n - i
 
 upto-requires : tie.Need-upto-requires Inv-loop μ-loop
 upto-requires c κs = search needs
 
 loop-holds : tie.Need-loop-holds Inv-loop μ-loop
-loop-holds c = (simp length-map at (c .before .good .0 .1 .1 .1 .0 .1 .0 .1), search needs, refl)
+loop-holds c = (simp length-map at (c .before .good .0 .1 .1 .1 .0 .1 .0 .1), search needs, λ f h. ap (λ (b : Bool). b || said (map booleanOf (take (c .before .args .t1 .count) (c .before .args .t1 .items))) f) (has-none f))
 
 mul-b : tie.Need-mul-b Inv-loop μ-loop
 mul-b c = search needs
@@ -31,11 +30,8 @@ mul-b c = search needs
 element-copy-out-b : tie.Need-element-copy-out-b Inv-loop μ-loop
 element-copy-out-b c = search needs
 
-returns : tie.Need-returns Inv-loop μ-loop
-returns c =
-    let l = c .before .before .before .before .before in
-    let a = l .before .before .args in
-    sym (said-here (a .t1 .items) (a .t1 .count) (a .fact) (l .loop .i) _ (search needs) (c .before .if1 .taken) (c .if2 .taken)) ∙ l .loop .inv .2
+with-fact-requires : tie.Need-with-fact-requires Inv-loop μ-loop
+with-fact-requires c κs = search needs
 
 add-i : tie.Need-add-i Inv-loop μ-loop
 add-i c = search needs
@@ -45,21 +41,15 @@ loop-less c = search needs
 
 loop-again : tie.Need-loop-again Inv-loop μ-loop
 loop-again c =
-    let l = c .before .before .before .before in
-    let a = l .before .before .args in (
-      l .loop .inv .0,
-      search needs,
-      ⊎-elim
-          (λ w. sym (said-not (a .t1 .items) (a .t1 .count) (a .fact) (l .loop .i) _ (search needs) (w .1 .left)))
-          (λ w. sym (said-other (a .t1 .items) (a .t1 .count) (a .fact) (l .loop .i) _ (search needs) (w .left)))
-          (c .if1 .came) ∙ l .loop .inv .2,
-    )
+    let l = c .before .before .before in
+    let a = c .before .before .before .before .before .args in
+    (l .loop .inv .0, search needs, λ f h. said-next (a .t1 .items) (a .t1 .count) f (l .loop .i) _ (has (l .loop .m) f) (has (c .with-fact .result) f) (search needs) (c .with-fact .ensures f h) ∙ l .loop .inv .2 f h)
 
-returns-2 : tie.Need-returns-2 Inv-loop μ-loop
-returns-2 c =
+returns : tie.Need-returns Inv-loop μ-loop
+returns c = λ f h.
     let l = c .before in
-    let a = l .before .before .args in
-    sym (said-none (a .t1 .items) (a .t1 .count) (a .fact) (l .loop .i) (search needs)) ∙ l .loop .inv .2
+    let a = c .before .before .before .args in
+    sym (ap (λ (b : Bool). has (l .loop .m) f || b) (said-none (a .t1 .items) (a .t1 .count) f (l .loop .i) (search needs)) ∙ or-false (has (l .loop .m) f)) ∙ l .loop .inv .2 f h
 
 pub said-unknown-spec : {M : Type 1} → statement M
 said-unknown-spec =
@@ -71,8 +61,8 @@ said-unknown-spec =
     loop-holds
     mul-b
     element-copy-out-b
-    returns
+    with-fact-requires
     add-i
     loop-less
     loop-again
-    returns-2)
+    returns)

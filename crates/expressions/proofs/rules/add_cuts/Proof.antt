@@ -1,7 +1,7 @@
--- `rules::add_cuts`: after i cuts the list has them behind the rules that were there. Assumes nothing.
-use Prim.Native.Nat.{_+_, _≤_, _-_}
+-- `rules::add_cuts`: after i cuts the lists have them behind the rules that were there. Assumes nothing.
+use Prim.Native.Nat.{ℕ, _+_, _≤_, _-_}
 use mathlib.Core.Path.{_≡_, refl, sym, ap, _∙_, subst}
-use mathlib.Core.List.{List, map}
+use mathlib.Core.List.{List, [], map}
 use native.Mathlib.Omega.{arith}
 use native.Mathlib.Nat.{add-zero}
 use lib.ListN.{length, take, length-map}
@@ -10,28 +10,30 @@ use Rattle.records.proofs.plan.Cut.{the-type}
 use Rattle.records.specs.Plan.{Cut}
 use Rattle.records.specs.Decoded.{cutOf}
 use Rattle.expressions.specs.Coded.{cutsOf}
-use Rattle.expressions.specs.Listed.{usedAt, cutHolds, cutUsed, Added}
+use Rattle.expressions.specs.Listed.{lists, usedAt, cutHolds, cutUsed, Added}
 use Rattle.expressions.proofs.ListLaws.{made-next, made-all}
 use Rattle.expressions.proofs.RuleLaws.{added-none, added-next}
 use Rattle.expressions.proofs.rules.add_cuts.Statement.{statement}
 use Rattle.expressions.proofs.rules.add_cuts.Tie as tie
 
 abbrev Inv-loop : tie.InvT-loop
-Inv-loop nodes cuts all₀ n i₀ all i =
-    (i ≤ n) × (all .count ≡ all₀ .count + i) × Added all₀ all (map (cutUsed (usedAt nodes)) (take i (cutsOf cuts))) (map cutHolds (take i (cutsOf cuts)))
+Inv-loop uses₀ persons₀ at nodes cuts n i₀ uses persons i =
+    (i ≤ n) × Added (lists at uses₀ persons₀) (lists (at + i) uses persons) (map (cutUsed (usedAt nodes)) (take i (cutsOf cuts))) (map cutHolds (take i (cutsOf cuts)))
 
 abbrev μ-loop : tie.MeasureT-loop
-μ-loop nodes cuts all₀ n i₀ all i = n - i
+μ-loop uses₀ persons₀ at nodes cuts n i₀ uses persons i = n - i
 
-long : (c : tie.Start Inv-loop μ-loop) → length (c .args .t2 .items) ≡ 16
-long c = sym (length-map (c .args .t2 .items) (the-type .to)) ∙ c .good .1 .0 .1 .1 .1 .0 .1 .0 .1
+long : (c : tie.Start Inv-loop μ-loop) → length (c .args .t4 .items) ≡ 16
+long c = sym (length-map (c .args .t4 .items) (the-type .to)) ∙ c .good .1 .1 .1 .0 .1 .1 .1 .0 .1 .0 .1
 
 upto-requires : tie.Need-upto-requires Inv-loop μ-loop
 upto-requires c κs = search needs
 
 loop-holds : tie.Need-loop-holds Inv-loop μ-loop
 unfolding cutsOf
-loop-holds c = (search needs, sym (add-zero _), added-none _)
+loop-holds c =
+    let a = c .before .args in
+    (search needs, subst (λ (k : ℕ). Added (lists (a .at) (a .uses .now) (a .persons .now)) (lists k (a .uses .now) (a .persons .now)) [] []) (sym (add-zero (a .at))) (added-none _))
 
 mul-x : tie.Need-mul-x Inv-loop μ-loop
 mul-x c = search needs
@@ -48,8 +50,11 @@ mul-used c = search needs
 element-copy-out-used : tie.Need-element-copy-out-used Inv-loop μ-loop
 element-copy-out-used c = search needs
 
+add-push : tie.Need-add-push Inv-loop μ-loop
+add-push c = omega (arith, c .before .before .before .before .before .before .before .upto .ensures .1, c .before .before .before .before .before .before .before .before .pre)
+
 push-requires : tie.Need-push-requires Inv-loop μ-loop
-push-requires c κs = omega (arith, c .before .before .before .before .loop .inv .1, c .before .before .before .before .before .before .pre, c .before .before .before .before .before .upto .ensures .1)
+push-requires c κs = omega (arith, c .before .before .before .before .before .before .before .upto .ensures .1, c .before .before .before .before .before .before .before .before .pre)
 
 add-i : tie.Need-add-i Inv-loop μ-loop
 add-i c = search needs
@@ -60,26 +65,33 @@ loop-less c = search needs
 loop-again : tie.Need-loop-again Inv-loop μ-loop
 unfolding cutsOf cutOf
 loop-again c =
-    let l = c .before .before .before .before .before in
-    let a = l .before in
-    let s = a .before in
+    let l = c .before .before .before .before .before .before .before in
+    let a = c .before .before .before .before .before .before .before .before in
+    let s = c .before .before .before .before .before .before .before .before .before in
     let i = l .loop .i in
-    let xs = cutsOf (s .args .t2) in
-    let more : i + 1 ≤ a .upto .result = search needs in (
+    let xs = cutsOf (s .args .t4) in
+    let more : i + 1 ≤ a .upto .result = omega (arith, c .before .before .before .before .before .before .loop-test .taken) in (
       more,
-      omega (arith, c .push .ensures .count, l .loop .inv .1),
-      added-next (cutUsed (usedAt (s .args .nodes .now))) cutHolds (take i xs) (take (i + 1) xs) _ (l .loop .inv .2) (c .push .ensures) (ap (usedAt (s .args .nodes .now)) (c .before .before .wide .ensures .0)) refl
-          (made-next cutOf (s .args .t2 .items) (s .args .t2 .count) 16 (a .upto .result) (long s) (a .upto .ensures .0) i _ (omega arith)),
+      added-next (cutUsed (usedAt (s .args .nodes .now))) cutHolds (s .args .at) i (take i xs) (take (i + 1) xs) _ (l .loop .inv .1) (c .push .ensures) (ap (usedAt (s .args .nodes .now)) (c .before .before .before .before .wide .ensures .0)) refl
+          (made-next cutOf (s .args .t4 .items) (s .args .t4 .count) 16 (a .upto .result) (long s) (a .upto .ensures .0) i _ (omega (arith, more))),
     )
+
+add-result : tie.Need-add-result Inv-loop μ-loop
+add-result c = omega (arith, c .before .before .upto .ensures .1, c .before .before .before .pre)
 
 returns : tie.Need-returns Inv-loop μ-loop
 unfolding cutsOf
 returns c =
     let l = c .before in
-    let a = l .before in
-    let s = a .before in
-    let all = made-all cutOf (s .args .t2 .items) (s .args .t2 .count) 16 (a .upto .result) (long s) (a .upto .ensures .0) (l .loop .i) (search needs) in
-    (subst (λ (xs : List Cut). Added (s .args .rules) (l .loop .all) (map (cutUsed (usedAt (s .args .nodes .now))) xs) (map cutHolds xs)) all (l .loop .inv .2), omega (arith, l .loop .inv .1, a .upto .ensures .1))
+    let a = c .before .before in
+    let s = c .before .before .before in
+    let xs = cutsOf (s .args .t4) in
+    let e : l .loop .i ≡ a .upto .result = omega arith in
+    let all = made-all cutOf (s .args .t4 .items) (s .args .t4 .count) 16 (a .upto .result) (long s) (a .upto .ensures .0) (l .loop .i) (search needs) in (
+      subst (λ (k : ℕ). Added (lists (s .args .at) (s .args .uses .now) (s .args .persons .now)) (lists (s .args .at + k) (l .loop .uses) (l .loop .persons)) (map (cutUsed (usedAt (s .args .nodes .now))) xs) (map cutHolds xs)) e
+          (subst (λ (ys : List Cut). Added (lists (s .args .at) (s .args .uses .now) (s .args .persons .now)) (lists (s .args .at + l .loop .i) (l .loop .uses) (l .loop .persons)) (map (cutUsed (usedAt (s .args .nodes .now))) ys) (map cutHolds ys)) all (l .loop .inv .1)),
+      omega (arith, a .upto .ensures .1),
+    )
 
 pub add-cuts-spec : {M : Type 1} → statement M
 add-cuts-spec =
@@ -94,8 +106,10 @@ add-cuts-spec =
     wide-requires
     mul-used
     element-copy-out-used
+    add-push
     push-requires
     add-i
     loop-less
     loop-again
+    add-result
     returns)

@@ -1,7 +1,7 @@
--- `rules::add_edges`: after i edges the list has them behind the rules that were there. Assumes nothing.
-use Prim.Native.Nat.{_+_, _≤_, _-_}
+-- `rules::add_edges`: after i edges the lists have them behind the rules that were there. Assumes nothing.
+use Prim.Native.Nat.{ℕ, _+_, _≤_, _-_}
 use mathlib.Core.Path.{_≡_, sym, _∙_, subst}
-use mathlib.Core.List.{List, map}
+use mathlib.Core.List.{List, [], map}
 use native.Mathlib.Omega.{arith}
 use native.Mathlib.Nat.{add-zero}
 use lib.ListN.{length, take, length-map}
@@ -10,28 +10,30 @@ use Rattle.records.proofs.plan.Edge.{the-type}
 use Rattle.records.specs.Plan.{Edge}
 use Rattle.records.specs.Decoded.{edgeOf}
 use Rattle.expressions.specs.Coded.{edgesOf, EndsFit}
-use Rattle.expressions.specs.Listed.{usedAt, endsOf, edgeUsed, Added}
+use Rattle.expressions.specs.Listed.{lists, usedAt, endsOf, edgeUsed, Added}
 use Rattle.expressions.proofs.ListLaws.{made-next, made-each, made-all}
 use Rattle.expressions.proofs.RuleLaws.{added-none, added-next}
 use Rattle.expressions.proofs.rules.add_edges.Statement.{statement}
 use Rattle.expressions.proofs.rules.add_edges.Tie as tie
 
 abbrev Inv-loop : tie.InvT-loop
-Inv-loop nodes edges all₀ n i₀ all i =
-    (i ≤ n) × (all .count ≡ all₀ .count + i) × Added all₀ all (map (edgeUsed (usedAt nodes)) (take i (edgesOf edges))) (map endsOf (take i (edgesOf edges)))
+Inv-loop uses₀ persons₀ at nodes edges n i₀ uses persons i =
+    (i ≤ n) × Added (lists at uses₀ persons₀) (lists (at + i) uses persons) (map (edgeUsed (usedAt nodes)) (take i (edgesOf edges))) (map endsOf (take i (edgesOf edges)))
 
 abbrev μ-loop : tie.MeasureT-loop
-μ-loop nodes edges all₀ n i₀ all i = n - i
+μ-loop uses₀ persons₀ at nodes edges n i₀ uses persons i = n - i
 
-long : (c : tie.Start Inv-loop μ-loop) → length (c .args .t2 .items) ≡ 64
-long c = sym (length-map (c .args .t2 .items) (the-type .to)) ∙ c .good .1 .0 .1 .1 .1 .0 .1 .0 .1
+long : (c : tie.Start Inv-loop μ-loop) → length (c .args .t4 .items) ≡ 64
+long c = sym (length-map (c .args .t4 .items) (the-type .to)) ∙ c .good .1 .1 .1 .0 .1 .1 .1 .0 .1 .0 .1
 
 upto-requires : tie.Need-upto-requires Inv-loop μ-loop
 upto-requires c κs = search needs
 
 loop-holds : tie.Need-loop-holds Inv-loop μ-loop
 unfolding edgesOf
-loop-holds c = (search needs, sym (add-zero _), added-none _)
+loop-holds c =
+    let a = c .before .args in
+    (search needs, subst (λ (k : ℕ). Added (lists (a .at) (a .uses .now) (a .persons .now)) (lists k (a .uses .now) (a .persons .now)) [] []) (sym (add-zero (a .at))) (added-none _))
 
 mul-e : tie.Need-mul-e Inv-loop μ-loop
 mul-e c = search needs
@@ -46,12 +48,15 @@ ends-requires : tie.Need-ends-requires Inv-loop μ-loop
 unfolding edgesOf
 ends-requires c κs =
     let l = c .before .before .before in
-    let a = l .before in
-    let s = a .before in
-    made-each edgeOf (s .args .t2 .items) (s .args .t2 .count) 64 (a .upto .result) (long s) (a .upto .ensures .0) EndsFit (l .loop .i) _ (search needs) (s .pre .1)
+    let a = c .before .before .before .before in
+    let s = c .before .before .before .before .before in
+    made-each edgeOf (s .args .t4 .items) (s .args .t4 .count) 64 (a .upto .result) (long s) (a .upto .ensures .0) EndsFit (l .loop .i) _ (search needs) (s .pre .1)
+
+add-push : tie.Need-add-push Inv-loop μ-loop
+add-push c = omega (arith, c .before .before .before .before .before .before .before .upto .ensures .1, c .before .before .before .before .before .before .before .before .pre .0)
 
 push-requires : tie.Need-push-requires Inv-loop μ-loop
-push-requires c κs = omega (arith, c .before .before .before .before .loop .inv .1, c .before .before .before .before .before .before .pre .0, c .before .before .before .before .before .upto .ensures .1)
+push-requires c κs = omega (arith, c .before .before .before .before .before .before .before .upto .ensures .1, c .before .before .before .before .before .before .before .before .pre .0)
 
 add-i : tie.Need-add-i Inv-loop μ-loop
 add-i c = search needs
@@ -62,26 +67,33 @@ loop-less c = search needs
 loop-again : tie.Need-loop-again Inv-loop μ-loop
 unfolding edgesOf
 loop-again c =
-    let l = c .before .before .before .before .before in
-    let a = l .before in
-    let s = a .before in
+    let l = c .before .before .before .before .before .before .before in
+    let a = c .before .before .before .before .before .before .before .before in
+    let s = c .before .before .before .before .before .before .before .before .before in
     let i = l .loop .i in
-    let es = edgesOf (s .args .t2) in
-    let more : i + 1 ≤ a .upto .result = search needs in (
+    let xs = edgesOf (s .args .t4) in
+    let more : i + 1 ≤ a .upto .result = omega (arith, c .before .before .before .before .before .before .loop-test .taken) in (
       more,
-      omega (arith, c .push .ensures .count, l .loop .inv .1),
-      added-next (edgeUsed (usedAt (s .args .nodes .now))) endsOf (take i es) (take (i + 1) es) _ (l .loop .inv .2) (c .push .ensures) (c .before .before .edge-use .ensures) (c .before .ends .ensures)
-          (made-next edgeOf (s .args .t2 .items) (s .args .t2 .count) 64 (a .upto .result) (long s) (a .upto .ensures .0) i _ (omega arith)),
+      added-next (edgeUsed (usedAt (s .args .nodes .now))) endsOf (s .args .at) i (take i xs) (take (i + 1) xs) _ (l .loop .inv .1) (c .push .ensures) (c .before .before .before .before .edge-use .ensures) (c .before .before .before .ends .ensures)
+          (made-next edgeOf (s .args .t4 .items) (s .args .t4 .count) 64 (a .upto .result) (long s) (a .upto .ensures .0) i _ (omega (arith, more))),
     )
+
+add-result : tie.Need-add-result Inv-loop μ-loop
+add-result c = omega (arith, c .before .before .upto .ensures .1, c .before .before .before .pre .0)
 
 returns : tie.Need-returns Inv-loop μ-loop
 unfolding edgesOf
 returns c =
     let l = c .before in
-    let a = l .before in
-    let s = a .before in
-    let all = made-all edgeOf (s .args .t2 .items) (s .args .t2 .count) 64 (a .upto .result) (long s) (a .upto .ensures .0) (l .loop .i) (search needs) in
-    (subst (λ (es : List Edge). Added (s .args .rules) (l .loop .all) (map (edgeUsed (usedAt (s .args .nodes .now))) es) (map endsOf es)) all (l .loop .inv .2), omega (arith, l .loop .inv .1, a .upto .ensures .1))
+    let a = c .before .before in
+    let s = c .before .before .before in
+    let xs = edgesOf (s .args .t4) in
+    let e : l .loop .i ≡ a .upto .result = omega arith in
+    let all = made-all edgeOf (s .args .t4 .items) (s .args .t4 .count) 64 (a .upto .result) (long s) (a .upto .ensures .0) (l .loop .i) (search needs) in (
+      subst (λ (k : ℕ). Added (lists (s .args .at) (s .args .uses .now) (s .args .persons .now)) (lists (s .args .at + k) (l .loop .uses) (l .loop .persons)) (map (edgeUsed (usedAt (s .args .nodes .now))) xs) (map endsOf xs)) e
+          (subst (λ (ys : List Edge). Added (lists (s .args .at) (s .args .uses .now) (s .args .persons .now)) (lists (s .args .at + l .loop .i) (l .loop .uses) (l .loop .persons)) (map (edgeUsed (usedAt (s .args .nodes .now))) ys) (map endsOf ys)) all (l .loop .inv .1)),
+      omega (arith, a .upto .ensures .1),
+    )
 
 pub add-edges-spec : {M : Type 1} → statement M
 add-edges-spec =
@@ -95,8 +107,10 @@ add-edges-spec =
     element-copy-out-e
     edge-use-requires
     ends-requires
+    add-push
     push-requires
     add-i
     loop-less
     loop-again
+    add-result
     returns)

@@ -2,6 +2,7 @@
 use Prim.Native.Nat.{ℕ}
 use mathlib.Core.Path.{ap, _∙_}
 use mathlib.Core.List.{List, _++_, map}
+use native.Mathlib.Omega.{arith}
 use Rattle.records.specs.Decoded.{planOf}
 use Rattle.expressions.specs.Coded.{statusesOf}
 use Rattle.expressions.specs.Listed.{usedAt, ruleUses, rulePersons, statusUsed, statusHolds}
@@ -11,18 +12,26 @@ use Rattle.expressions.proofs.rules.all_rules.Tie as tie
 
 add-statuses-requires : tie.Need-add-statuses-requires
 unfolding statusesOf planOf
-add-statuses-requires c κs = (c .before .pre .1 .few, statuses-fit (planOf (c .before .args .plan)) (c .before .pre .0))
+add-statuses-requires c κs = (c .before .before .before .pre .1 .few, statuses-fit (planOf (c .before .before .before .args .plan)) (c .before .before .before .pre .0))
+
+whole-requires : tie.Need-whole-requires
+whole-requires c κs = tt
+
+whole-requires-2 : tie.Need-whole-requires-2
+whole-requires-2 c κs = tt
 
 returns : tie.Need-returns
 unfolding statusesOf planOf ruleUses rulePersons
 returns c =
-    let s = c .before .before in
+    let s = c .before .before .before .before .before .before .before .before in
     let xs = planOf (s .args .plan) .statuses in
-    let added = c .add-statuses .ensures .0 in
+    let added = c .before .before .before .before .add-statuses .ensures .0 in
     record {
       uses = added .uses ∙ ap (λ (l : List ℕ). l ++ map (statusUsed (usedAt (s .args .nodes .now))) xs) (s .pre .1 .uses);
       persons = added .persons ∙ ap (λ (l : List ℕ). l ++ map statusHolds xs) (s .pre .1 .persons);
+      few = omega (arith, s .pre .1 .few, c .before .before .before .before .add-statuses .ensures .1);
+      room = (c .before .before .whole .ensures, c .whole2 .ensures);
     }
 
 pub all-rules-spec : {M : Type 1} → statement M
-all-rules-spec = tie.close (tie.spec add-statuses-requires returns)
+all-rules-spec = tie.close (tie.spec add-statuses-requires whole-requires whole-requires-2 returns)

@@ -12,27 +12,33 @@ use Rattle.expressions.proofs.rules.joining.Tie as tie
 
 add-edges-requires : tie.Need-add-edges-requires
 unfolding edgesOf planOf
-add-edges-requires c κs = (search needs, edges-fit (planOf (c .before .before .before .before .args .plan)) (c .before .before .before .before .pre))
+add-edges-requires c κs = (search needs, edges-fit (planOf (c .before .before .before .before .before .before .args .plan)) (c .before .before .before .before .before .before .pre))
 
 add-cuts-requires : tie.Need-add-cuts-requires
-add-cuts-requires c κs = search needs
+add-cuts-requires c κs = omega (arith, c .before .before .add-edges .ensures .1)
 
 add-attachments-requires : tie.Need-add-attachments-requires
 unfolding attachmentsOf planOf
-add-attachments-requires c κs =
-    (omega (arith, c .add-cuts .ensures .1, c .before .add-edges .ensures .1), attachments-fit (planOf (c .before .before .before .before .before .before .args .plan)) (c .before .before .before .before .before .before .pre))
+add-attachments-requires c κs = (omega (arith, c .before .before .add-cuts .ensures .1, c .before .before .before .before .before .add-edges .ensures .1), attachments-fit (planOf (c .before .before .before .before .before .before .before .before .before .before .before .before .args .plan)) (c .before .before .before .before .before .before .before .before .before .before .before .before .pre))
 
 add-bars-requires : tie.Need-add-bars-requires
-add-bars-requires c κs = search needs
+add-bars-requires c κs = omega (arith, c .before .before .add-attachments .ensures .1, c .before .before .before .before .before .add-cuts .ensures .1, c .before .before .before .before .before .before .before .before .add-edges .ensures .1)
+
+whole-requires : tie.Need-whole-requires
+whole-requires c κs = tt
+
+whole-requires-2 : tie.Need-whole-requires-2
+whole-requires-2 c κs = tt
 
 returns : tie.Need-returns
 unfolding edgesOf cutsOf attachmentsOf barsOf planOf joiningUses
 returns c =
-    let added = added-then (c .before .before .before .add-edges .ensures .0) (added-then (c .before .before .add-cuts .ensures .0) (added-then (c .before .add-attachments .ensures .0) (c .add-bars .ensures .0))) in
+    let added = added-then (c .before .before .before .before .before .before .before .before .before .before .before .before .before .add-edges .ensures .0) (added-then (c .before .before .before .before .before .before .before .before .before .before .add-cuts .ensures .0) (added-then (c .before .before .before .before .before .before .before .add-attachments .ensures .0) (c .before .before .before .before .add-bars .ensures .0))) in
     record {
       uses = added .uses;
-      persons = added .persons ∙ sym (rule-sets (planOf (c .before .before .before .before .before .before .before .before .args .plan)));
-      few = omega (arith, c .add-bars .ensures .1, c .before .add-attachments .ensures .1, c .before .before .add-cuts .ensures .1, c .before .before .before .add-edges .ensures .1);
+      persons = added .persons ∙ sym (rule-sets (planOf (c .before .before .before .before .before .before .before .before .before .before .before .before .before .before .before .before .before .before .before .before .args .plan)));
+      few = omega (arith, c .before .before .before .before .add-bars .ensures .1, c .before .before .before .before .before .before .before .add-attachments .ensures .1, c .before .before .before .before .before .before .before .before .before .before .add-cuts .ensures .1, c .before .before .before .before .before .before .before .before .before .before .before .before .before .add-edges .ensures .1);
+      room = (c .before .before .whole .ensures, c .whole2 .ensures);
     }
 
 pub joining-spec : {M : Type 1} → statement M
@@ -43,4 +49,6 @@ joining-spec =
     add-cuts-requires
     add-attachments-requires
     add-bars-requires
+    whole-requires
+    whole-requires-2
     returns)

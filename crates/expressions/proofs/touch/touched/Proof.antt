@@ -12,10 +12,10 @@ contains-requires : tie.Need-contains-requires
 contains-requires c κs = search needs
 
 named-requires : tie.Need-named-requires
-named-requires c κs = search needs
+named-requires c κs = c .before .before .before .before .pre .0
 
 users-requires : tie.Need-users-requires
-users-requires c κs = search needs
+users-requires c κs = c .before .before .before .before .before .pre .1
 
 union-requires : tie.Need-union-requires
 union-requires c κs = search needs
@@ -26,7 +26,7 @@ union-requires-2 c κs = search needs
 returns : tie.Need-returns
 unfolding touchedBy
 returns c =
-    let s = c .before .before .before .before .before .before in
+    let s = c .before .before .before .before .before .before .before .before in
     let j = c .before .before .before .before in
     let found = sym (c .before .before .before .before .before .contains .ensures) in
     let all : j .if1 .all ≡ only (has (s .args .constraints) (s .args .f)) (s .args .roster) =

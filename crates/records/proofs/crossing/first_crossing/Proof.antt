@@ -48,12 +48,12 @@ at-pair {cuts} {edges} P b c e hc he =
     (sym (getD-front edgeOf (edges .items) (edges .count) e no-edge (edgeOf no-edge) (rw (b .edges-are) he)) ∙ ap (λ l. getD l e (edgeOf no-edge)) (b .edges-are))
 
 abbrev Inv-loop : tie.InvT-loop
-Inv-loop cuts edges cut-count edge-count hit₀ cut edge₀ hit edge =
+Inv-loop cuts edges cut-count edge-count hit₀ cut edge₀ tested decisions hit edge =
     (edge ≤ edge-count) × (hit ≡ false) × ((P : paper.Plan) → Beside cuts edges P
     → edgesFrom P (cut-at P cut) cut edge (drop edge (P .edges)) (cutsFrom P (cut + 1) (drop (cut + 1) (P .cuts))) ≡ firstCrossing P)
 
 abbrev μ-loop : tie.MeasureT-loop
-μ-loop cuts edges cut-count edge-count hit₀ cut edge₀ hit edge = edge-count - edge
+μ-loop cuts edges cut-count edge-count hit₀ cut edge₀ tested decisions hit edge = edge-count - edge
 
 abbrev Inv-search : tie.InvT-search
 Inv-search cuts edges cut-count edge-count hit₀ cut₀ edge₀ hit cut edge =
@@ -69,31 +69,30 @@ search-holds : tie.Need-search-holds Inv-loop μ-loop Inv-search μ-search
 unfolding firstCrossing
 search-holds c = (omega arith, refl, λ P b. refl)
 
+mul-tested : tie.Need-mul-tested Inv-loop μ-loop Inv-search μ-search
+mul-tested c = omega (arith, c .before .before .before .before .count-records .ensures .1 .cuts)
+
+element-copy-out-tested : tie.Need-element-copy-out-tested Inv-loop μ-loop Inv-search μ-search
+element-copy-out-tested c = omega (arith, c .before .before .before .before .count-records .ensures .1 .cuts)
+
 loop-holds : tie.Need-loop-holds Inv-loop μ-loop Inv-search μ-search
 unfolding planOf
 loop-holds c =
-    let n = c .before .before .before .before .count-records .ensures .0 in let o = c .before .search in
+    let n = c .before .before .before .before .before .before .count-records .ensures .0 in let o = c .before .before .before .search in
     (omega arith, o .inv .1, λ P b. sym (cut-step P (o .cut) (cutOf no-cut) (omega (arith, n .cuts, ap length (b .cuts-are)))) ∙ o .inv .2 P b)
 
 mul-undecided : tie.Need-mul-undecided Inv-loop μ-loop Inv-search μ-search
-mul-undecided c = omega (arith, c .before .before .before .before .before .before .count-records .ensures .1 .cuts)
+mul-undecided c = omega (arith, c .before .before .before .before .before .before .before .before .count-records .ensures .1 .edges)
 
 element-copy-out-undecided :
     tie.Need-element-copy-out-undecided Inv-loop μ-loop Inv-search μ-search
-element-copy-out-undecided c = omega (arith, c .before .before .before .before .before .before .count-records .ensures .1 .cuts)
-
-mul-undecided-2 : tie.Need-mul-undecided-2 Inv-loop μ-loop Inv-search μ-search
-mul-undecided-2 c = omega (arith, c .before .before .before .before .before .before .before .count-records .ensures .1 .edges)
-
-element-copy-out-undecided-2 :
-    tie.Need-element-copy-out-undecided-2 Inv-loop μ-loop Inv-search μ-search
-element-copy-out-undecided-2 c = omega (arith, c .before .before .before .before .before .before .before .count-records .ensures .1 .edges)
+element-copy-out-undecided c = omega (arith, c .before .before .before .before .before .before .before .before .count-records .ensures .1 .edges)
 
 undecided-requires : tie.Need-undecided-requires Inv-loop μ-loop Inv-search μ-search
 undecided-requires c κs = search needs
 
 add-edge : tie.Need-add-edge Inv-loop μ-loop Inv-search μ-search
-add-edge c = omega (arith, c .before .before .before .before .before .before .before .before .before .before .count-records .ensures .1 .edges)
+add-edge c = omega (arith, c .before .before .before .before .before .before .before .before .before .before .before .count-records .ensures .1 .edges)
 
 loop-less : tie.Need-loop-less Inv-loop μ-loop Inv-search μ-search
 loop-less c = omega arith
@@ -101,18 +100,18 @@ loop-less c = omega arith
 loop-again : tie.Need-loop-again Inv-loop μ-loop Inv-search μ-search
 unfolding planOf
 loop-again c =
-    let n = c .before .before .before .before .before .before .before .before .before .before .count-records .ensures .0 in let l = c .before .before .before .before .before .loop in let o = c .before .before .before .before .before .before .before .search in let s = c .before .before .before .before .before .before .before .before .before .before .before .args .plan in (
+    let n = c .before .before .before .before .before .before .before .before .before .before .before .count-records .ensures .0 in let l = c .before .before .before .before .loop in let o = c .before .before .before .before .before .before .before .before .search in let s = c .before .before .before .before .before .before .before .before .before .before .before .before .args .plan in (
       omega arith,
       l .inv .1,
       λ P b.
           let in-edges : l .edge < length (P .edges) = omega (arith, n .edges, ap length (b .edges-are)) in
           let t = edge-step P (cut-at P (o .cut)) (o .cut) (l .edge) (edgeOf no-edge) (cutsFrom P (o .cut + 1) (drop (o .cut + 1) (P .cuts))) in-edges in
-          let u = sym (at-pair P b (o .cut) (l .edge) (omega (arith, n .cuts, ap length (b .cuts-are))) in-edges) ∙ sym (c .before .undecided .ensures P) ∙ c .if1 .left in
+          let u = sym (at-pair P b (o .cut) (l .edge) (omega (arith, n .cuts, ap length (b .cuts-are))) in-edges) ∙ sym (c .before .undecided .ensures P (getD (s .cuts .items) (o .cut) no-cut) refl refl) ∙ c .if1 .left in
           (rw u at (sym t)) ∙ l .inv .2 P b,
     )
 
 add-cut : tie.Need-add-cut Inv-loop μ-loop Inv-search μ-search
-add-cut c = omega (arith, c .before .before .before .before .before .before .count-records .ensures .1 .cuts)
+add-cut c = omega (arith, c .before .before .before .before .before .before .before .before .count-records .ensures .1 .cuts)
 
 search-less : tie.Need-search-less Inv-loop μ-loop Inv-search μ-search
 search-less c = omega arith
@@ -120,7 +119,7 @@ search-less c = omega arith
 search-again : tie.Need-search-again Inv-loop μ-loop Inv-search μ-search
 unfolding planOf
 search-again c =
-    let n = c .before .before .before .before .before .before .count-records .ensures .0 in let l = c .before .loop in let o = c .before .before .before .search in (
+    let n = c .before .before .before .before .before .before .before .before .count-records .ensures .0 in let l = c .before .loop in let o = c .before .before .before .before .before .search in (
       omega arith,
       l .inv .1,
       λ P b.
@@ -134,12 +133,12 @@ returns c =
     ⊎-elim
     (λ w. let i = o .inv .1 in let h = w .1 in let t = c .if2 .taken in cc)
     (λ w.
-    let l = w .1 in
+    let l = w .3 in
     let b : Beside (c .before .before .before .before .before .before .args .plan .cuts) (c .before .before .before .before .before .before .args .plan .edges) p = record { cuts-are = refl; edges-are = refl } in
-    let in-edges : l .edge < length (p .edges) = omega (arith, n .edges, w .2 .taken) in
+    let in-edges : l .edge < length (p .edges) = omega (arith, n .edges, w .4 .taken) in
     let t = edge-step p (cut-at p (o .cut)) (o .cut) (l .edge) (edgeOf no-edge) (cutsFrom p (o .cut + 1) (drop (o .cut + 1) (p .cuts))) in-edges in
-    let u = sym (at-pair p b (o .cut) (l .edge) (omega (arith, n .cuts, w .0 .taken)) in-edges) ∙ sym (w .5 .ensures p) ∙ w .6 .taken in
-    rw (w .8) ((rw u at (sym t)) ∙ l .inv .2 p b))
+    let u = sym (at-pair p b (o .cut) (l .edge) (omega (arith, n .cuts, w .0 .taken)) in-edges) ∙ sym (w .6 .ensures p (getD (c .before .before .before .before .before .before .args .plan .cuts .items) (o .cut) no-cut) refl refl) ∙ w .7 .taken in
+    rw (w .9) ((rw u at (sym t)) ∙ l .inv .2 p b))
     (c .before .search-test .came)
 
 returns-2 : tie.Need-returns-2 Inv-loop μ-loop Inv-search μ-search
@@ -148,7 +147,7 @@ returns-2 c =
     let n = c .before .before .before .before .before .count-records .ensures .0 in let o = c .before .before .search in let p = planOf (c .before .before .before .before .before .before .args .plan) in
     ⊎-elim
     (λ w. sym (cut-end p (o .cut) (omega (arith, n .cuts, w .0 .left))) ∙ o .inv .2 p (record { cuts-are = refl; edges-are = refl }))
-    (λ w. let h = w .7 in let t = c .if2 .left in cc)
+    (λ w. let h = w .8 in let t = c .if2 .left in cc)
     (c .before .search-test .came)
 
 pub first-crossing-spec : {M : Type 1} → statement M
@@ -161,11 +160,11 @@ first-crossing-spec =
     μ-search
     count-records-requires
     search-holds
+    mul-tested
+    element-copy-out-tested
     loop-holds
     mul-undecided
     element-copy-out-undecided
-    mul-undecided-2
-    element-copy-out-undecided-2
     undecided-requires
     add-edge
     loop-less

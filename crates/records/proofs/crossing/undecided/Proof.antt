@@ -1,17 +1,17 @@
 -- One cut and one edge. Assumes nothing.
-use mathlib.Core.Path.{_≡_, ap}
+use mathlib.Core.Path.{_≡_, sym, ap, _∙_}
 use mathlib.Core.Bool.{true, false, not, Bool·beq}
+use borrow.Author.Needs.{needs}
 use borrow.Author.Tests.{not-true, not-false}
 use Rattle.records.specs.Plan.{crosses}
-use Rattle.records.specs.Decoded.{cutOf, edgeOf}
-use Rattle.records.specs.Crossings.{isOpen}
-use borrow.Author.Needs.{needs}
+use Rattle.records.specs.Decoded.{cutOf, edgeOf, decisionsOf}
+use Rattle.records.specs.Crossings.{decides, isOpen}
 use Rattle.records.proofs.crossing.undecided.Statement.{statement}
 use Rattle.records.proofs.crossing.undecided.Tie as tie
 
 returns : tie.Need-returns
 unfolding isOpen crosses cutOf edgeOf
-returns c = λ P. rw (not-true (c .before .before .args .edge .combination) (c .if1 .taken))
+returns c = λ P x m d. rw (not-true (c .before .before .args .edge .combination) (c .if1 .taken))
 
 contains-requires : tie.Need-contains-requires
 contains-requires c κs = search needs
@@ -21,18 +21,18 @@ contains-requires-2 c κs = search needs
 
 returns-2 : tie.Need-returns-2
 unfolding isOpen crosses cutOf edgeOf
-returns-2 c = λ P. let s = c .before .before .before .before .before .args in
+returns-2 c = λ P x m d. let s = c .before .before .before .before .before .args in
     let t : Bool·beq (c .before .before .contains .result) (c .before .contains2 .result) ≡ true = c .if2 .taken in
-    rw (not-false (s .edge .combination) (c .before .before .before .if1 .left), ← c .before .before .contains .ensures, ← c .before .contains2 .ensures, t)
+    rw (m, not-false (s .edge .combination) (c .before .before .before .if1 .left), ← c .before .before .contains .ensures, ← c .before .contains2 .ensures, t)
 
 decided-requires : tie.Need-decided-requires
 decided-requires c κs = search needs
 
 returns-3 : tie.Need-returns-3
 unfolding isOpen crosses cutOf edgeOf
-returns-3 c = λ P. let s = c .before .before .before .before .before .before .before .args in
-    let t : Bool·beq (c .before .before .before .before .contains .result) (c .before .before .before .contains2 .result) ≡ false = c .before .before .if2 .left in
-    rw (not-false (s .edge .combination) (c .before .before .before .before .before .if1 .left), ← c .before .before .before .before .contains .ensures, ← c .before .before .before .contains2 .ensures, t) (ap not (c .decided .ensures))
+returns-3 c = λ P x m d. let s = c .before .before .before .before .before .before .args in
+    let t : Bool·beq (c .before .before .before .contains .result) (c .before .before .contains2 .result) ≡ false = c .before .if2 .left in
+    rw (m, not-false (s .edge .combination) (c .before .before .before .before .if1 .left), ← c .before .before .before .contains .ensures, ← c .before .before .contains2 .ensures, t) (ap not (c .decided .ensures ∙ ap (λ z. decides (decisionsOf z) (s .number)) (sym d)))
 
 pub undecided-spec : {M : Type 1} → statement M
 undecided-spec =

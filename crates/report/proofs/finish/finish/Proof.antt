@@ -14,7 +14,7 @@ use Rattle.expressions.specs.Influences.{setsOf}
 use Rattle.expressions.specs.Rules.{cutCount}
 use Rattle.expressions.proofs.ListLaws.{made-length}
 use Rattle.report.specs.EventsWritten.{countOf}
-use Rattle.report.proofs.FinishLaws.{none-all, none-one, over, told, rule-events}
+use Rattle.report.proofs.FinishLaws.{none, over, told, rule-events}
 use Rattle.report.proofs.finish.finish.Statement.{statement}
 use Rattle.report.proofs.finish.finish.Tie as tie
 
@@ -30,13 +30,13 @@ cuts-long c = sym (length-map (c .args .plan .cuts .items) (the-type .to)) ∙ c
 
 -- back from the place where the events by rule are counted
 abbrev start : tie.After-count-events → tie.Start
-start c = c .before .before .before .before .before .before .before .before .before .before
+start c = c .before .before .before .before .before .before .before .before .before
 
 -- the number of cuts, and so the events by rule
-cuts-counted : (c : tie.After-upto) → c .upto .result ≡ cutCount (planOf (c .before .before .before .before .before .before .before .before .before .args .plan))
+cuts-counted : (c : tie.After-upto) → c .upto .result ≡ cutCount (planOf (c .before .before .before .before .before .before .before .before .args .plan))
 unfolding planOf
 cuts-counted c =
-    let s = c .before .before .before .before .before .before .before .before .before in
+    let s = c .before .before .before .before .before .before .before .before in
     let p = s .args .plan in
     sym (made-length cutOf (p .cuts .items) (p .cuts .count) 16 (c .upto .result) (cuts-long s) (c .upto .ensures .0))
 
@@ -44,34 +44,22 @@ counted : (c : tie.After-count-events) → let s = start c in
     c .count-events .result ≡ countOf (s .args .sums .now) (s .args .noted .now) (s .args .opens .defaults) (cutCount (planOf (s .args .plan)))
 counted c = let s = start c in c .count-events .ensures .0 ∙ ap (countOf (s .args .sums .now) (s .args .noted .now) (s .args .opens .defaults)) (cuts-counted (c .before))
 
-size-requires : tie.Need-size-requires
-size-requires c κs = search needs
-
-cast-people : tie.Need-cast-people
-cast-people c = search needs
-
 index-1-if1 : tie.Need-index-1-if1
 index-1-if1 c = search needs
 
 index-2-if1 : tie.Need-index-2-if1
 index-2-if1 c = search needs
 
-write-bare-requires : tie.Need-write-bare-requires
-write-bare-requires c κs = search needs
+without-worlds-requires : tie.Need-without-worlds-requires
+without-worlds-requires c κs = c .before .before .before .before .before .before .pre .room
 
 same-length : tie.Need-same-length
 same-length c = search needs
 
 returns : tie.Need-returns
 returns c =
-    let s = c .before .before .before .before .before .before .before .before .before .before .before .before in
-    none-all (s .args .wanted) (s .pre) (c .before .before .write-bare .last .0) (c .before .before .before .before .before .before .before .before .size .result) (c .before .before .before .before .before .if1 .taken) (c .before .before .before .before .if2 .taken)
-    (c .before .before .write-bare .ensures) (c .before .before .before .before .before .before .before .before .size .ensures)
-
-returns-2 : tie.Need-returns-2
-returns-2 c =
-    let s = c .before .before .before .before .before .before .before .before in
-    none-one (s .args .wanted) (s .pre) (c .before .if1 .taken) (c .if2 .left)
+    let s = c .before .before .before .before .before .before .before .before .before in
+    none (s .args .wanted) (s .pre) (c .before .before .before .before .if1 .taken) (c .before .before .without-worlds .ensures)
 
 upto-requires : tie.Need-upto-requires
 upto-requires c κs = search needs
@@ -84,15 +72,15 @@ add-total c =
     let s = start c in
     omega (arith, s .good .1 .1 .1 .1 .1 .1 .1 .1 .0, s .pre .listed, c .count-events .ensures .1)
 
-mul-if4 : tie.Need-mul-if4
-mul-if4 c =
+mul-if3 : tie.Need-mul-if3
+mul-if3 c =
     let s = start (c .before) in
     omega (arith, s .good .1 .1 .1 .1 .1 .1 .1 .1 .0, s .pre .listed, c .before .count-events .ensures .1)
 
 -- too much: one did not fit, or all do not
-much : (c : tie.Joined3) → let s = start (c .before) in
+much : (c : tie.Joined2) → let s = start (c .before) in
     (s .args .walked .listing .full ≡ true) ⊎ (length (s .args .events .now) < 12 * (c .before .count-events .result + s .args .walked .listing .count))
-much c = ⊎-elim (λ t. inl (t .taken)) (λ t. inr (ltb-true _ _ (t .1 .taken))) (c .if3 .came)
+much c = ⊎-elim (λ t. inl (t .taken)) (λ t. inr (ltb-true _ _ (t .1 .taken))) (c .if2 .came)
 
 clear-requires : tie.Need-clear-requires
 clear-requires c κs = search needs
@@ -100,22 +88,22 @@ clear-requires c κs = search needs
 same-length-2 : tie.Need-same-length-2
 same-length-2 c = search needs
 
-returns-3 : tie.Need-returns-3
-returns-3 c =
+returns-2 : tie.Need-returns-2
+returns-2 c =
     let z = c .before .before .before .before .before in
     let s = start z in
-    over (s .args .wanted) (s .pre) (z .count-events .result) (c .before .before .clear .last .0) (z .before .before .before .if1 .left) (counted z) (much (c .before .before .before .before))
+    over (s .args .wanted) (s .pre) (z .count-events .result) (c .before .before .clear .last .0) (z .before .before .before .before .if1 .left) (counted z) (much (c .before .before .before .before))
     (c .before .before .clear .ensures)
 
 array-share-prefix-sets : tie.Need-array-share-prefix-sets
-array-share-prefix-sets c = omega (arith, long (c .before .before .before .before .before .before .before .before .before .before .before .before .before .before .before))
+array-share-prefix-sets c = omega (arith, long (c .before .before .before .before .before .before .before .before .before .before .before .before .before .before))
 
 slice-aggregate-write-open : tie.Need-slice-aggregate-write-open
-slice-aggregate-write-open c = sym (taken (c .before .before .before .before .before .before .before .before .before .before .before .before .before .before .before .before))
+slice-aggregate-write-open c = sym (taken (c .before .before .before .before .before .before .before .before .before .before .before .before .before .before .before))
 
 write-open-requires : tie.Need-write-open-requires
 write-open-requires c κs =
-    let s = c .before .before .before .before .before .before .before .before .before .before .before .before .before .before .before .before in
+    let s = c .before .before .before .before .before .before .before .before .before .before .before .before .before .before .before in
     let t = taken s in
     let f = s .pre .facts in
     (s .pre .room, f .1, omega (arith, t, f .0), omega (arith, t, f .2))
@@ -125,8 +113,14 @@ write-events-requires c κs =
     let z = c .before .before .before .before .before .before .before .before .before .before in
     let s = start z in
     let e = counted z in
-    let h = ltb-false (length (s .args .events .now)) (12 * (z .count-events .result + s .args .walked .listing .count)) (c .before .before .before .before .before .before .before .before .if4 .left) in
+    let h = ltb-false (length (s .args .events .now)) (12 * (z .count-events .result + s .args .walked .listing .count)) (c .before .before .before .before .before .before .before .before .if3 .left) in
     (rule-events (s .args .wanted) (s .pre) (length (s .args .events .now)) (omega arith), h)
+
+size-requires : tie.Need-size-requires
+size-requires c κs = search needs
+
+cast-people : tie.Need-cast-people
+cast-people c = search needs
 
 same-length-3 : tie.Need-same-length-3
 same-length-3 c = search needs
@@ -134,41 +128,39 @@ same-length-3 c = search needs
 same-length-4 : tie.Need-same-length-4
 same-length-4 c = search needs
 
-returns-4 : tie.Need-returns-4
+returns-3 : tie.Need-returns-3
 unfolding setsOf
-returns-4 c =
-    let z = c .before .before .before .before .before .before .before .before .before .before .before .before .before in
+returns-3 c =
+    let z = c .before .before .before .before .before .before .before .before .before .before .before .before .before .before in
     let s = start z in
-    let n = z .before .before .before .before .before .before .size in
-    let w = c .before .before .before .before .before .before .write-open in
-    let e = c .before .before .write-events in
-    let h = ltb-false (length (s .args .events .now)) (12 * (z .count-events .result + s .args .walked .listing .count)) (c .before .before .before .before .before .before .before .before .before .before .before .if4 .left) in
-    told (s .args .wanted) (s .pre) (z .count-events .result) (s .args .walked .listing .count) (w .last .0) (e .last .0) (n .result) (z .before .before .before .if1 .left) (counted z) refl
-    (c .before .before .before .before .before .before .before .before .before .before .before .before .if3 .left) h (w .ensures) (e .ensures) (n .ensures)
+    let w = c .before .before .before .before .before .before .before .write-open in
+    let e = c .before .before .before .write-events in
+    let h = ltb-false (length (s .args .events .now)) (12 * (z .count-events .result + s .args .walked .listing .count)) (c .before .before .before .before .before .before .before .before .before .before .before .before .if3 .left) in
+    told (s .args .wanted) (s .pre) (z .count-events .result) (s .args .walked .listing .count) (w .last .0) (e .last .0) (c .size .result) (z .before .before .before .before .if1 .left) (counted z) refl
+    (c .before .before .before .before .before .before .before .before .before .before .before .before .before .if2 .left) h (w .ensures) (e .ensures) (c .size .ensures)
 
 pub finish-spec : {M : Type 1} → statement M
 finish-spec =
     tie.close
     (tie.spec
-    size-requires
-    cast-people
     index-1-if1
     index-2-if1
-    write-bare-requires
+    without-worlds-requires
     same-length
     returns
-    returns-2
     upto-requires
     count-events-requires
     add-total
-    mul-if4
+    mul-if3
     clear-requires
     same-length-2
-    returns-3
+    returns-2
     array-share-prefix-sets
     slice-aggregate-write-open
     write-open-requires
     write-events-requires
+    size-requires
+    cast-people
     same-length-3
     same-length-4
-    returns-4)
+    returns-3)

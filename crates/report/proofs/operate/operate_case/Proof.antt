@@ -1,8 +1,9 @@
--- `operate::operate_case`: the refusals of the heading, then a roster that is not complete, or what the binding gives.
+-- `operate::operate_case`: the refusals of the heading, a roster that is not complete, refusals 5 and 10, then 11, or the outcome of the case that is ready.
+use mathlib.Core.Path.{sym, _∙_}
 use lib.ListN.{length}
 use borrow.Author.Tests.{not-true, not-false}
 use denote.Ref.{now}
-use Rattle.report.proofs.OperateLaws.{persons-fit, heading-stops, persons-named, roster-peopled, lines-fit, roster-complete, roster-incomplete, stops, goes-on, no-world, bare-lines}
+use Rattle.report.proofs.OperateLaws.{persons-fit, heading-stops, persons-named, roster-peopled, lines-fit, roster-complete, roster-incomplete, binding-stops, codes-bound, count-stops, count-passes, worlds-few, stops, goes-on, bare, ready-outcome}
 use borrow.Author.Needs.{needs}
 use Rattle.report.proofs.operate.operate_case.Statement.{statement}
 use Rattle.report.proofs.operate.operate_case.Tie as tie
@@ -29,61 +30,9 @@ returns c =
     (p .rule-persons .ensures) (length (now (a .args .lines))) (h .heading-fault .result) (h .heading-fault .ensures) (c .if1 .taken))
     (a .pre .zeros) (a .pre .none)
 
-operate-bound-requires : tie.Need-operate-bound-requires
-operate-bound-requires c κs =
+without-worlds-requires : tie.Need-without-worlds-requires
+without-worlds-requires c κs =
     let i = c .before .before .before in
-    let h = i .before in
-    let p = h .before in
-    let q = p .before .before in
-    let a = q .before .before .before .before .before .before in
-    record {
-      opening = a .pre;
-      named = persons-named (a .args .plan) (a .args .case) (a .pre .sound) (a .pre .sane) (q .reach-of .result) (q .reach-of .ensures) (p .rule-persons .result)
-          (p .rule-persons .ensures) (length (now (a .args .lines))) (h .heading-fault .result) (h .heading-fault .ensures) (i .if1 .left);
-      peopled = roster-peopled (a .args .plan) (a .args .case) (a .pre .sound) (a .pre .sane) (q .reach-of .result) (q .reach-of .ensures) (p .rule-persons .result)
-          (p .rule-persons .ensures) (length (now (a .args .lines))) (h .heading-fault .result) (h .heading-fault .ensures) (i .if1 .left);
-      reached = q .reach-of .ensures;
-      room = lines-fit (a .args .plan) (a .args .case) (a .pre .sound) (a .pre .sane) (q .reach-of .result) (q .reach-of .ensures) (p .rule-persons .result)
-          (p .rule-persons .ensures) (length (now (a .args .lines))) (h .heading-fault .result) (h .heading-fault .ensures) (i .if1 .left);
-    }
-
-same-length : tie.Need-same-length
-same-length c = search needs
-
-same-length-2 : tie.Need-same-length-2
-same-length-2 c = search needs
-
-returns-2 : tie.Need-returns-2
-returns-2 c =
-    let w = c .before .before .before .before in
-    let j = w .before .before .before in
-    let i = j .before in
-    let h = i .before in
-    let p = h .before in
-    let q = p .before .before in
-    let a = q .before .before .before .before .before .before in
-    goes-on (a .args .wanted) _ _ _ _ _
-    (roster-complete (a .args .plan) (a .args .case) (a .pre .sound) (a .pre .sane) (q .reach-of .result) (q .reach-of .ensures) (p .rule-persons .result)
-    (p .rule-persons .ensures) (length (now (a .args .lines))) (h .heading-fault .result) (h .heading-fault .ensures) (i .if1 .left) (j .if2 .taken))
-    (w .operate-bound .ensures)
-
-returns-3 : tie.Need-returns-3
-returns-3 c =
-    let j = c .before .before in
-    let i = j .before in
-    let h = i .before in
-    let p = h .before in
-    let q = p .before .before in
-    let a = q .before .before .before .before .before .before in
-    no-world (a .args .wanted) (a .args .case .heading .roster) (now (a .args .lines)) (now (a .args .events)) (a .pre .zeros) (a .pre .none)
-    (roster-incomplete (a .args .plan) (a .args .case) (a .pre .sound) (a .pre .sane) (q .reach-of .result) (q .reach-of .ensures) (p .rule-persons .result)
-    (p .rule-persons .ensures) (length (now (a .args .lines))) (h .heading-fault .result) (h .heading-fault .ensures) (i .if1 .left) (j .if2 .left))
-    (not-true _ (c .if3 .taken))
-
-write-bare-requires : tie.Need-write-bare-requires
-write-bare-requires c κs =
-    let j = c .before .before .before in
-    let i = j .before in
     let h = i .before in
     let p = h .before in
     let q = p .before .before in
@@ -91,29 +40,126 @@ write-bare-requires c κs =
     lines-fit (a .args .plan) (a .args .case) (a .pre .sound) (a .pre .sane) (q .reach-of .result) (q .reach-of .ensures) (p .rule-persons .result)
     (p .rule-persons .ensures) (length (now (a .args .lines))) (h .heading-fault .result) (h .heading-fault .ensures) (i .if1 .left)
 
-size-requires : tie.Need-size-requires
-size-requires c κs = search needs
+same-length : tie.Need-same-length
+same-length c = search needs
 
-cast-t13 : tie.Need-cast-t13
-cast-t13 c = search needs
-
-same-length-3 : tie.Need-same-length-3
-same-length-3 c = search needs
-
-returns-4 : tie.Need-returns-4
-returns-4 c =
-    let w = c .before .before .before in
-    let t = w .before .before in
-    let j = t .before .before in
-    let i = j .before in
+returns-2 : tie.Need-returns-2
+returns-2 c =
+    let w = c .before .before .without-worlds in
+    let j = c .before .before .before .before in
+    let i = j .before .before in
     let h = i .before in
     let p = h .before in
     let q = p .before .before in
     let a = q .before .before .before .before .before .before in
-    bare-lines (a .args .wanted) (a .args .case .heading .roster) (now (a .args .lines)) (now (a .args .events)) (a .pre .zeros) (a .pre .none)
+    bare (a .args .wanted) (a .args .case .heading .roster) (now (a .args .lines)) (now (a .args .events)) (a .pre .zeros) (a .pre .none)
     (roster-incomplete (a .args .plan) (a .args .case) (a .pre .sound) (a .pre .sane) (q .reach-of .result) (q .reach-of .ensures) (p .rule-persons .result)
-    (p .rule-persons .ensures) (length (now (a .args .lines))) (h .heading-fault .result) (h .heading-fault .ensures) (i .if1 .left) (j .if2 .left))
-    _ (c .size .result) (not-false _ (t .if3 .left)) (c .size .ensures) (w .write-bare .ensures)
+    (p .rule-persons .ensures) (length (now (a .args .lines))) (h .heading-fault .result) (h .heading-fault .ensures) (i .if1 .left) (not-true _ (j .if2 .taken)))
+    _ (w .result) (w .ensures)
+
+bindable-requires : tie.Need-bindable-requires
+bindable-requires c κs = search needs
+
+enum-known-found : tie.Need-enum-known-found
+enum-known-found c = search needs
+
+returns-3 : tie.Need-returns-3
+returns-3 c =
+    let f = c .before .before .before in
+    let j = f .before in
+    let i = j .before .before in
+    let h = i .before in
+    let p = h .before in
+    let q = p .before .before in
+    let a = q .before .before .before .before .before .before in
+    goes-on (a .args .wanted) _ _ _ _ _ (roster-complete (a .args .plan) (a .args .case) (a .pre .sound) (a .pre .sane) (q .reach-of .result) (q .reach-of .ensures) (p .rule-persons .result)
+    (p .rule-persons .ensures) (length (now (a .args .lines))) (h .heading-fault .result) (h .heading-fault .ensures) (i .if1 .left) (not-false _ (j .if2 .left)))
+    (stops (a .args .wanted) _ _ _ _ _
+    (binding-stops (a .args .plan) (a .args .case) (a .pre .sound) (a .pre .sane) _ _ (sym (f .bindable .ensures) ∙ c .before .found .given .1))
+    (a .pre .zeros) (a .pre .none))
+
+enum-told : tie.Need-enum-told
+enum-told c = search needs
+
+bindings-requires : tie.Need-bindings-requires
+bindings-requires c κs = search needs
+
+count-worlds-requires : tie.Need-count-worlds-requires
+count-worlds-requires c κs = search needs
+
+returns-4 : tie.Need-returns-4
+returns-4 c =
+    let k = c .before in
+    let b = k .before in
+    let g = b .before .before in
+    let f = g .before .before in
+    let j = f .before in
+    let i = j .before .before in
+    let h = i .before in
+    let p = h .before in
+    let q = p .before .before in
+    let a = q .before .before .before .before .before .before in
+    goes-on (a .args .wanted) _ _ _ _ _ (roster-complete (a .args .plan) (a .args .case) (a .pre .sound) (a .pre .sane) (q .reach-of .result) (q .reach-of .ensures) (p .rule-persons .result)
+    (p .rule-persons .ensures) (length (now (a .args .lines))) (h .heading-fault .result) (h .heading-fault .ensures) (i .if1 .left) (not-false _ (j .if2 .left)))
+    (stops (a .args .wanted) _ _ _ _ _
+    (count-stops (a .args .plan) (a .args .case) (a .pre .sound) (a .pre .sane) (q .reach-of .result) (q .reach-of .ensures)
+    (b .bindings .result) (b .bindings .ensures) (k .count-worlds .result) (k .count-worlds .ensures) (sym (f .bindable .ensures) ∙ g .enum-told .given .1) (c .if3 .taken))
+    (a .pre .zeros) (a .pre .none))
+
+answer-ready-requires : tie.Need-answer-ready-requires
+answer-ready-requires c κs =
+    let t = c .before .before in
+    let k = t .before in
+    let b = k .before in
+    let i = b .before .before .before .before .before .before .before in
+    let h = i .before in
+    let p = h .before in
+    let q = p .before .before in
+    let a = q .before .before .before .before .before .before in
+    record {
+      sound = a .pre .sound;
+      sane = a .pre .sane;
+      named = persons-named (a .args .plan) (a .args .case) (a .pre .sound) (a .pre .sane) (q .reach-of .result) (q .reach-of .ensures) (p .rule-persons .result)
+          (p .rule-persons .ensures) (length (now (a .args .lines))) (h .heading-fault .result) (h .heading-fault .ensures) (i .if1 .left);
+      peopled = roster-peopled (a .args .plan) (a .args .case) (a .pre .sound) (a .pre .sane) (q .reach-of .result) (q .reach-of .ensures) (p .rule-persons .result)
+          (p .rule-persons .ensures) (length (now (a .args .lines))) (h .heading-fault .result) (h .heading-fault .ensures) (i .if1 .left);
+      reached = q .reach-of .ensures;
+      bound = codes-bound (a .args .plan) (a .args .case) (a .pre .sound) (a .pre .sane) (q .reach-of .result) (q .reach-of .ensures)
+          (b .bindings .result) (b .bindings .ensures);
+      few = worlds-few (a .args .plan) (a .args .case) (a .pre .sound) (a .pre .sane) (q .reach-of .result) (q .reach-of .ensures)
+          (b .bindings .result) (b .bindings .ensures) (k .count-worlds .result) (k .count-worlds .ensures) (t .if3 .left);
+      room = lines-fit (a .args .plan) (a .args .case) (a .pre .sound) (a .pre .sane) (q .reach-of .result) (q .reach-of .ensures) (p .rule-persons .result)
+          (p .rule-persons .ensures) (length (now (a .args .lines))) (h .heading-fault .result) (h .heading-fault .ensures) (i .if1 .left);
+      zeros = a .pre .zeros;
+      none = a .pre .none;
+    }
+
+same-length-2 : tie.Need-same-length-2
+same-length-2 c = search needs
+
+same-length-3 : tie.Need-same-length-3
+same-length-3 c = search needs
+
+returns-5 : tie.Need-returns-5
+returns-5 c =
+    let w = c .before .before .before .before in
+    let t = w .before .before .before in
+    let k = t .before in
+    let b = k .before in
+    let g = b .before .before in
+    let f = g .before .before in
+    let j = f .before in
+    let i = j .before .before in
+    let h = i .before in
+    let p = h .before in
+    let q = p .before .before in
+    let a = q .before .before .before .before .before .before in
+    goes-on (a .args .wanted) _ _ _ _ _ (roster-complete (a .args .plan) (a .args .case) (a .pre .sound) (a .pre .sane) (q .reach-of .result) (q .reach-of .ensures) (p .rule-persons .result)
+    (p .rule-persons .ensures) (length (now (a .args .lines))) (h .heading-fault .result) (h .heading-fault .ensures) (i .if1 .left) (not-false _ (j .if2 .left)))
+    (ready-outcome (a .args .wanted) (a .args .plan) (a .args .case) _ _ _ _ _
+    (count-passes (a .args .plan) (a .args .case) (a .pre .sound) (a .pre .sane) (q .reach-of .result) (q .reach-of .ensures)
+    (b .bindings .result) (b .bindings .ensures) (k .count-worlds .result) (k .count-worlds .ensures) (sym (f .bindable .ensures) ∙ g .enum-told .given .1) (t .if3 .left))
+    (w .answer-ready .ensures))
 
 pub operate-case-spec : {M : Type 1} → statement M
 operate-case-spec =
@@ -123,13 +169,17 @@ operate-case-spec =
     rule-persons-requires
     heading-fault-requires
     returns
-    operate-bound-requires
+    without-worlds-requires
     same-length
-    same-length-2
     returns-2
+    bindable-requires
+    enum-known-found
     returns-3
-    write-bare-requires
-    size-requires
-    cast-t13
+    enum-told
+    bindings-requires
+    count-worlds-requires
+    returns-4
+    answer-ready-requires
+    same-length-2
     same-length-3
-    returns-4)
+    returns-5)

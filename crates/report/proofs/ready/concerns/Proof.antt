@@ -11,8 +11,8 @@ use Rattle.report.proofs.ready.concerns.Tie as tie
 upto-requires : tie.Need-upto-requires
 upto-requires c κs = search needs
 
-defaults-requires : tie.Need-defaults-requires
-defaults-requires c κs = search needs
+defaults-taken-requires : tie.Need-defaults-taken-requires
+defaults-taken-requires c κs = search needs
 
 returns : tie.Need-returns
 unfolding setsOf
@@ -26,7 +26,7 @@ returns c =
         used-take (i .sets) (i .count) 80 (u .upto .result) long (u .upto .ensures .0),
         sym (used-length (i .sets) (i .count) 80 (u .upto .result) long (u .upto .ensures .0)),
         refl,
-        c .defaults .ensures,
+        record { at = c .defaults-taken .ensures },
       );
       no = λ e. absurd (false≢true (sym e ∙ u .before .before .if1 .taken));
     }
@@ -38,4 +38,4 @@ returns-2 c = record {
 }
 
 pub concerns-spec : {M : Type 1} → statement M
-concerns-spec = tie.close (tie.spec upto-requires defaults-requires returns returns-2)
+concerns-spec = tie.close (tie.spec upto-requires defaults-taken-requires returns returns-2)

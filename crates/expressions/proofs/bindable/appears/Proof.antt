@@ -1,0 +1,65 @@
+-- `bindable::appears`: none of the numbers passed is the one asked for. Assumes nothing.
+use Prim.Native.Nat.{ℕ, _≤_, _-_}
+use mathlib.Core.Path.{_≡_, refl, sym, ap, _∙_}
+use mathlib.Core.Bool.{Bool}
+use lib.Dec.{eqb}
+use lib.ListN.{length, getD, drop, drop-of-length-le}
+use borrow.Author.Tests.{eq-eqb, ne-eqb}
+use borrow.Author.Needs.{needs}
+use Rattle.records.specs.Sets.{anyOf}
+use Rattle.expressions.proofs.ListLaws.{rest-next, any-go, any-stop}
+use Rattle.expressions.proofs.bindable.appears.Statement.{statement}
+use Rattle.expressions.proofs.bindable.appears.Tie as tie
+
+abbrev Inv-loop : tie.InvT-loop
+Inv-loop numbers number i₀ i = (i ≤ length numbers) × (anyOf (λ (e : ℕ). eqb e number) (drop i numbers) ≡ anyOf (λ (e : ℕ). eqb e number) numbers)
+
+abbrev μ-loop : tie.MeasureT-loop
+μ-loop numbers number i₀ i = length numbers - i
+
+loop-holds : tie.Need-loop-holds Inv-loop μ-loop
+loop-holds c = (search needs, refl)
+
+shared-slice-read-if1 : tie.Need-shared-slice-read-if1 Inv-loop μ-loop
+shared-slice-read-if1 c = search needs
+
+returns : tie.Need-returns Inv-loop μ-loop
+returns c =
+    let l = c .before .before .before in
+    let ns = c .before .before .before .before .args .numbers .now in
+    let test : ℕ → Bool = λ e. eqb e (c .before .before .before .before .args .number) in
+    sym (ap (anyOf test) (rest-next ns (l .loop .i) 0 (c .before .before .loop-test .taken)) ∙ any-stop test (getD ns (l .loop .i) 0) _ (eq-eqb _ _ (c .if1 .taken))) ∙ l .loop .inv .1
+
+add-i : tie.Need-add-i Inv-loop μ-loop
+add-i c = search needs
+
+loop-less : tie.Need-loop-less Inv-loop μ-loop
+loop-less c = search needs
+
+loop-again : tie.Need-loop-again Inv-loop μ-loop
+loop-again c =
+    let l = c .before .before .before in
+    let ns = c .before .before .before .before .args .numbers .now in
+    let test : ℕ → Bool = λ e. eqb e (c .before .before .before .before .args .number) in
+    (search needs, sym (ap (anyOf test) (rest-next ns (l .loop .i) 0 (c .before .before .loop-test .taken)) ∙ any-go test (getD ns (l .loop .i) 0) _ (ne-eqb _ _ (c .if1 .left))) ∙ l .loop .inv .1)
+
+returns-2 : tie.Need-returns-2 Inv-loop μ-loop
+unfolding anyOf
+returns-2 c =
+    let l = c .before in
+    let ns = c .before .before .args .numbers .now in
+    sym (ap (anyOf (λ (e : ℕ). eqb e (c .before .before .args .number))) (drop-of-length-le ns (c .loop-test .left))) ∙ l .loop .inv .1
+
+pub appears-spec : {M : Type 1} → statement M
+appears-spec =
+    tie.close
+    (tie.spec
+    Inv-loop
+    μ-loop
+    loop-holds
+    shared-slice-read-if1
+    returns
+    add-i
+    loop-less
+    loop-again
+    returns-2)

@@ -1,0 +1,36 @@
+-- `observations::sights_of`: booleans, then relations, from nothing. Assumes nothing.
+use mathlib.Core.Path.{sym, ap, _∙_}
+use mathlib.Core.List.{map}
+use lib.ListN.{take}
+use borrow.Author.Needs.{needs}
+use Rattle.records.specs.Decoded.{booleanOf, relationOf}
+use Rattle.expressions.specs.declared.observations.Seen.{Seen}
+use Rattle.expressions.specs.Bindings.{observedInBooleans, observedInRelations}
+use Rattle.expressions.specs.Seen.{nothing, lookAll}
+use Rattle.expressions.proofs.ListLaws.{filled-at}
+use Rattle.expressions.proofs.SeenLaws.{look-append}
+use Rattle.expressions.proofs.observations.sights_of.Statement.{statement}
+use Rattle.expressions.proofs.observations.sights_of.Tie as tie
+
+look-in-booleans-requires : tie.Need-look-in-booleans-requires
+look-in-booleans-requires c κs = search needs
+
+look-in-relations-requires : tie.Need-look-in-relations-requires
+look-in-relations-requires c κs = search needs
+
+returns : tie.Need-returns
+returns c = λ f h.
+    let s = c .before .before .args in
+    let bs = observedInBooleans (map booleanOf (take (s .booleans .count) (s .booleans .items))) f in
+    let rs = observedInRelations (map relationOf (take (s .relations .count) (s .relations .items))) f in
+    c .look-in-relations .ensures f h
+    ∙ ap (λ (t : Seen). lookAll t rs) (c .before .look-in-booleans .ensures f h ∙ ap (λ (t : Seen). lookAll t bs) (filled-at 64 f nothing))
+    ∙ sym (look-append nothing bs rs)
+
+pub sights-of-spec : {M : Type 1} → statement M
+sights-of-spec =
+    tie.close
+    (tie.spec
+    look-in-booleans-requires
+    look-in-relations-requires
+    returns)

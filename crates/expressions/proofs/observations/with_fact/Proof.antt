@@ -1,0 +1,43 @@
+-- `observations::with_fact`: a case for each test. Assumes nothing.
+use mathlib.Core.Path.{sym, ap, _∙_}
+use mathlib.Core.Bool.{Bool, _&&_, _||_, and-false, or-false, and-true}
+use native.Mathlib.Omega.{arith}
+use lib.Dec.{eqb}
+use borrow.Author.Tests.{not-true, not-false, ne-eqb}
+use borrow.Author.Needs.{needs}
+use Rattle.records.specs.Sets.{has}
+use Rattle.records.proofs.SetLaws.{has-union, has-one}
+use Rattle.expressions.proofs.observations.with_fact.Statement.{statement}
+use Rattle.expressions.proofs.observations.with_fact.Tie as tie
+
+returns : tie.Need-returns
+returns c = λ f h.
+    let a = c .before .args in
+    sym (ap (λ (b : Bool). has (a .m) f || (eqb (a .fact) f && b)) (not-true (a .said) (c .if1 .taken)) ∙ ap (λ (b : Bool). has (a .m) f || b) (and-false (eqb (a .fact) f)) ∙ or-false (has (a .m) f))
+
+returns-2 : tie.Need-returns-2
+returns-2 c = λ f h.
+    let a = c .before .before .args in
+    sym (ap (λ (b : Bool). has (a .m) f || (b && a .said)) (ne-eqb (a .fact) f (λ q. omega (arith, c .if2 .taken, h, q))) ∙ or-false (has (a .m) f))
+
+bit-requires : tie.Need-bit-requires
+bit-requires c κs = search needs
+
+union-requires : tie.Need-union-requires
+union-requires c κs = search needs
+
+returns-3 : tie.Need-returns-3
+returns-3 c = λ f h.
+    let a = c .before .before .before .before .args in
+    ap (λ (m : _). has m f) (c .union .ensures) ∙ has-union (a .m) (c .before .bit .result) f
+    ∙ ap (λ (b : Bool). has (a .m) f || b) (ap (λ (m : _). has m f) (c .before .bit .ensures) ∙ has-one (a .fact) f ∙ sym (ap (λ (b : Bool). eqb (a .fact) f && b) (not-false (a .said) (c .before .before .before .if1 .left)) ∙ and-true (eqb (a .fact) f)))
+
+pub with-fact-spec : {M : Type 1} → statement M
+with-fact-spec =
+    tie.close
+    (tie.spec
+    returns
+    returns-2
+    bit-requires
+    union-requires
+    returns-3)

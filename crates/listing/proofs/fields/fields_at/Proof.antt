@@ -1,0 +1,57 @@
+use mathlib.Core.Path.{_≡_, subst}
+use Prim.Native.Nat.{ℕ, _+_, _*_, _-_}
+use native.Mathlib.Omega.{arith}
+use lib.ListN.{take, drop}
+use denote.Ref.{now}
+use Rattle.report.specs.LineAt.{lineAt, decoded}
+use Rattle.listing.specs.Shown.{Shows}
+use borrow.Author.Needs.{needs}
+use Rattle.listing.proofs.fields.fields_at.Statement.{statement}
+use Rattle.listing.proofs.fields.fields_at.Tie as tie
+use Rattle.listing.proofs.fields.fields_at.Reads as reads
+use Rattle.listing.proofs.fields.fields_at.Lts as lts
+use Rattle.listing.proofs.fields.fields_of.Reads as fields-of-reads
+
+-- src/fields.rt:50:16
+mul-from : tie.Need-mul-from
+mul-from c = search needs
+
+-- src/fields.rt:51:14
+add-to : tie.Need-add-to
+add-to c = search needs
+
+-- src/fields.rt:52:15
+sub-fields-of : tie.Need-sub-fields-of
+sub-fields-of c = search needs
+
+-- src/fields.rt:52:15
+part-fields-of-start : tie.Need-part-fields-of-start
+part-fields-of-start c = search needs
+
+-- src/fields.rt:52:15
+part-fields-of-end : tie.Need-part-fields-of-end
+part-fields-of-end c = search needs
+
+-- src/fields.rt:52:5
+fields-of-requires : tie.Need-fields-of-requires
+fields-of-requires c κs = search needs
+
+-- src/fields.rt:46:1
+returns : tie.Need-returns
+unfolding lineAt
+returns c =
+    let a = c .before .before .before .args in
+    let e : 29 * a .k + 29 - 29 * a .k ≡ 29 = omega arith in
+    subst (λ (n : ℕ). Shows (decoded (take n (drop (29 * a .k) (now (a .lines))))) (c .fields-of .result)) e (c .fields-of .ensures)
+
+pub fields-at-spec : {M : Type 1} → statement M
+fields-at-spec =
+    tie.close
+    (tie.spec
+    mul-from
+    add-to
+    sub-fields-of
+    part-fields-of-start
+    part-fields-of-end
+    fields-of-requires
+    returns)

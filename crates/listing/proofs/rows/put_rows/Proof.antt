@@ -1,0 +1,78 @@
+use mathlib.Core.Path.{ap}
+use Prim.Native.Nat.{ℕ}
+use denote.Ref.{now}
+use mathlib.Core.Path.{_≡_, refl, _∙_}
+use Prim.Native.Nat.{_≤_, _-_, zero-le}
+use native.Mathlib.Omega.{arith}
+use lib.ListN.{length}
+use borrow.Author.Needs.{needs}
+use Rattle.report.specs.LineAt.{linesFrom}
+use Rattle.listing.specs.Text.{rows}
+use Rattle.listing.specs.Page.{Page, puts}
+use Rattle.listing.proofs.RowLaws.{rows-next, rows-end}
+use Rattle.listing.proofs.rows.put_rows.Statement.{statement}
+use Rattle.listing.proofs.rows.put_rows.Tie as tie
+use Rattle.listing.proofs.rows.put_rows.Reads as reads
+use Rattle.listing.proofs.rows.put_rows.Lts as lts
+use Rattle.listing.proofs.fields.fields_at.Reads as fields-at-reads
+use Rattle.listing.proofs.rows.put_row.Reads as put-row-reads
+
+abbrev Inv-loop : tie.InvT-loop
+Inv-loop out₀ at lines n next₀ k₀ out next k = (k ≤ n) × (length out ≡ length out₀) × (_≡_ {A = Page} (puts (record { count = next; out = out }) (rows (linesFrom lines k (n - k)))) (puts (record { count = at; out = out₀ }) (rows (linesFrom lines 0 n))))
+
+abbrev μ-loop : tie.MeasureT-loop
+μ-loop out₀ at lines n next₀ k₀ out next k = n - k
+
+-- src/rows.rt:76:5
+loop-holds : tie.Need-loop-holds Inv-loop μ-loop
+loop-holds c =
+    let a = c .before .before .args in
+    (zero-le, refl, ap (λ (j : ℕ). puts (record { count = a .at; out = now (a .out) }) (rows (linesFrom (now (a .lines)) 0 j))) (let e : a .n - 0 ≡ a .n = omega arith in e))
+
+-- src/rows.rt:77:13
+fields-at-requires : tie.Need-fields-at-requires Inv-loop μ-loop
+fields-at-requires c κs = search needs
+
+-- src/rows.rt:78:9
+put-row-requires : tie.Need-put-row-requires Inv-loop μ-loop
+put-row-requires c κs = search needs
+
+-- src/rows.rt:79:9
+add-k : tie.Need-add-k Inv-loop μ-loop
+add-k c = search needs
+
+-- src/rows.rt:76:5
+loop-less : tie.Need-loop-less Inv-loop μ-loop
+loop-less c = search needs
+
+-- src/rows.rt:76:5
+loop-again : tie.Need-loop-again Inv-loop μ-loop
+loop-again c =
+    let l = c .before .before .before .before .before .before .loop in (
+      search needs,
+      search needs,
+      rows-next _ (l .k) _ _ _ _ (c .before .before .before .before .before .loop-test .taken) (c .before .before .before .before .fields-at .ensures) (c .before .before .put-row .ensures) ∙ l .inv .2,
+    )
+
+-- src/rows.rt:70:1
+same-length : tie.Need-same-length Inv-loop μ-loop
+same-length c = search needs
+
+-- src/rows.rt:70:1
+returns : tie.Need-returns Inv-loop μ-loop
+returns c = rows-end _ _ _ _ (c .loop-test .left) ∙ c .before .loop .inv .2
+
+pub put-rows-spec : {M : Type 1} → statement M
+put-rows-spec =
+    tie.close
+    (tie.spec
+    Inv-loop
+    μ-loop
+    loop-holds
+    fields-at-requires
+    put-row-requires
+    add-k
+    loop-less
+    loop-again
+    same-length
+    returns)

@@ -1,0 +1,5 @@
+pub mod Text
+pub mod Page
+pub mod Listing
+pub mod Shown
+pub mod Rooms

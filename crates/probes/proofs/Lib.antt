@@ -1,0 +1,3 @@
+pub mod Entering
+pub mod VariableLaws
+pub mod CodeLaws

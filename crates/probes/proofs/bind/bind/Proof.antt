@@ -1,0 +1,66 @@
+-- `bind::bind`: the plan and the case that were read are the accepted ones, or their refusal stands. Assumes nothing.
+use mathlib.Core.Path.{subst}
+use borrow.Author.Needs.{needs}
+use Rattle.records.specs.Fields.{Verdict}
+use Rattle.probes.specs.Entries.{Given}
+use Rattle.probes.specs.Binds.{Binds}
+use Rattle.probes.proofs.Entering.{plan-sound, plan-refused, case-refused, case-sound, both-read}
+use Rattle.probes.proofs.bind.bind.Statement.{statement}
+use Rattle.probes.proofs.bind.bind.Tie as tie
+
+decode-plan-requires : tie.Need-decode-plan-requires
+decode-plan-requires c κs = search needs
+
+nothing-requires : tie.Need-nothing-requires
+nothing-requires c κs = search needs
+
+returns : tie.Need-returns
+returns c =
+    let d = c .before .before .before in
+    let s = d .before .before .before in
+    subst (λ (v : Verdict Given). Binds v (c .nothing .result))
+    (plan-refused (s .args .plan .now) (s .args .case .now) (d .decode-plan .result) (d .decode-plan .ensures) (c .before .if1 .taken)) (c .nothing .ensures)
+
+read-case-requires : tie.Need-read-case-requires
+read-case-requires c κs = search needs
+
+nothing-requires-2 : tie.Need-nothing-requires-2
+nothing-requires-2 c κs = search needs
+
+returns-2 : tie.Need-returns-2
+returns-2 c =
+    let q = c .before .before .before in
+    let f = q .before .before in
+    let d = f .before .before in
+    let s = d .before .before .before in
+    subst (λ (v : Verdict Given). Binds v (c .nothing2 .result))
+    (case-refused (s .args .plan .now) (s .args .case .now) (d .decode-plan .result) (d .decode-plan .ensures) (f .if1 .left) (q .read-case .result) (q .read-case .ensures)
+    (c .before .if2 .taken))
+    (c .nothing2 .ensures)
+
+bound-over-requires : tie.Need-bound-over-requires
+bound-over-requires c κs =
+    let g = c .before in
+    let q = g .before .before in
+    let f = q .before .before in
+    let d = f .before .before in
+    let s = d .before .before .before in (
+      plan-sound (s .args .plan .now) (d .decode-plan .result) (d .decode-plan .ensures) (f .if1 .left),
+      case-sound (s .args .plan .now) (s .args .case .now) (d .decode-plan .result) (d .decode-plan .ensures) (f .if1 .left) (q .read-case .result) (q .read-case .ensures) (g .if2 .left),
+    )
+
+returns-3 : tie.Need-returns-3
+returns-3 c =
+    let g = c .before .before in
+    let q = g .before .before in
+    let f = q .before .before in
+    let d = f .before .before in
+    let s = d .before .before .before in
+    subst (λ (v : Verdict Given). Binds v (c .bound-over .result))
+    (both-read (s .args .plan .now) (s .args .case .now) (d .decode-plan .result) (d .decode-plan .ensures) (f .if1 .left) (q .read-case .result) (q .read-case .ensures) (g .if2 .left))
+    (c .bound-over .ensures)
+
+pub bind-spec : {M : Type 1} → statement M
+bind-spec =
+    tie.close
+    (tie.spec decode-plan-requires nothing-requires returns read-case-requires nothing-requires-2 returns-2 bound-over-requires returns-3)

@@ -1,0 +1,26 @@
+-- `lukhveri_binding`: the number of the binding at the fact. Assumes nothing.
+use mathlib.Core.Path.{ap, _∙_}
+use Prim.Native.Nat.{ℕ}
+use borrow.Author.Needs.{needs}
+use Rattle.expressions.specs.Codes.{boundOf}
+use Rattle.probes.specs.Entries.{codeOf, bound}
+use Rattle.probes.proofs.lukhveri_binding.Statement.{statement}
+use Rattle.probes.proofs.lukhveri_binding.Tie as tie
+
+bind-requires : tie.Need-bind-requires
+bind-requires c κs = search needs
+
+entry-requires : tie.Need-entry-requires
+entry-requires c κs = search needs
+
+told-code-requires : tie.Need-told-code-requires
+told-code-requires c κs = search needs
+
+returns : tie.Need-returns
+unfolding bound
+returns c =
+    let e = c .before in
+    c .told-code .ensures ∙ ap (λ (n : ℕ). codeOf (boundOf n)) (e .entry .ensures) ∙ ap codeOf (e .before .before .bind .ensures .codes _)
+
+pub lukhveri-binding-spec : {M : Type 1} → statement M
+lukhveri-binding-spec = tie.close (tie.spec bind-requires entry-requires told-code-requires returns)

@@ -1,0 +1,21 @@
+-- `lukhveri_variable`: the number at that place. Assumes nothing.
+use mathlib.Core.Path.{ap, _∙_}
+use mathlib.Core.List.{List}
+use Prim.Native.Nat.{ℕ}
+use lib.ListN.{getD}
+use borrow.Author.Needs.{needs}
+use Rattle.probes.proofs.lukhveri_variable.Statement.{statement}
+use Rattle.probes.proofs.lukhveri_variable.Tie as tie
+
+list-variables-requires : tie.Need-list-variables-requires
+list-variables-requires c κs = search needs
+
+variable-at-requires : tie.Need-variable-at-requires
+variable-at-requires c κs = search needs
+
+returns : tie.Need-returns
+returns c =
+    c .variable-at .ensures ∙ ap (λ (l : List ℕ). getD l (c .before .before .before .before .args .place) 0) (c .before .list-variables .ensures .1)
+
+pub lukhveri-variable-spec : {M : Type 1} → statement M
+lukhveri-variable-spec = tie.close (tie.spec list-variables-requires variable-at-requires returns)

@@ -1,0 +1,15 @@
+-- `lukhveri_variables`: how many the list has. Assumes nothing.
+use mathlib.Core.Path.{ap, _∙_}
+use lib.ListN.{length}
+use borrow.Author.Needs.{needs}
+use Rattle.probes.proofs.lukhveri_variables.Statement.{statement}
+use Rattle.probes.proofs.lukhveri_variables.Tie as tie
+
+list-variables-requires : tie.Need-list-variables-requires
+list-variables-requires c κs = search needs
+
+returns : tie.Need-returns
+returns c = c .list-variables .ensures .0 ∙ ap length (c .list-variables .ensures .1)
+
+pub lukhveri-variables-spec : {M : Type 1} → statement M
+lukhveri-variables-spec = tie.close (tie.spec list-variables-requires returns)

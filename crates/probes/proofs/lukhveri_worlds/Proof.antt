@@ -1,0 +1,17 @@
+-- `lukhveri_worlds`: count and maximum. Assumes nothing.
+use mathlib.Core.Path.{ap}
+use borrow.Author.Needs.{needs}
+use Rattle.expressions.specs.declared.variables.Count.{Count}
+use Rattle.probes.specs.Entries.{counted}
+use Rattle.probes.proofs.lukhveri_worlds.Statement.{statement}
+use Rattle.probes.proofs.lukhveri_worlds.Tie as tie
+
+bind-requires : tie.Need-bind-requires
+bind-requires c κs = search needs
+
+returns : tie.Need-returns
+unfolding counted
+returns c = let e = c .before .bind .ensures .count in (ap (λ (k : Count). k .count) e, ap (λ (k : Count). k .maximum) e)
+
+pub lukhveri-worlds-spec : {M : Type 1} → statement M
+lukhveri-worlds-spec = tie.close (tie.spec bind-requires returns)

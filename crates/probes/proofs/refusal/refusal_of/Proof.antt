@@ -1,0 +1,39 @@
+-- `refusal::refusal_of`: by the two cases of the answer. Assumes nothing.
+use mathlib.Core.Path.{sym, _∙_}
+use mathlib.Core.Bool.{true, false}
+use borrow.Author.Needs.{needs}
+use Rattle.records.specs.Decoded.{caseOf}
+use Rattle.probes.proofs.Entering.{passed-over, first-refused}
+use Rattle.probes.proofs.refusal.refusal_of.Statement.{statement}
+use Rattle.probes.proofs.refusal.refusal_of.Tie as tie
+
+bindable-requires : tie.Need-bindable-requires
+bindable-requires c κs = search needs
+
+enum-told : tie.Need-enum-told
+enum-told c = search needs
+
+enum-known-found : tie.Need-enum-known-found
+enum-known-found c = search needs
+
+returns : tie.Need-returns
+returns c =
+    let k = c .before .before .before in
+    let a = k .before .args in
+    passed-over (caseOf (a .case)) (a .over) true (c .if1 .taken) (sym (k .bindable .ensures) ∙ c .before .enum-told .given .1)
+
+returns-2 : tie.Need-returns-2
+returns-2 c =
+    let k = c .before .before .before in
+    let a = k .before .args in
+    passed-over (caseOf (a .case)) (a .over) false (c .if1 .left) (sym (k .bindable .ensures) ∙ c .before .enum-told .given .1)
+
+returns-3 : tie.Need-returns-3
+returns-3 c =
+    let k = c .before .before .before in
+    let a = k .before .args in
+    first-refused (caseOf (a .case)) (a .over) _ _ (sym (k .bindable .ensures) ∙ c .before .found .given .1)
+
+pub refusal-of-spec : {M : Type 1} → statement M
+refusal-of-spec =
+    tie.close (tie.spec bindable-requires enum-told enum-known-found returns returns-2 returns-3)

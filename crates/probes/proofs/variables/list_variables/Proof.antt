@@ -1,0 +1,27 @@
+-- `variables::list_variables`: of what is bound, the variables. Assumes nothing.
+use mathlib.Core.Path.{_∙_}
+use borrow.Author.Needs.{needs}
+use Rattle.expressions.specs.Slots.{slotsOf}
+use Rattle.probes.specs.Entries.{given, variables}
+use Rattle.probes.proofs.VariableLaws.{variables-in}
+use Rattle.probes.proofs.variables.list_variables.Statement.{statement}
+use Rattle.probes.proofs.variables.list_variables.Tie as tie
+
+bind-requires : tie.Need-bind-requires
+bind-requires c κs = search needs
+
+among-requires : tie.Need-among-requires
+among-requires c κs = search needs
+
+returns : tie.Need-returns
+unfolding variables
+returns c =
+    let b = c .before .before .before in
+    let a = b .before .before .before .args in (
+      c .among .ensures .0,
+      c .among .ensures .1
+          ∙ variables-in (given (a .plan .now) (a .case .now)) (b .bind .result .codes) (slotsOf (b .bind .result .order)) (b .bind .ensures .codes) (b .bind .ensures .order),
+    )
+
+pub list-variables-spec : {M : Type 1} → statement M
+list-variables-spec = tie.close (tie.spec bind-requires among-requires returns)

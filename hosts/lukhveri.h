@@ -1,0 +1,135 @@
+/* Lukhveri for C hosts: finds the units of a roster, the people whom a fee scheme counts together.
+ *
+ * A plan holds the scheme's rules, a case holds what is known of a roster's people; the answer is one line for each person. Link
+ * target/staticlib/libexports.a, which `rt staticlib exports` makes (x86-64, C calling convention; of the C library it needs memcpy and memset).
+ *
+ * Rules of use
+ *   - Any bytes may be given as plan and case, and buffers of any length and content may be lent: nothing is asked of the caller but that each
+ *     pointer reaches as many bytes as its length says. A pointer is never null, also where its length is 0.
+ *   - Buffers that are written (lines, events, told) overlap no other buffer of the call. Plan and case are only read.
+ *   - Nothing is allocated and nothing is kept between calls: no state, no pointer. Calls from several threads are independent.
+ *   - Each function returns the refusal's number, 0 for none, which is also told[LUKHVERI_TOLD_REFUSAL]; all seven numbers of told are written.
+ *   - After a refusal both buffers are zero from end to end. After a result the lines and events stand at their start, one after another, and
+ *     every byte past them is zero.
+ *   - A call works on the stack of its thread, which has to be large enough: see LUKHVERI_STACK.
+ *
+ * Integers in files, lines and events are little-endian. A mask has bit p for person (or fact, citation, piece of evidence) p, bit 0 lowest.
+ */
+#ifndef LUKHVERI_H
+#define LUKHVERI_H
+
+#include <stddef.h>
+#include <stdint.h>
+
+#ifdef __cplusplus
+extern "C" {
+#endif
+
+/* Persons are numbered from 0 to 63. */
+#define LUKHVERI_PERSONS 64
+
+/* A line: 29 bytes, at these offsets. */
+#define LUKHVERI_LINE 29
+#define LUKHVERI_LINE_PERSON 0
+#define LUKHVERI_LINE_KIND 1
+#define LUKHVERI_LINE_ROLE 2
+#define LUKHVERI_LINE_BLOCK 3           /* 8 bytes: everyone counted together, the person too; 0 where it is open */
+#define LUKHVERI_LINE_OPEN_FACTS 11     /* 8 bytes: open facts whose influence holds the person */
+#define LUKHVERI_LINE_OPEN_DECISIONS 19 /* 2 bytes: unresolved decisions that could, by cut, then edge */
+#define LUKHVERI_LINE_CITATIONS 21      /* 8 bytes: citations of the rules that made the block */
+
+/* Kinds of lines. */
+#define LUKHVERI_DECIDED 0
+#define LUKHVERI_MEMBERSHIP_OPEN 1
+#define LUKHVERI_ROLE_OPEN 2
+#define LUKHVERI_OVERLAP 3
+#define LUKHVERI_DISCRETION 4
+#define LUKHVERI_ROSTER_INCOMPLETE 5
+#define LUKHVERI_INCONSISTENT 6
+
+/* Roles. */
+#define LUKHVERI_NO_ROLE 0
+#define LUKHVERI_MEMBER 1
+#define LUKHVERI_EXCLUDED 2
+#define LUKHVERI_BARRED 3
+
+/* An event: 12 bytes, at these offsets. Unused bytes are 0; events rise in byte order, none twice. */
+#define LUKHVERI_EVENT 12
+#define LUKHVERI_EVENT_KIND 0
+#define LUKHVERI_EVENT_A 1
+#define LUKHVERI_EVENT_B 2
+#define LUKHVERI_EVENT_C 3
+#define LUKHVERI_EVENT_MASK 4 /* 8 bytes */
+
+/* Kinds of events, with a, b, c and mask. */
+#define LUKHVERI_EVENT_FROZEN 1     /* edge, left, right */
+#define LUKHVERI_EVENT_APPLIED 2    /* cut, actor or 0, -; evidence */
+#define LUKHVERI_EVENT_BLOCKED 3    /* cut, edge, actor or 0; evidence */
+#define LUKHVERI_EVENT_OVERLAP 4    /* lowest cut of the earlier set, of the later */
+#define LUKHVERI_EVENT_ATTACHED 5   /* attachment, anchor, actor; evidence */
+#define LUKHVERI_EVENT_BARRED 6     /* bar */
+#define LUKHVERI_EVENT_EXCLUDED 7   /* status, person */
+#define LUKHVERI_EVENT_DEFAULT 8    /* fact, actor, value; the citation's number, no mask */
+#define LUKHVERI_EVENT_DISCRETION 9 /* -, -, -; persons */
+
+/* Refusals. The record is counted from 0 over the file that is at fault: the plan's if lukhveri_check refuses it, else the case's. It is 0
+ * for 8 and 9 and from 11 on. */
+#define LUKHVERI_MALFORMED 1            /* cut short, unknown kind or bit, falling kind, value or count outside its range */
+#define LUKHVERI_PAST_LIMIT 2           /* more records of a kind, or more unresolved decisions, than there may be */
+#define LUKHVERI_INCOMPLETE 3           /* required field missing, wrong set of bits, no heading at the start */
+#define LUKHVERI_NAMES_NOTHING 4        /* a number that names nothing, or nothing of the right sort */
+#define LUKHVERI_OUT_OF_ORDER 5         /* facts out of order, an edge decided twice; a family or a fact told twice */
+#define LUKHVERI_UNDECIDED 6            /* a cut and a Combination edge crossing without a decision; the cut's record */
+#define LUKHVERI_ELECTIONS_DIFFER 7     /* elections on one fact that differ; the later record */
+#define LUKHVERI_SEGMENT_INCOMPLETE 8   /* the segment is not complete */
+#define LUKHVERI_HEADING 9              /* relation differs, scope, segment or roster empty, a rule's person off the roster */
+#define LUKHVERI_UNKNOWN_AND_OBSERVED 10 /* explicit unknown beside observations */
+#define LUKHVERI_TOO_MANY_WORLDS 11     /* more than the heading allows: told has count and maximum, both 2^64 - 1 from 2^64 on */
+#define LUKHVERI_LINES_DO_NOT_FIT 12    /* 29 bytes for each person of the roster */
+#define LUKHVERI_EVENTS_DO_NOT_FIT 13   /* 12 bytes for each event */
+#define LUKHVERI_NO_SUCH_WORLD 14       /* also where the roster is not complete or no world is admissible */
+
+/* The seven numbers that a call tells. Count and maximum are those of refusal 11, else 0; the last three are 0 after a refusal. */
+#define LUKHVERI_TOLD 7
+#define LUKHVERI_TOLD_REFUSAL 0
+#define LUKHVERI_TOLD_RECORD 1
+#define LUKHVERI_TOLD_COUNT 2
+#define LUKHVERI_TOLD_MAXIMUM 3
+#define LUKHVERI_TOLD_LINES 4
+#define LUKHVERI_TOLD_EVENTS 5
+#define LUKHVERI_TOLD_WORLDS 6 /* admissible worlds of the case */
+
+/* The most worlds that a case's heading can allow. */
+#define LUKHVERI_WORLDS 4096
+
+/* Bytes that hold the lines of every roster: 12 never comes. */
+#define LUKHVERI_LINES_LENGTH (LUKHVERI_PERSONS * LUKHVERI_LINE)
+
+/* Bytes for 4,096 events, as many as the lister takes. Most cases need far fewer, but not all fit: 13 tells it. */
+#define LUKHVERI_EVENTS_LENGTH (4096 * LUKHVERI_EVENT)
+
+/* Bytes that hold the events of every case: 13 never comes. Kinds 1 to 8 have at most 64 + 16 + 1,024 + 120 + 32 + 32 + 32 + 48 = 1,368
+ * events. A component that is left to discretion has three persons or more, so kind 9 has at most 21 events for each world. With a
+ * base-chain citation in the plan's heading there are none of kind 9. */
+#define LUKHVERI_MOST_EVENTS_LENGTH ((1368 + 21 * LUKHVERI_WORLDS) * LUKHVERI_EVENT)
+
+/* Bytes of stack that are enough for a call, whatever is lent: measured 137,384. The time grows with the square of the events of kind 9:
+ * 4,095 take 0.06 s, 16,380 take 1 s. */
+#define LUKHVERI_STACK (256 * 1024)
+
+/* Checks a plan. */
+uint8_t lukhveri_check(const uint8_t *plan, size_t plan_length, uint64_t told[LUKHVERI_TOLD]);
+
+/* Answers a case. */
+uint8_t lukhveri_answer(const uint8_t *plan, size_t plan_length, const uint8_t *case_bytes, size_t case_length, uint8_t *lines,
+                        size_t lines_length, uint8_t *events, size_t events_length, uint64_t told[LUKHVERI_TOLD]);
+
+/* Shows the world of that number, counted from 0 among the admissible ones. Its lines have open fields of zero; events are its own. */
+uint8_t lukhveri_show(const uint8_t *plan, size_t plan_length, const uint8_t *case_bytes, size_t case_length, uint64_t world,
+                      uint8_t *lines, size_t lines_length, uint8_t *events, size_t events_length, uint64_t told[LUKHVERI_TOLD]);
+
+#ifdef __cplusplus
+}
+#endif
+
+#endif

@@ -1,0 +1,100 @@
+//! Finds the units of a roster: the people whom a fee scheme counts together, and nobody else.
+//!
+//! A plan holds the scheme's rules, a case holds what is known of a roster's people; the answer is one line for each person. Three operations
+//! do the work, each by the proved code of the static library: [`check`] a plan, [`answer`] a case, [`show`] one world. They take plain bytes,
+//! whatever these are, and give typed lines and events or a [`Refusal`] that says in words what is wrong and where. Nothing panics.
+//!
+//! [`PlanBuilder`] and [`CaseBuilder`] make the bytes from named things. They turn away what the operations would refuse, when it is
+//! given, so that a rule editor can say it at once; facts may come in any order. [`Plan::read`] reads a plan's bytes back.
+//!
+//! ```
+//! use lukhveri::{Cut, CaseBuilder, Decision, Edge, LineKind, Persons, PlanBuilder};
+//!
+//! # fn main() -> Result<(), Box<dyn std::error::Error>> {
+//! // Persons 0 and 1 belong together if they live together. Person 1 is counted alone if he asks for it.
+//! let mut plan = PlanBuilder::new(1);
+//! let live_together = plan.relation(4, &[0, 1])?;
+//! let asked = plan.boolean()?;
+//! let together = plan.holds(live_together)?;
+//! let apart = plan.holds(asked)?;
+//! let edge = plan.edge(Edge::combination(0, 1, together, 5))?;
+//! plan.cut(Cut::new(Persons::of(&[1])?, apart, 6).deciding(edge, Decision::Overrides))?;
+//! let plan = plan.finish()?;
+//! lukhveri::check(plan.bytes())?;
+//!
+//! // They do live together. Nobody knows yet whether person 1 asked.
+//! let mut case = CaseBuilder::new(&plan, 1, 1, Persons::of(&[0, 1, 2])?)?;
+//! case.roster_complete(0)?;
+//! case.family(lukhveri::Family::new(4))?;
+//! case.relate(live_together, true, 3)?;
+//! let answer = lukhveri::answer(plan.bytes(), case.finish()?.bytes())?;
+//! assert_eq!(answer.worlds, 2);
+//! let line = answer.line(0).ok_or("person 0 is on the roster")?;
+//! assert_eq!(line.kind, LineKind::Membership);
+//! assert_eq!(line.open_facts().next(), plan.fact_number(asked));
+//!
+//! // He did not: one block of two, and person 2 alone.
+//! case.observe(asked, false, 7)?;
+//! let answer = lukhveri::answer(plan.bytes(), case.finish()?.bytes())?;
+//! assert_eq!(answer.units(), [Persons::of(&[0, 1])?, Persons::of(&[2])?]);
+//! let line = answer.line(0).ok_or("person 0 is on the roster")?;
+//! assert_eq!(line.others(), Persons::of(&[1])?);
+//! assert_eq!(line.citations().collect::<Vec<_>>(), [5]);
+//!
+//! // What is refused says where.
+//! let refusal = lukhveri::check(&plan.bytes()[..4]).expect_err("a plan that is cut short");
+//! assert_eq!((refusal.number(), refusal.record()), (1, 1));
+//! # Ok(())
+//! # }
+//! ```
+//!
+//! [`answer_into`] and [`show_into`] work in buffers that the caller lends and allocate nothing; [`Buffers`] keeps such buffers for many calls.
+//! Calls from several threads are independent. A call takes less than 256 KB of its thread's stack ([`STACK`]).
+
+#![deny(unsafe_code)]
+#![cfg_attr(
+    not(test),
+    deny(clippy::unwrap_used, clippy::expect_used, clippy::panic, clippy::indexing_slicing)
+)]
+
+mod build_error;
+mod case;
+mod case_builder;
+mod case_records;
+mod diagnosis;
+mod event;
+#[allow(unsafe_code)]
+mod foreign;
+mod handles;
+pub mod limits;
+mod line;
+mod operations;
+mod persons;
+mod plan;
+mod plan_builder;
+mod plan_reader;
+mod ranges;
+mod read;
+mod records;
+mod refusal;
+mod write;
+
+pub use build_error::BuildError;
+pub use case::Case;
+pub use case_builder::{CaseBuilder, Family};
+pub use case_records::{BooleanRecord, CaseRecords, FamilyRecord, RelationRecord};
+pub use event::{EVENT, Event, Evidence};
+pub use handles::{BooleanId, CutId, EdgeId, FactId, NodeId, RelationId};
+pub use line::{LINE, Line, LineKind, Role};
+pub use operations::{
+    Answer, Answered, Buffers, EVENTS_LENGTH, LINES_LENGTH, MOST_EVENTS_LENGTH, STACK, answer,
+    answer_into, check, show, show_into,
+};
+pub use persons::{Numbers, Persons};
+pub use plan::Plan;
+pub use plan_builder::PlanBuilder;
+pub use read::File;
+pub use records::{
+    Attachment, Bar, Cut, Decision, Edge, Election, Fact, Node, Policy, Records, Status,
+};
+pub use refusal::{Place, Reason, Refusal};

@@ -1,0 +1,293 @@
+//! Refusals in words.
+
+use std::error::Error;
+use std::fmt;
+
+use crate::foreign::Told;
+use crate::read::{File, Reader};
+
+/// What an operation turns away.
+#[derive(Clone, Copy, Debug, PartialEq, Eq, Hash)]
+pub enum Reason {
+    /// 1: cut short, unknown kind or bit, falling kind, value or count outside its range.
+    Malformed,
+    /// 2: past a limit.
+    PastLimit,
+    /// 3: a required field missing, a wrong set of bits, or no heading at the start.
+    Incomplete,
+    /// 4: a number that names nothing, or nothing of the right sort.
+    NamesNothing,
+    /// 5: facts out of order, or something told twice.
+    OutOfOrder,
+    /// 6: a cut and a Combination edge crossing without a decision.
+    Undecided,
+    /// 7: elections on one fact that differ.
+    ElectionsDiffer,
+    /// 8: the segment is not complete.
+    SegmentIncomplete,
+    /// 9: heading and plan do not fit together.
+    Heading,
+    /// 10: explicit unknown beside observations.
+    UnknownAndObserved,
+    /// 11: more worlds than the heading allows; both numbers are 2^64 − 1 from 2^64 worlds on.
+    TooManyWorlds { count: u64, most: u64 },
+    /// 12: the lines do not fit the lent buffer.
+    LinesDoNotFit,
+    /// 13: there are more events than the lent buffer holds.
+    EventsDoNotFit,
+    /// 14: there is no world of that number.
+    NoSuchWorld,
+    /// A number that no operation answers today.
+    Other(u8),
+}
+
+impl Reason {
+    fn of(number: u8, count: u64, most: u64) -> Reason {
+        match number {
+            1 => Reason::Malformed,
+            2 => Reason::PastLimit,
+            3 => Reason::Incomplete,
+            4 => Reason::NamesNothing,
+            5 => Reason::OutOfOrder,
+            6 => Reason::Undecided,
+            7 => Reason::ElectionsDiffer,
+            8 => Reason::SegmentIncomplete,
+            9 => Reason::Heading,
+            10 => Reason::UnknownAndObserved,
+            11 => Reason::TooManyWorlds { count, most },
+            12 => Reason::LinesDoNotFit,
+            13 => Reason::EventsDoNotFit,
+            14 => Reason::NoSuchWorld,
+            _ => Reason::Other(number),
+        }
+    }
+
+    pub fn number(self) -> u8 {
+        match self {
+            Reason::Malformed => 1,
+            Reason::PastLimit => 2,
+            Reason::Incomplete => 3,
+            Reason::NamesNothing => 4,
+            Reason::OutOfOrder => 5,
+            Reason::Undecided => 6,
+            Reason::ElectionsDiffer => 7,
+            Reason::SegmentIncomplete => 8,
+            Reason::Heading => 9,
+            Reason::UnknownAndObserved => 10,
+            Reason::TooManyWorlds { .. } => 11,
+            Reason::LinesDoNotFit => 12,
+            Reason::EventsDoNotFit => 13,
+            Reason::NoSuchWorld => 14,
+            Reason::Other(number) => number,
+        }
+    }
+
+    /// Whether the refusal names a record.
+    fn has_record(self) -> bool {
+        (1..=10).contains(&self.number())
+    }
+}
+
+/// The record at fault.
+#[derive(Clone, Copy, Debug, PartialEq, Eq, Hash)]
+pub struct Place {
+    pub file: File,
+    /// Counted from 0 over the file.
+    pub record: u64,
+    /// The byte of the file at which it begins.
+    pub offset: usize,
+    /// Its kind byte; none at the end of the file.
+    pub kind: Option<u8>,
+}
+
+impl Place {
+    fn find(file: File, bytes: &[u8], record: u64) -> Place {
+        let mut reader = Reader::new(file, bytes);
+        let before = usize::try_from(record).unwrap_or(usize::MAX);
+        reader.by_ref().take(before).for_each(drop);
+        let rest = reader.rest();
+        let offset = bytes.len() - rest.len();
+        Place { file, record, offset, kind: rest.first().copied() }
+    }
+
+    fn kind_name(&self) -> Option<&'static str> {
+        self.file.kind_name(self.kind?)
+    }
+}
+
+impl fmt::Display for Place {
+    fn fmt(&self, to: &mut fmt::Formatter) -> fmt::Result {
+        let file = match self.file {
+            File::Plan => "plan",
+            File::Case => "case",
+        };
+        write!(to, "{file}, record {}", self.record)?;
+        match (self.kind_name(), self.kind) {
+            (Some(name), _) => write!(to, " ({name}, at byte {})", self.offset),
+            (None, Some(kind)) => {
+                write!(to, " (of kind {kind}, which is unknown, at byte {})", self.offset)
+            }
+            (None, None) => write!(to, " (where the file ends, at byte {})", self.offset),
+        }
+    }
+}
+
+/// Why an operation gave no result: the buffers that were lent to it are then all zero.
+#[derive(Clone, Copy, Debug, PartialEq, Eq, Hash)]
+pub struct Refusal {
+    pub reason: Reason,
+    /// Where, for the refusals that name a record: 1 to 10.
+    pub place: Option<Place>,
+}
+
+impl Refusal {
+    /// The refusal that was told, if one was. Refusals 1 to 7 of an accepted plan name a record of the case.
+    pub(crate) fn told(told: &Told, plan: &[u8], case: Option<&[u8]>) -> Option<Refusal> {
+        let [number, record, count, maximum, ..] = *told;
+        if number == 0 {
+            return None;
+        }
+        let reason = Reason::of(u8::try_from(number).unwrap_or(u8::MAX), count, maximum);
+        let place = || match case.filter(|_| crate::foreign::check(plan)[0] == 0) {
+            Some(case) => Place::find(File::Case, case, record),
+            None => Place::find(File::Plan, plan, record),
+        };
+        Some(Refusal { reason, place: reason.has_record().then(place) })
+    }
+
+    /// Its number in document 01.
+    pub fn number(&self) -> u8 {
+        self.reason.number()
+    }
+
+    /// The record that it names, 0 where it names none.
+    pub fn record(&self) -> u64 {
+        self.place.map_or(0, |place| place.record)
+    }
+
+    /// File and kind of the record at fault.
+    fn at(&self) -> Option<(File, u8)> {
+        self.place.and_then(|place| Some((place.file, place.kind?)))
+    }
+
+    fn words(&self) -> &'static str {
+        match self.reason {
+            Reason::Malformed => {
+                "it is cut short, or its kind or a bit is unknown, or its kind is lower than the one before, or a value or a count is outside its range"
+            }
+            Reason::PastLimit => match self.at() {
+                Some((_, 1)) => "a second heading",
+                Some((File::Plan, 5)) => "more than 16 cuts, or more than 16 unresolved decisions",
+                _ => "more records of this kind than there may be",
+            },
+            Reason::Incomplete => match self.place {
+                Some(Place { record: 0, .. }) => {
+                    "the first record must be a heading with all its required fields"
+                }
+                _ => "a required field is missing, or its fields may not stand together",
+            },
+            Reason::NamesNothing => self.names_nothing(),
+            Reason::OutOfOrder => self.out_of_order(),
+            Reason::Undecided => {
+                "a Combination edge crosses the cut, and the cut does not decide it"
+            }
+            Reason::ElectionsDiffer => "its election differs from an earlier one on the same fact",
+            Reason::SegmentIncomplete => "the segment is not complete",
+            Reason::Heading => {
+                "the relation is not the plan's, or scope, segment or roster is empty, or a rule of the plan names someone off the roster"
+            }
+            Reason::UnknownAndObserved => "the fact is explicitly unknown and observed, too",
+            Reason::TooManyWorlds { .. } => "more worlds than the heading allows",
+            Reason::LinesDoNotFit => "the lines do not fit the buffer: 29 bytes for each person",
+            Reason::EventsDoNotFit => "there are more events than the buffer holds, 12 bytes each",
+            Reason::NoSuchWorld => "there is no admissible world of that number",
+            Reason::Other(_) => "a refusal that this program does not know",
+        }
+    }
+
+    fn names_nothing(&self) -> &'static str {
+        match self.at() {
+            Some((File::Plan, 3)) => {
+                "it names a fact that is not there, or a node that is not lower"
+            }
+            Some((File::Plan, 5)) => {
+                "it names a node, an edge or a cut that is not there, or its election no boolean fact"
+            }
+            Some((File::Plan, 6)) => {
+                "it names a node that is not there, or its election no boolean fact"
+            }
+            Some((File::Plan, _)) => "it names a node that is not there",
+            Some((File::Case, 3)) => "it names no boolean fact of the plan",
+            Some((File::Case, 4)) => {
+                "it names no relation fact of the plan, or one whose family has no record in the case"
+            }
+            Some((File::Case, 5)) => "it names no node of the plan",
+            _ => "a number that names nothing",
+        }
+    }
+
+    fn out_of_order(&self) -> &'static str {
+        match self.at() {
+            Some((File::Plan, 2)) => {
+                "facts are out of order: booleans come first, then rising family and persons, none twice"
+            }
+            Some((File::Plan, 5)) => "it decides an edge twice",
+            Some((File::Case, 2)) => "an earlier record has the same family",
+            Some((File::Case, 3)) => "an earlier record has the same fact",
+            _ => "something stands twice or out of order",
+        }
+    }
+
+    /// What would mend it.
+    pub fn remedy(&self) -> &'static str {
+        match self.reason {
+            Reason::Malformed => "write this record anew, or make the file again from its source",
+            Reason::PastLimit => "leave out the records that are too many, or split the rules",
+            Reason::Incomplete => {
+                "give the record all required fields, and none that exclude each other"
+            }
+            Reason::NamesNothing => "add what is named, or name something that is there",
+            Reason::OutOfOrder => match self.at() {
+                Some((File::Plan, 2)) => "sort the facts and write each once",
+                Some((File::Plan, _)) => "keep one of the two decisions",
+                _ => "join the two records into one",
+            },
+            Reason::Undecided => {
+                "add a decision on that edge to the cut: blocked, overrides or unresolved"
+            }
+            Reason::ElectionsDiffer => {
+                "make fact, actor, policy and citation of both elections equal"
+            }
+            Reason::SegmentIncomplete => {
+                "wait until the segment is complete, then say so in the heading"
+            }
+            Reason::Heading => "correct the heading, or use the plan that belongs to this roster",
+            Reason::UnknownAndObserved => "keep the explicit unknown or the observations, not both",
+            Reason::TooManyWorlds { .. } => {
+                "find out some of the open facts, settle decisions, or allow more worlds (4,096 at most)"
+            }
+            Reason::LinesDoNotFit | Reason::EventsDoNotFit => "lend a longer buffer",
+            Reason::NoSuchWorld => "ask for a world below the count that the answer gives",
+            Reason::Other(_) => "use a program that fits the library",
+        }
+    }
+}
+
+impl fmt::Display for Refusal {
+    fn fmt(&self, to: &mut fmt::Formatter) -> fmt::Result {
+        write!(to, "refused {}: ", self.number())?;
+        if let Some(place) = self.place {
+            write!(to, "{place}: ")?;
+        }
+        write!(to, "{}", self.words())?;
+        match self.reason {
+            Reason::TooManyWorlds { count: u64::MAX, most: u64::MAX } => {
+                write!(to, ": 2^64 or more")
+            }
+            Reason::TooManyWorlds { count, most } => write!(to, ": {count}, allowed {most}"),
+            _ => Ok(()),
+        }
+    }
+}
+
+impl Error for Refusal {}

@@ -1,0 +1,134 @@
+//! No input makes anything panic: random bytes, and good bytes that were damaged.
+
+use lukhveri::{
+    Buffers, CaseBuilder, Cut, Decision, Edge, Event, Family, Line, Persons, Plan, PlanBuilder,
+    Reason, Refusal, answer_into, check, show_into,
+};
+
+/// A small source of numbers.
+struct Random(u64);
+
+impl Random {
+    fn next(&mut self) -> u64 {
+        self.0 ^= self.0 << 13;
+        self.0 ^= self.0 >> 7;
+        self.0 ^= self.0 << 17;
+        self.0
+    }
+
+    fn below(&mut self, bound: usize) -> usize {
+        (self.next() % bound.max(1) as u64) as usize
+    }
+
+    /// Mostly small ones, which kinds, bits and counts are.
+    fn byte(&mut self) -> u8 {
+        let bound = [4, 9, 65, 256][self.below(4)];
+        self.below(bound) as u8
+    }
+
+    fn bytes(&mut self, most: usize) -> Vec<u8> {
+        (0..self.below(most)).map(|_| self.byte()).collect()
+    }
+
+    fn damage(&mut self, bytes: &mut Vec<u8>) {
+        for _ in 0..=self.below(3) {
+            let at = self.below(bytes.len() + 1);
+            match self.below(3) {
+                0 => bytes.truncate(at),
+                1 => bytes.insert(at, self.byte()),
+                _ => bytes.splice(at..(at + 1).min(bytes.len()), [self.byte()]).for_each(drop),
+            }
+        }
+    }
+}
+
+fn good() -> (Vec<u8>, Vec<u8>) {
+    let mut plan = PlanBuilder::new(1);
+    let wish = plan.boolean().expect("a fact");
+    let lives = plan.relation(4, &[0, 1]).expect("a fact");
+    let wished = plan.holds(wish).expect("a node");
+    let live = plan.holds(lives).expect("a node");
+    let edge = plan.edge(Edge::combination(0, 1, live, 5)).expect("an edge");
+    let alone = Persons::of(&[0]).expect("persons");
+    plan.cut(Cut::new(alone, wished, 6).deciding(edge, Decision::Unresolved)).expect("a cut");
+    let plan = plan.finish().expect("a plan");
+    let roster = Persons::of(&[0, 1, 2]).expect("persons");
+    let mut case = CaseBuilder::new(&plan, 1, 1, roster).expect("a case");
+    case.roster_complete(0).expect("evidence");
+    case.family(Family::new(4)).expect("a family");
+    case.relate(lives, true, 3).expect("a relation");
+    case.constrain(live).expect("a constraint");
+    (plan.bytes().to_vec(), case.finish().expect("a case").bytes().to_vec())
+}
+
+/// Everything that can be said of a refusal.
+fn say(refusal: &Refusal, plan: &[u8], case: &[u8]) {
+    assert!((1..=14).contains(&refusal.number()));
+    let exact = [Reason::Malformed, Reason::NamesNothing, Reason::Undecided, Reason::Heading];
+    let finding = refusal.finding(plan, case);
+    assert!(finding.is_some() || !exact.contains(&refusal.reason), "{refusal} {plan:?} {case:?}");
+    assert!(!format!("{refusal} {} {}", refusal.remedy(), refusal.record()).is_empty());
+}
+
+fn all_calls(plan: &[u8], case: &[u8], random: &mut Random, buffers: &mut Buffers) {
+    let checked = check(plan);
+    let read = Plan::read(plan);
+    assert_eq!(checked.is_ok(), read.is_ok());
+    if let Ok(read) = read {
+        assert!(read.decisions().len() <= 16);
+        assert!((0..=255).filter_map(|number| read.fact(number)).count() <= 64);
+    }
+    checked.err().iter().for_each(|refusal| say(refusal, plan, case));
+    buffers
+        .answer(plan, case)
+        .map(|answered| drop(answered.to_answer()))
+        .unwrap_or_else(|no| say(&no, plan, case));
+    let (mut lines, mut events) = (random.bytes(200), random.bytes(200));
+    if let Err(refusal) = answer_into(plan, case, &mut lines, &mut events) {
+        say(&refusal, plan, case);
+    }
+    if let Err(refusal) = show_into(plan, case, random.next() % 3, &mut lines, &mut events) {
+        say(&refusal, plan, case);
+    }
+}
+
+#[test]
+fn random_bytes() {
+    let (random, buffers) = (&mut Random(1), &mut Buffers::new());
+    for _ in 0..50_000 {
+        let (plan, case) = (random.bytes(80), random.bytes(60));
+        all_calls(&plan, &case, random, buffers);
+    }
+}
+
+#[test]
+fn damaged_bytes() {
+    let (random, buffers) = (&mut Random(2), &mut Buffers::new());
+    let (plan, case) = good();
+    for number in 0..50_000 {
+        let (mut plan, mut case) = (plan.clone(), case.clone());
+        if number % 3 != 0 {
+            random.damage(&mut plan);
+        }
+        if number % 3 != 1 {
+            random.damage(&mut case);
+        }
+        all_calls(&plan, &case, random, buffers);
+    }
+}
+
+#[test]
+fn lines_and_events_of_any_bytes() {
+    let random = &mut Random(3);
+    for _ in 0..100_000 {
+        let line: [u8; 29] = std::array::from_fn(|_| random.byte());
+        if let Some(read) = Line::of(&line) {
+            assert_eq!(read.bytes(), line);
+            assert!(read.others().count() <= read.block.count());
+        }
+        let event: [u8; 12] = std::array::from_fn(|_| random.byte());
+        if let Some(read) = Event::of(&event) {
+            assert!(format!("{read:?}").len() > 3);
+        }
+    }
+}

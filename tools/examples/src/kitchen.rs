@@ -1,0 +1,96 @@
+//! A school kitchen: a cut, a Combination edge across it, and nobody has decided which of the two wins.
+
+use lukhveri::{
+    BuildError, Case, CaseBuilder, Cut, Decision, Edge, Election, Family, Persons, Plan,
+    PlanBuilder, Policy,
+};
+
+use crate::example::{Example, Words};
+
+const CHILD: u8 = 1;
+const POT: u8 = 2;
+const PENSION: u8 = 3;
+const SILENCE: u8 = 4;
+const GROWN: u8 = 5;
+const LIST: u8 = 1;
+const NANAS_FORM: u8 = 5;
+const PENSIONER: u8 = 1;
+const GROWN_CHILD: u8 = 2;
+const ONE_POT: u8 = 1;
+
+fn plan() -> Result<Plan, BuildError> {
+    let mut plan = PlanBuilder::new(1);
+    let nana_asked = plan.boolean()?;
+    let zura_asked = plan.boolean()?;
+    let pot = plan.relation(ONE_POT, &[0, 2])?;
+    let always = plan.literal(true)?;
+    let nana = plan.holds(nana_asked)?;
+    let zura = plan.holds(zura_asked)?;
+    let pot = plan.holds(pot)?;
+    plan.edge(Edge::base(0, 1, always, CHILD))?;
+    let nana_eats = plan.edge(Edge::combination(0, 2, pot, POT))?;
+    let zura_eats = plan.edge(Edge::combination(3, 4, always, POT))?;
+    let asks =
+        |fact, actor| Election { fact, actor, policy: Policy::DefaultFalse, citation: SILENCE };
+    let apart = Cut::new(Persons::of(&[2])?, nana, PENSION).elected(asks(nana_asked, PENSIONER));
+    plan.cut(apart.deciding(nana_eats, Decision::Unresolved))?;
+    let apart = Cut::new(Persons::of(&[4])?, zura, GROWN).elected(asks(zura_asked, GROWN_CHILD));
+    plan.cut(apart.deciding(zura_eats, Decision::Overrides))?;
+    plan.finish()
+}
+
+fn case(plan: &Plan) -> Result<Case, BuildError> {
+    let mut case = CaseBuilder::new(plan, 1, 1, Persons::of(&[0, 1, 2, 3, 4])?)?;
+    case.roster_complete(LIST)?;
+    case.most_worlds(64)?;
+    case.family(Family::new(ONE_POT))?;
+    if let Some(nana_asked) = plan.boolean(0) {
+        case.observe(nana_asked, true, NANAS_FORM)?;
+    }
+    case.finish()
+}
+
+pub fn example() -> Result<Example, BuildError> {
+    let plan = plan()?;
+    let case = case(&plan)?;
+    Ok(Example {
+        folder: "kitchen",
+        title: "A grandmother who asks to be counted apart",
+        story: "Luka eats at school; Eka is his mother. Grandmother Nana has asked to be counted apart, as people over 65 may. Whether she eats \
+            from one pot with Eka is not known. If she does, two paragraphs pull at her, and the rule book does not say which wins: the \
+            decision is left unresolved. Uncle Irakli and his grown son Zura eat together; Zura could ask to be counted apart, and has not.",
+        outcome: "There are four worlds. Eka, Luka and Nana have to wait: their lines name fact 2 and decision 0 as open. If Nana does not \
+            eat with Eka, nobody needs to take the decision. Irakli and Zura are a unit today: Zura's silence means no (event 8).",
+        plan,
+        case,
+        words: Words {
+            persons: &[(0, "Eka"), (1, "Luka"), (2, "Nana"), (3, "Irakli"), (4, "Zura")],
+            facts: &[
+                (0, "Nana asked to be counted apart"),
+                (1, "Zura asked to be counted apart"),
+                (2, "Eka and Nana eat from one pot"),
+            ],
+            citations: &[
+                (
+                    CHILD,
+                    "§1 child and parent",
+                    "Parent and child at one address are counted together.",
+                ),
+                (POT, "§2 one pot", "Those who eat from one pot are counted together."),
+                (PENSION, "§3 over 65", "Whoever is over 65 may ask to be counted apart."),
+                (SILENCE, "§4 silence", "Nobody is counted apart who has not asked for it."),
+                (GROWN, "§5 grown children", "A grown child may ask to be counted apart."),
+            ],
+            evidence: &[
+                (LIST, "the school's list, signed as complete"),
+                (NANAS_FORM, "Nana's form, signed"),
+            ],
+            rules: &[
+                ("edge", 1, "the one pot"),
+                ("cut", 0, "Nana's wish"),
+                ("decision", 0, "does Nana's wish outweigh the one pot?"),
+            ],
+            actors: &[(PENSIONER, "a person over 65"), (GROWN_CHILD, "a grown child")],
+        },
+    })
+}

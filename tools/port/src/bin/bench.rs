@@ -1,0 +1,245 @@
+//! bench: time of an answer by the Rust, by the model and by the proved code, for classes of inputs. `bench --help` has more.
+
+use std::hint::black_box;
+use std::process::exit;
+
+use inputs::classes::{ALL, Class};
+use judge::compare::{Covered, MODEL, Voice, compare_voices};
+use judge::measured::{Measured, inputs_of};
+use judge::rust::Oracle;
+use model::Citing;
+use model::report::{EVENT, LINE};
+use port::Port;
+
+const HELP: &str = "tools/bench [--class NAME] [--rounds N]
+
+Times answers of the Rust, of the model of document 01 and of the proved code (the port) on the same inputs, class by class. Before a class is
+timed, all three answer its inputs and every byte is compared. In each round the three take turns; of an input the best round counts, of a class
+the median of its inputs. Times are those that the program had a processor. The Rust is timed from bytes to bytes, its plan compiled anew, and
+in fewer rounds where it takes long.
+
+Columns: inputs of the class; nanoseconds of an answer by each; how often the port's time goes into the Rust's, and the model's into the port's;
+worlds of all inputs over the port's time for them; nanoseconds of the port's check of a plan, and how often the model's goes into that.
+
+  --class NAME   this class alone; may be given again
+  --rounds N     so many rounds, 15 if not given
+
+Compare ratios within one run, not times between runs.
+";
+
+/// Nanoseconds that a sample takes at least; short calls are timed together.
+const SAMPLE: f64 = 1e6;
+
+/// Nanoseconds after which an engine is not timed on an input again.
+const MOST: f64 = 3e9;
+
+/// The lister's buffers.
+const LENT: (usize, usize) = (64 * LINE, 4096 * EVENT);
+
+struct Settings {
+    classes: Vec<&'static Class>,
+    rounds: u32,
+}
+
+fn fail(what: &str) -> ! {
+    eprintln!("bench: {what}; bench --help says more");
+    exit(2)
+}
+
+fn class_of(name: &str) -> &'static Class {
+    let names: Vec<&str> = ALL.iter().map(|class| class.name).collect();
+    let found = ALL.iter().find(|class| class.name == name);
+    found.unwrap_or_else(|| fail(&format!("no class {name}; there are {}", names.join(", "))))
+}
+
+fn settings() -> Settings {
+    let mut words = std::env::args().skip(1);
+    let (mut classes, mut rounds) = (Vec::new(), 15);
+    while let Some(word) = words.next() {
+        match word.as_str() {
+            "--help" => {
+                println!("{HELP}\nClasses:");
+                ALL.iter()
+                    .for_each(|class| println!("  {:<10} {}", class.name, class.what));
+                exit(0)
+            }
+            "--class" => classes.push(class_of(&words.next().unwrap_or_default())),
+            "--rounds" => match words.next().and_then(|number| number.parse().ok()) {
+                Some(number) if number > 0 => rounds = number,
+                _ => fail("--rounds needs a number from 1 on"),
+            },
+            _ => fail(&format!("unknown word {word}")),
+        }
+    }
+    if classes.is_empty() {
+        classes = ALL.iter().collect();
+    }
+    Settings { classes, rounds }
+}
+
+unsafe extern "C" {
+    /// Seconds and nanoseconds of a clock of Linux.
+    fn clock_gettime(clock: i32, time: &mut [i64; 2]) -> i32;
+}
+
+/// Nanoseconds that this thread had the processor: other programs on a shared machine do not count.
+fn now() -> f64 {
+    const THREAD: i32 = 3;
+    let mut time = [0; 2];
+    // It writes the two numbers and keeps nothing.
+    let done = unsafe { clock_gettime(THREAD, &mut time) };
+    assert_eq!(done, 0, "Linux has a clock for each thread");
+    time[0] as f64 * 1e9 + time[1] as f64
+}
+
+/// The best time of a call so far.
+struct Clock {
+    best: f64,
+    spent: f64,
+}
+
+impl Clock {
+    fn new() -> Clock {
+        Clock {
+            best: f64::INFINITY,
+            spent: 0.0,
+        }
+    }
+
+    fn sample(&mut self, mut call: impl FnMut()) {
+        if self.spent > MOST {
+            return;
+        }
+        let calls = (SAMPLE / self.best).clamp(1.0, 10_000.0) as u32;
+        let start = now();
+        (0..calls).for_each(|_| call());
+        let taken = now() - start;
+        self.spent += taken;
+        self.best = self.best.min(taken / f64::from(calls));
+    }
+}
+
+/// An input, the buffers lent for it, and its times.
+struct Timed {
+    plan: Vec<u8>,
+    case: Vec<u8>,
+    worlds: u64,
+    lines: Vec<u8>,
+    events: Vec<u8>,
+    rust: Clock,
+    model: Clock,
+    port: Clock,
+    model_check: Clock,
+    port_check: Clock,
+}
+
+impl Timed {
+    /// Once all agree on it.
+    fn new(class: &Class, input: Measured) -> Timed {
+        let Measured { plan, case, known } = input;
+        compare(class, &plan, &case);
+        let fitting = (LINE * known.lines as usize, EVENT * known.events as usize);
+        let (lines, events) = if class.fit { fitting } else { LENT };
+        Timed {
+            plan,
+            case,
+            worlds: known.worlds,
+            lines: vec![0; lines],
+            events: vec![0; events],
+            rust: Clock::new(),
+            model: Clock::new(),
+            port: Clock::new(),
+            model_check: Clock::new(),
+            port_check: Clock::new(),
+        }
+    }
+
+    fn round(&mut self) {
+        let (plan, case) = (black_box(&self.plan[..]), black_box(&self.case[..]));
+        let (lines, events) = (&mut self.lines[..], &mut self.events[..]);
+        self.rust.sample(|| {
+            let oracle = Oracle::new(plan, case);
+            let _ = black_box(oracle.and_then(|oracle| oracle.answer()));
+        });
+        self.model.sample(|| {
+            black_box(model::answer(plan, case, lines, events));
+        });
+        self.port.sample(|| {
+            black_box(port::answer(plan, case, lines, events));
+        });
+        self.model_check.sample(|| {
+            black_box(model::check(plan));
+        });
+        self.port_check.sample(|| {
+            black_box(port::check(plan));
+        });
+    }
+}
+
+/// The Rust, the model under either citing rule and the port: the same bytes.
+fn compare(class: &Class, plan: &[u8], case: &[u8]) {
+    let [by_person, by_block] = MODEL;
+    let port = Voice {
+        name: "port",
+        citing: Citing::ByBlock,
+        side: &Port,
+    };
+    let voices = [by_person, by_block, port];
+    if let Err(difference) = compare_voices(&voices, plan, case, &mut Covered::default()) {
+        eprintln!("bench: an input of {} differs: {difference:#?}", class.name);
+        exit(1);
+    }
+}
+
+fn median(inputs: &[Timed], time: fn(&Timed) -> f64) -> f64 {
+    let mut all: Vec<f64> = inputs.iter().map(time).collect();
+    all.sort_by(f64::total_cmp);
+    all[all.len() / 2]
+}
+
+/// One row of the table.
+fn row(class: &Class, rounds: u32) {
+    let mut inputs: Vec<Timed> = inputs_of(class)
+        .map(|input| Timed::new(class, input))
+        .collect();
+    for _ in 0..rounds {
+        inputs.iter_mut().for_each(Timed::round);
+    }
+    let rust = median(&inputs, |input| input.rust.best);
+    let model = median(&inputs, |input| input.model.best);
+    let port = median(&inputs, |input| input.port.best);
+    let model_check = median(&inputs, |input| input.model_check.best);
+    let port_check = median(&inputs, |input| input.port_check.best);
+    let worlds: u64 = inputs.iter().map(|input| input.worlds).sum();
+    let seconds: f64 = inputs.iter().map(|input| input.port.best / 1e9).sum();
+    println!(
+        "{:<10} {:>6} {rust:>13.0} {model:>11.0} {port:>11.0} {:>9.1} {:>10.2} {:>10.0} {port_check:>9.0} {:>10.2}",
+        class.name,
+        inputs.len(),
+        rust / port,
+        port / model,
+        worlds as f64 / seconds,
+        port_check / model_check,
+    );
+}
+
+fn main() {
+    let settings = settings();
+    println!("median nanoseconds, best of {} rounds", settings.rounds);
+    println!(
+        "{:<10} {:>6} {:>13} {:>11} {:>11} {:>9} {:>10} {:>10} {:>9} {:>10}",
+        "class",
+        "inputs",
+        "Rust",
+        "model",
+        "port",
+        "Rust/port",
+        "port/model",
+        "worlds/s",
+        "check",
+        "over model"
+    );
+    for class in settings.classes {
+        row(class, settings.rounds);
+    }
+}
