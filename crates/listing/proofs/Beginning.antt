@@ -1,8 +1,8 @@
 -- A file that is longer than the room for it is read as its beginning is: the same plan or case, the same refusal and record.
-use mathlib.Core.Path.{_≡_, refl, sym, ap, ap₂, _∙_}
+use mathlib.Core.Path.{_≡_, refl, ap, ap₂, _∙_}
 use mathlib.Core.Bool.{Bool, true, false, _&&_, _||_, not, cond}
-use mathlib.Core.List.{List, [], _∷_}
-use Prim.Native.Nat.{ℕ, zero, suc, _+_, _-_, _≤_, _<_, zero-le}
+use mathlib.Core.List.{List, _∷_}
+use Prim.Native.Nat.{ℕ, _+_, _-_, _≤_, zero-le}
 use native.Mathlib.Omega.{arith}
 use lib.ListN.{length, getD, take}
 use lib.Dec.{eqb, ltb}
@@ -11,11 +11,11 @@ use Rattle.records.specs.Sets.{allOf}
 use Rattle.records.specs.Fields.{Raw, formatOf, Verdict, fine, refused, onFine, firstFault}
 use Rattle.records.specs.Plan.{Plan, planFormats, planCounts, addToPlan, judgePlan, emptyPlan, planRecords, planFaults, checkedPlan, unresolved, factsRise, decidedOnce, headingFrom, factFrom, nodeOf, edgeOf, cutOf, attachmentOf, barFrom, statusFrom}
 use Rattle.records.specs.Case.{Case, caseFormats, caseCounts, addToCase, judgeCase, emptyCase, caseRecords, readCase, caseHeading, booleansAt, caseNamingFaults, headingOf, familyBy, booleanBy, relationBy, constraintBy}
-use Rattle.records.proofs.ReadLaws.{OnFine, fine-then, of-fine, to-fine}
+use Rattle.records.proofs.ReadLaws.{fine-then, of-fine, to-fine}
 use Rattle.report.specs.Operations.{Opened, orStop, unlessFault, headingFault, bound, opened, answer, answerOpened}
 use Rattle.listing.specs.Rooms.{recordsMost, planRoom, caseRoom}
 use Rattle.listing.specs.Listing.{listing, outcomeText}
-use Rattle.listing.proofs.Counted.{bump, joined-length, tally, tally-bump}
+use Rattle.listing.proofs.Counted.{bump, joined-length, tally-bump}
 use Rattle.listing.proofs.Prefix.{Sized, prefix, short}
 
 cons : {x y : ℕ} {xs ys : List ℕ} → x ≡ y → xs ≡ ys → _≡_ {A = List ℕ} (x ∷ xs) (y ∷ ys)
@@ -53,7 +53,7 @@ pub plan-beginning : (s : List ℕ) (n : ℕ) → planRoom ≤ n → checkedPlan
 unfolding checkedPlan planRecords planRoom
 plan-beginning s n h = ap (λ (v : Verdict Plan). onFine v planFaults) (prefix planFormats addToPlan judgePlan planCounts plan-grows plan-limits s n emptyPlan h plan-start)
 
--- "a plan of more bytes than its records can have is refused"
+-- a longer plan is refused
 pub plan-short : (s : List ℕ) (P : Plan) → checkedPlan s ≡ fine P → length s ≤ recordsMost planFormats
 unfolding checkedPlan planRecords
 plan-short s P e =
@@ -94,6 +94,7 @@ case-beginning P s n h =
     ap (λ (v : Verdict Case). onFine v (λ C. firstFault (booleansAt C) (caseNamingFaults P C) (fine C)))
     (prefix caseFormats addToCase judgeCase caseCounts case-grows case-limits s n emptyCase h case-start)
 
+-- and so is a longer case
 pub case-short : (P : Plan) (s : List ℕ) (C : Case) → readCase P s ≡ fine C → length s ≤ recordsMost caseFormats
 unfolding readCase caseRecords
 case-short P s C e =
@@ -125,3 +126,7 @@ listing-beginning plan case m n l e h k = ap outcomeText (answer-beginning plan 
 pub rooms : (planRoom ≡ 15846) × (caseRoom ≡ 3829)
 unfolding planRoom caseRoom planFormats caseFormats
 rooms = (refl, refl)
+
+pub most-bytes : (recordsMost planFormats ≡ 15684) × (recordsMost caseFormats ≡ 3792)
+unfolding planFormats caseFormats
+most-bytes = (refl, refl)

@@ -6,7 +6,7 @@ use Prim.Native.Nat.{ℕ, zero, suc, _+_, _≤_, _<_, min}
 use native.Mathlib.Omega.{arith}
 use native.Mathlib.Nat.{min-eq-left, min-comm, zero-min, min-zero, suc-min-suc}
 use lib.ListN.{length, getD, take, drop, set, length-append, length-take, length-set}
-use lib.Seq.{drop-cons, set-append-seam, take-nil, drop-nil, take-all, drop-length}
+use lib.Seq.{drop-cons, set-append-seam, drop-nil, take-all}
 use lib.Dec.{ltb}
 use borrow.Author.Tests.{lt-ltb, le-ltb}
 use Rattle.listing.specs.Page.{Page, putByte, puts, begun}

@@ -4,10 +4,10 @@ use mathlib.Core.Bool.{Bool, true, false, cond}
 use mathlib.Core.List.{List, [], _∷_, _++_}
 use Prim.Native.Nat.{ℕ, zero, suc, _+_, _-_, _/_, _%_, _≤_, _<_}
 use native.Mathlib.Omega.{arith}
-use Rattle.records.specs.Sets.{members, membersFrom, when}
+use Rattle.records.specs.Sets.{membersFrom, when}
 use Rattle.listing.specs.Text.{decimal, further, persons}
 use Rattle.listing.specs.Page.{Page, putByte, puts}
-use Rattle.listing.proofs.PageLaws.{puts-append, puts-first, page}
+use Rattle.listing.proofs.PageLaws.{puts-append, puts-first}
 
 -- what is still to be put of these persons, `first` if none of the block is put yet
 abbrev pub pending : Bool → List ℕ → List ℕ

@@ -13,7 +13,7 @@ use Rattle.records.specs.Fields.{Read, got, bad, Format, noFormat, Raw, formatO
 use Rattle.records.proofs.ReadLaws.{OnFine}
 use Rattle.records.proofs.SetLaws.{lt-or-le}
 use mathlib.Core.Logic.{_⊎_, ⊎-elim}
-use Rattle.listing.specs.Rooms.{recordMost, recordsMost, longestRecord, roomFor}
+use Rattle.listing.specs.Rooms.{recordsMost, longestRecord, roomFor}
 use Rattle.listing.proofs.Alike.{Ended, Alike, Begins, Reaches, record-alike, longest-some}
 use Rattle.listing.proofs.Counted.{bump, used, Within, within-most, bump-length, bump-used, bump-within}
 

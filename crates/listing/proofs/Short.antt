@@ -12,7 +12,7 @@ use Rattle.records.specs.Sets.{members, membersFrom, when, anyOf}
 use Rattle.report.specs.Line.{Line, lineLength}
 use Rattle.report.specs.LineAt.{lineAt, decoded, linesFrom}
 use Rattle.report.specs.Units.{joinUnit, unitsWith, units}
-use Rattle.listing.specs.Text.{decimal, further, persons, cell, row, rowOf, rows, header, lastRow, table, refusedRow}
+use Rattle.listing.specs.Text.{decimal, further, persons, cell, row, rowOf, rows, lastRow, table, refusedRow}
 use Rattle.listing.specs.Listing.{longest}
 use Rattle.listing.proofs.DecimalLaws.{digits-more, two-digits, three-digits}
 

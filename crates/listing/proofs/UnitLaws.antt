@@ -2,16 +2,15 @@
 use mathlib.Core.Path.{_≡_, refl, sym, ap, ap₂, _∙_}
 use mathlib.Core.Bool.{Bool, true, false, _||_, cond}
 use mathlib.Core.List.{List, [], _∷_, _++_}
-use Prim.Native.Nat.{ℕ, zero, suc, _+_, _-_, _*_, _≤_, _<_}
+use Prim.Native.Nat.{ℕ, zero, suc, _+_, _-_, _≤_, _<_}
 use native.Mathlib.Omega.{arith}
 use lib.ListN.{length, getD, take, drop, set}
 use lib.Seq.{drop-cons, getD-take, length-take-le, take-suc-set}
 use lib.Dec.{eqb}
 use borrow.Author.Tests.{eq-eqb, ne-eqb}
 use Rattle.records.specs.Sets.{anyOf}
-use Rattle.report.specs.Line.{Line}
 use Rattle.report.specs.LineAt.{lineAt, decoded, linesFrom}
-use Rattle.report.specs.Units.{joinUnit, unitsWith, units}
+use Rattle.report.specs.Units.{joinUnit, unitsWith}
 
 -- ---- a search through the first n
 

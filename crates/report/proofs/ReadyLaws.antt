@@ -22,6 +22,7 @@ use Rattle.records.proofs.BelowLaws.{flag-set}
 use Rattle.expressions.specs.Rules.{factCount, edgeCount, cutCount, attachmentCount, barCount, statusCount, edge, rulePersons}
 use Rattle.expressions.specs.Nodes.{on}
 use Rattle.expressions.specs.Influence.{Frame, openDecisions, decisionCount}
+use Rattle.expressions.specs.declared.bindings.Bound as code-bound
 use Rattle.expressions.specs.Bindings.{Bound, bindings, bindingOf, frameOf, tookDefault, tookDefaultBy}
 use Rattle.expressions.specs.Variables as variables
 use Rattle.expressions.specs.Variables.{Values, slots, worlds, booleanCount, isVariable, factInfluence, decisionInfluence, influence}
@@ -54,7 +55,7 @@ use Rattle.report.specs.Operations.{relationOf, mismatched, headingFault
 use Rattle.report.specs.Line.{lineLength}
 use Rattle.report.specs.Run.{Started, Runs}
 use Rattle.report.specs.Finish.{Ends, Placed, ended, Finishes}
-use Rattle.report.specs.Ready.{Concerns, IsReady, readyOutcome, AnswersReady}
+use Rattle.report.specs.Ready.{Defaulted, Concerns, IsReady, readyOutcome, AnswersReady}
 use Rattle.report.specs.declared.Answer.{Answer}
 use Rattle.report.specs.declared.finish.Opens.{Opens}
 use Rattle.report.specs.declared.nine.Listing.{Listing}
@@ -206,7 +207,10 @@ module _ (P : paper.Plan) (I : variables.Influence) (k : Common) (t : List (List
 
 -- ---- a case that is ready
 
-module _ {plan : Plan} {c : Case} {reach : Reach} {codes lines events : List ℕ} (h : IsReady plan c reach codes lines events) where
+module _ {plan : Plan} {c : Case} {reach : Reach} {given : code-bound.Bound} {lines events : List ℕ} (h : IsReady plan c reach given lines events) where
+  abbrev codes : List ℕ
+  codes = given .codes
+
   abbrev P : paper.Plan
   P = planOf plan
 
@@ -327,7 +331,10 @@ module _ {plan : Plan} {c : Case} {reach : Reach} {codes lines events : List ℕ
     pub all-counted : r .worlds ≡ length (allWorlds P C bs)
     all-counted = over-case .1 ∙ sym (ap length worlds-are ∙ length-map (worlds F bs) made)
 
-    module _ {i : Influence} (sets : setsOf i ≡ influences P C bs .facts ++ influences P C bs .decisions) {o : Opens} (concerns : Concerns plan c reach i (w .all) o) where
+    module _ {i : Influence} (sets : setsOf i ≡ influences P C bs .facts ++ influences P C bs .decisions) {o : Opens} (concerns : Concerns i (reach .count) (given .defaults) (w .all) o) where
+      default-at : w .all ≡ true → Defaulted plan c (reach .bound) (o .defaults)
+      default-at e = subst (Defaulted plan c (reach .bound)) (sym (concerns .yes e .3)) (h .defaulted)
+
       -- the sets are within their array, those of the facts first
       fits : (b : Bool) → w .all ≡ b → (o .facts ≤ o .influence .count) × (o .facts ≤ 64) × (o .influence .count ≤ o .facts + 16) × (o .influence .count ≤ 80)
       fits true e =
@@ -345,7 +352,7 @@ module _ {plan : Plan} {c : Case} {reach : Reach} {codes lines events : List ℕ
           (omega arith, omega arith, omega arith, omega arith)
 
       defaulted : (b : Bool) → w .all ≡ b → Below (o .defaults) (factCount P)
-      defaulted true e f k = ltb-true f (factCount P) (and-parts (ltb f (factCount P)) _ (sym (concerns .yes e .3 .at f) ∙ k) .0)
+      defaulted true e f k = ltb-true f (factCount P) (and-parts (ltb f (factCount P)) _ (sym (default-at e .at f) ∙ k) .0)
       defaulted false e f k = absurd (false≢true (sym (ap (λ (x : ℕ). has x f) (concerns .no e .2) ∙ has-none f) ∙ k))
 
       pub ends : Ends plan c o r noted₁ sums₁ lines events₁
@@ -388,7 +395,7 @@ module _ {plan : Plan} {c : Case} {reach : Reach} {codes lines events : List ℕ
 
         defaults-are : w .all ≡ true → (f : ℕ) → f < factCount P → has (o .defaults) f ≡ tookDefault P C f
         defaults-are e f l =
-            concerns .yes e .3 .at f ∙ ap₂ (λ (b : Bool) (x : ℕ). b && tookDefaultBy P C x f) (lt-ltb f (factCount P) l) (over .bound) ∙ default-by P C f
+            default-at e .at f ∙ ap₂ (λ (b : Bool) (x : ℕ). b && tookDefaultBy P C x f) (lt-ltb f (factCount P) l) (over .bound) ∙ default-by P C f
 
         opens-are : w .all ≡ true → (take (o .facts) (setsOf (o .influence)) ≡ influences P C bs .facts) × (drop (o .facts) (setsOf (o .influence)) ≡ influences P C bs .decisions)
             × ((f : ℕ) → f < factCount P → has (o .defaults) f ≡ tookDefault P C f)

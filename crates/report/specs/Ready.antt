@@ -17,6 +17,7 @@ use Rattle.expressions.specs.Variables.{worldCount}
 use Rattle.expressions.specs.Coded.{frameBy}
 use Rattle.expressions.specs.Reached.{Reached}
 use Rattle.expressions.specs.Influences.{setsOf}
+use Rattle.expressions.specs.declared.bindings.Bound.{Bound}
 use Rattle.expressions.specs.declared.reach.Reach.{Reach}
 use Rattle.expressions.specs.declared.influence.Influence.{Influence}
 use Rattle.report.specs.Operations.{Outcome, allWorlds, answerReady, showReady}
@@ -27,19 +28,20 @@ use Rattle.report.specs.declared.run.Wanted.{Wanted}
 pub record Defaulted (plan : Plan) (c : Case) (bound r : ℕ) : Type 0 where
   pub at : (f : ℕ) → has r f ≡ (ltb f (factCount (planOf plan)) && tookDefaultBy (planOf plan) (caseOf c) bound f)
 
-pub record Concerns (plan : Plan) (c : Case) (reach : Reach) (influence : Influence) (all : Bool) (r : Opens) : Type 0 where
-  pub yes : all ≡ true → (setsOf (r .influence) ≡ setsOf influence) × (r .influence .count ≡ length (setsOf influence)) × (r .facts ≡ reach .count)
-      × Defaulted plan c (reach .bound) (r .defaults)
+-- for an answer the sets of influence, the number of facts and the defaults that were taken; nothing for a shown world
+pub record Concerns (influence : Influence) (facts defaults : ℕ) (all : Bool) (r : Opens) : Type 0 where
+  pub yes : all ≡ true → (setsOf (r .influence) ≡ setsOf influence) × (r .influence .count ≡ length (setsOf influence)) × (r .facts ≡ facts) × (r .defaults ≡ defaults)
   pub no : all ≡ false → (r .facts ≡ 0) × (r .influence .count ≡ 0) × (r .defaults ≡ 0)
 
 -- all that has passed before the worlds are looked at; the lent buffers are all zero
-pub record IsReady (plan : Plan) (c : Case) (reach : Reach) (codes lines events : List ℕ) : Type 0 where
+pub record IsReady (plan : Plan) (c : Case) (reach : Reach) (b : Bound) (lines events : List ℕ) : Type 0 where
   pub sound : Sound (planOf plan)
   pub sane : SoundCase (planOf plan) (caseOf c)
   pub peopled : c .heading .roster ≡ 0 → ⊥
   pub named : subset (rulePersons (planOf plan)) (c .heading .roster) ≡ true
   pub reached : Reached (frameBy plan (c .heading .roster) (c .constraints)) reach
-  pub bound : (f : ℕ) → boundOf (getD codes f 0) ≡ bindingAt (bindings (planOf plan) (caseOf c)) f
+  pub bound : (f : ℕ) → boundOf (getD (b .codes) f 0) ≡ bindingAt (bindings (planOf plan) (caseOf c)) f
+  pub defaulted : Defaulted plan c (reach .bound) (b .defaults)
   pub few : worldCount (planOf plan) (bindings (planOf plan) (caseOf c)) ≤ 4096
   pub room : 29 * size (c .heading .roster) ≤ length lines
   pub zeros : lines ≡ replicate (length lines) 0

@@ -7,7 +7,7 @@ use crate::heading::rule_persons;
 use crate::ready::answer_ready;
 use crate::run::Wanted;
 use expressions::bindable::bindable;
-use expressions::bindings::bindings;
+use expressions::bindings::bind_facts;
 use expressions::reach::reach_of;
 use expressions::variables::count_worlds;
 use records::case::Case;
@@ -57,7 +57,8 @@ fn operate_case(
         };
     }
     let undecided = reach.undecided;
-    let codes = bindings(plan, case, reach.bound);
+    let bound = bind_facts(plan, case, reach.bound);
+    let codes = bound.codes;
     let count = count_worlds(codes, reach.count, undecided.count, heading.most_worlds);
     if count.refused {
         return Answer::TooManyWorlds {
@@ -65,7 +66,7 @@ fn operate_case(
             most: count.maximum,
         };
     }
-    answer_ready(plan, case, reach, codes, wanted, lines, events)
+    answer_ready(plan, case, reach, bound, wanted, lines, events)
 }
 
 // Bytes to plan and case, with their refusals.

@@ -6,7 +6,7 @@ use crate::free::free_variables;
 use crate::run::Wanted;
 use crate::run::run;
 use crate::run::started;
-use expressions::bindings::defaults_taken;
+use expressions::bindings::Bound;
 use expressions::counts::upto;
 use expressions::influence::Influence;
 use expressions::influence::influence_of;
@@ -21,8 +21,8 @@ use worlds::make::lay_tables;
 ghost use Rattle.report.specs.Ready.{Concerns, IsReady, AnswersReady};
 
 // What open persons' lines and events 8 need; nothing of it for a shown world.
-fn concerns(plan: Plan, case: Case, reach: Reach, influence: Influence, all: bool) -> Opens
-    ensures { λ r. ⌜ Concerns plan case reach influence all r ⌝ }
+fn concerns(influence: Influence, facts: usize, defaults: u64, all: bool) -> Opens
+    ensures { λ r. ⌜ Concerns influence facts defaults all r ⌝ }
 {
     if all {
         let sets = influence.sets;
@@ -32,8 +32,8 @@ fn concerns(plan: Plan, case: Case, reach: Reach, influence: Influence, all: boo
         };
         return Opens {
             influence: used,
-            facts: reach.count,
-            defaults: defaults_taken(plan, case, reach.bound),
+            facts: facts,
+            defaults: defaults,
         };
     }
     Opens {
@@ -51,14 +51,15 @@ pub fn answer_ready(
     plan: Plan,
     case: Case,
     reach: Reach,
-    codes: [u8; 64],
+    bound: Bound,
     wanted: Wanted,
     lines: &mut [u8],
     events: &mut [u8],
 ) -> Answer
-    requires { ⌜ IsReady plan case reach codes (now lines) (now events) ⌝ }
+    requires { ⌜ IsReady plan case reach bound (now lines) (now events) ⌝ }
     ensures { λ r. ⌜ AnswersReady plan case wanted (now (lines .entry)) (now (lines .exit)) (now (events .entry)) (now (events .exit)) r ⌝ }
 {
+    let codes = bound.codes;
     let heading = case.heading;
     let roster = heading.roster;
     let constraints = case.constraints;
@@ -87,7 +88,7 @@ pub fn answer_ready(
         &mut sums,
         events,
     );
-    let opens = concerns(plan, case, reach, influence, wanted.all);
+    let opens = concerns(influence, reach.count, bound.defaults, wanted.all);
     finish(
         plan,
         case,

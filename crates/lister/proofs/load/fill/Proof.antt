@@ -1,16 +1,11 @@
+-- `load::fill`: the place stays within the buffer.
 use Rattle.lister.proofs.Counted.{counted}
 use mathlib.Core.Path.{_≡_}
 use Prim.Native.Nat.{_≤_, _-_}
 use lib.ListN.{length}
-use native.Mathlib.Omega.{arith}
 use borrow.Author.Needs.{needs}
 use Rattle.lister.proofs.load.fill.Statement.{statement}
 use Rattle.lister.proofs.load.fill.Tie as tie
-use Rattle.lister.proofs.load.fill.Reads as reads
-use Rattle.lister.proofs.load.fill.Lts as lts
-use Rattle.io.proofs.count.Reads as count-reads
-use Rattle.libc.proofs.read.Reads as read-reads
-use Rattle.lister.proofs.load.nothing.Reads as nothing-reads
 
 abbrev Inv-loop : tie.InvT-loop
 Inv-loop fd buf₀ done₀ buf done = (done ≤ length buf) × (length buf ≡ length buf₀)
@@ -18,79 +13,60 @@ Inv-loop fd buf₀ done₀ buf done = (done ≤ length buf) × (length buf ≡ l
 abbrev μ-loop : tie.MeasureT-loop
 μ-loop fd buf₀ done₀ buf done = length buf - done
 
--- src/load.rt:23:5
 loop-holds : tie.Need-loop-holds Inv-loop μ-loop
 loop-holds c = search needs
 
--- src/load.rt:24:34
 sub-read : tie.Need-sub-read Inv-loop μ-loop
 sub-read c = search needs
 
--- src/load.rt:24:34
 part-read-start : tie.Need-part-read-start Inv-loop μ-loop
 part-read-start c = search needs
 
--- src/load.rt:24:34
 part-read-end : tie.Need-part-read-end Inv-loop μ-loop
 part-read-end c = search needs
 
--- src/load.rt:24:13
 read-requires : tie.Need-read-requires Inv-loop μ-loop
 read-requires c κs = search needs
 
--- src/load.rt:26:13
 nothing-requires : tie.Need-nothing-requires Inv-loop μ-loop
 nothing-requires c κs = search needs
 
--- src/load.rt:26:13
 same-length : tie.Need-same-length Inv-loop μ-loop
 same-length c = search needs
 
--- src/load.rt:26:13
 returns : tie.Need-returns Inv-loop μ-loop
 returns c = search needs
 
--- src/load.rt:28:35
 sub-count : tie.Need-sub-count Inv-loop μ-loop
 sub-count c = search needs
 
--- src/load.rt:28:35
 part-count-start : tie.Need-part-count-start Inv-loop μ-loop
 part-count-start c = search needs
 
--- src/load.rt:28:35
 part-count-end : tie.Need-part-count-end Inv-loop μ-loop
 part-count-end c = search needs
 
--- src/load.rt:28:13
 count-requires : tie.Need-count-requires Inv-loop μ-loop
 count-requires c κs = search needs
 
--- src/load.rt:32:9
 add-done : tie.Need-add-done Inv-loop μ-loop
 add-done c = search needs
 
--- src/load.rt:23:5
 loop-less : tie.Need-loop-less Inv-loop μ-loop
 loop-less c = search needs
 
--- src/load.rt:23:5
 loop-again : tie.Need-loop-again Inv-loop μ-loop
 loop-again c = search needs
 
--- src/load.rt:19:1
 same-length-2 : tie.Need-same-length-2 Inv-loop μ-loop
 same-length-2 c = search needs
 
--- src/load.rt:19:1
 returns-2 : tie.Need-returns-2 Inv-loop μ-loop
 returns-2 c = counted _ _ (search needs)
 
--- src/load.rt:19:1
 same-length-3 : tie.Need-same-length-3 Inv-loop μ-loop
 same-length-3 c = search needs
 
--- src/load.rt:19:1
 returns-3 : tie.Need-returns-3 Inv-loop μ-loop
 returns-3 c = counted _ _ (search needs)
 

@@ -1,3 +1,4 @@
+-- `fields::block_of`: eight bytes as a number.
 use mathlib.Core.Path.{_≡_, ap}
 use native.Mathlib.Omega.{arith}
 use lib.ListN.{take, drop}
@@ -7,131 +8,97 @@ use Rattle.report.proofs.NineLaws.{tab, tab-take}
 use borrow.Author.Needs.{needs}
 use Rattle.listing.proofs.fields.block_of.Statement.{statement}
 use Rattle.listing.proofs.fields.block_of.Tie as tie
-use Rattle.listing.proofs.fields.block_of.Reads as reads
-use Rattle.listing.proofs.fields.block_of.Lts as lts
-use Rattle.records.proofs.fields.to_u64.Reads as to-u64-reads
 
--- src/fields.rt:22:20
 shared-slice-read-to-u64 : tie.Need-shared-slice-read-to-u64
 shared-slice-read-to-u64 c = search needs
 
--- src/fields.rt:22:9
 to-u64-requires : tie.Need-to-u64-requires
 to-u64-requires c κs = search needs
 
--- src/fields.rt:23:20
 shared-slice-read-to-u64-2 : tie.Need-shared-slice-read-to-u64-2
 shared-slice-read-to-u64-2 c = search needs
 
--- src/fields.rt:23:9
 to-u64-requires-2 : tie.Need-to-u64-requires-2
 to-u64-requires-2 c κs = search needs
 
--- src/fields.rt:24:20
 shared-slice-read-to-u64-3 : tie.Need-shared-slice-read-to-u64-3
 shared-slice-read-to-u64-3 c = search needs
 
--- src/fields.rt:24:9
 to-u64-requires-3 : tie.Need-to-u64-requires-3
 to-u64-requires-3 c κs = search needs
 
--- src/fields.rt:25:20
 shared-slice-read-to-u64-4 : tie.Need-shared-slice-read-to-u64-4
 shared-slice-read-to-u64-4 c = search needs
 
--- src/fields.rt:25:9
 to-u64-requires-4 : tie.Need-to-u64-requires-4
 to-u64-requires-4 c κs = search needs
 
--- src/fields.rt:26:20
 shared-slice-read-to-u64-5 : tie.Need-shared-slice-read-to-u64-5
 shared-slice-read-to-u64-5 c = search needs
 
--- src/fields.rt:26:9
 to-u64-requires-5 : tie.Need-to-u64-requires-5
 to-u64-requires-5 c κs = search needs
 
--- src/fields.rt:27:20
 shared-slice-read-to-u64-6 : tie.Need-shared-slice-read-to-u64-6
 shared-slice-read-to-u64-6 c = search needs
 
--- src/fields.rt:27:9
 to-u64-requires-6 : tie.Need-to-u64-requires-6
 to-u64-requires-6 c κs = search needs
 
--- src/fields.rt:28:20
 shared-slice-read-to-u64-7 : tie.Need-shared-slice-read-to-u64-7
 shared-slice-read-to-u64-7 c = search needs
 
--- src/fields.rt:28:9
 to-u64-requires-7 : tie.Need-to-u64-requires-7
 to-u64-requires-7 c κs = search needs
 
--- src/fields.rt:29:20
 shared-slice-read-to-u64-8 : tie.Need-shared-slice-read-to-u64-8
 shared-slice-read-to-u64-8 c = search needs
 
--- src/fields.rt:29:9
 to-u64-requires-8 : tie.Need-to-u64-requires-8
 to-u64-requires-8 c κs = search needs
 
--- src/fields.rt:30:75
 mul-result : tie.Need-mul-result
 mul-result c = search needs
 
--- src/fields.rt:30:71
 add-result : tie.Need-add-result
 add-result c = search needs
 
--- src/fields.rt:30:64
 mul-result-2 : tie.Need-mul-result-2
 mul-result-2 c = search needs
 
--- src/fields.rt:30:60
 add-result-2 : tie.Need-add-result-2
 add-result-2 c = search needs
 
--- src/fields.rt:30:53
 mul-result-3 : tie.Need-mul-result-3
 mul-result-3 c = search needs
 
--- src/fields.rt:30:49
 add-result-3 : tie.Need-add-result-3
 add-result-3 c = search needs
 
--- src/fields.rt:30:42
 mul-result-4 : tie.Need-mul-result-4
 mul-result-4 c = search needs
 
--- src/fields.rt:30:38
 add-result-4 : tie.Need-add-result-4
 add-result-4 c = search needs
 
--- src/fields.rt:30:31
 mul-result-5 : tie.Need-mul-result-5
 mul-result-5 c = search needs
 
--- src/fields.rt:30:27
 add-result-5 : tie.Need-add-result-5
 add-result-5 c = search needs
 
--- src/fields.rt:30:20
 mul-result-6 : tie.Need-mul-result-6
 mul-result-6 c = search needs
 
--- src/fields.rt:30:16
 add-result-6 : tie.Need-add-result-6
 add-result-6 c = search needs
 
--- src/fields.rt:30:9
 mul-result-7 : tie.Need-mul-result-7
 mul-result-7 c = search needs
 
--- src/fields.rt:30:5
 add-result-7 : tie.Need-add-result-7
 add-result-7 c = search needs
 
--- src/fields.rt:18:1
 returns : tie.Need-returns
 unfolding little
 returns c =

@@ -1,3 +1,4 @@
+-- `fields::fields_at`: the 29 bytes at a line's place.
 use mathlib.Core.Path.{_≡_, subst}
 use Prim.Native.Nat.{ℕ, _+_, _*_, _-_}
 use native.Mathlib.Omega.{arith}
@@ -8,35 +9,25 @@ use Rattle.listing.specs.Shown.{Shows}
 use borrow.Author.Needs.{needs}
 use Rattle.listing.proofs.fields.fields_at.Statement.{statement}
 use Rattle.listing.proofs.fields.fields_at.Tie as tie
-use Rattle.listing.proofs.fields.fields_at.Reads as reads
-use Rattle.listing.proofs.fields.fields_at.Lts as lts
-use Rattle.listing.proofs.fields.fields_of.Reads as fields-of-reads
 
--- src/fields.rt:50:16
 mul-from : tie.Need-mul-from
 mul-from c = search needs
 
--- src/fields.rt:51:14
 add-to : tie.Need-add-to
 add-to c = search needs
 
--- src/fields.rt:52:15
 sub-fields-of : tie.Need-sub-fields-of
 sub-fields-of c = search needs
 
--- src/fields.rt:52:15
 part-fields-of-start : tie.Need-part-fields-of-start
 part-fields-of-start c = search needs
 
--- src/fields.rt:52:15
 part-fields-of-end : tie.Need-part-fields-of-end
 part-fields-of-end c = search needs
 
--- src/fields.rt:52:5
 fields-of-requires : tie.Need-fields-of-requires
 fields-of-requires c κs = search needs
 
--- src/fields.rt:46:1
 returns : tie.Need-returns
 unfolding lineAt
 returns c =

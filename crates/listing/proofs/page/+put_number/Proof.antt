@@ -1,17 +1,18 @@
+-- `page::put_number`: the digits of the tenth part, then the last; the number falls.
 use mathlib.Core.Path.{sym, ap, _∙_}
-use Rattle.listing.specs.Page.{Page, puts}
+use Rattle.listing.specs.Page.{puts}
 use Rattle.listing.proofs.PageLaws.{puts-one, put-last}
 use Rattle.listing.proofs.DecimalLaws.{decimal-low, decimal-high}
 use borrow.Author.Needs.{needs}
 use Prim.Native.Nat.{ℕ, _<_}
 use borrow.Fn.Kinds.{In}
 use borrow.Fn.PlainCycle.{Measures, is, falls, and}
+use Rattle.listing.proofs.page.+put_number.{statement}
+use Rattle.listing.proofs.page.+put_number.Tie.{close}
 use Rattle.listing.proofs.page.put_number.Reads as put-number
 use Rattle.listing.proofs.page.put_number.Kinds as put-number-kinds
 use Rattle.listing.proofs.page.+put_number.Lts-put_number as put-number-lts
 use Rattle.listing.proofs.page.put.Reads as put-reads
-use Rattle.listing.proofs.page.+put_number.{statement}
-use Rattle.listing.proofs.page.+put_number.Tie.{close}
 
 abbrev μ-put-number : Measures 1 put-number-kinds.ps ℕ
 μ-put-number κs a = a .1 .1 .0
@@ -24,7 +25,6 @@ abbrev put-number-below : ℕ → In 1 put-number-kinds.ps
 put-number-below t =
     and 1 put-number-kinds.ps (falls 1 put-number-kinds.ps _<_ μ-put-number t) put-number.Pre
 
--- src/page.rt:36:34
 put-number-cast-put : (t : ℕ) → put-number-lts.Need-cast-put (
   put-reads.Asked,
   put-reads.Learnt,
@@ -33,7 +33,6 @@ put-number-cast-put : (t : ℕ) → put-number-lts.Need-cast-put (
 ) (put-number-at t) put-number.Post
 put-number-cast-put t c = search needs
 
--- src/page.rt:36:29
 put-number-add-put : (t : ℕ) → put-number-lts.Need-add-put (
   put-reads.Asked,
   put-reads.Learnt,
@@ -42,7 +41,6 @@ put-number-add-put : (t : ℕ) → put-number-lts.Need-add-put (
 ) (put-number-at t) put-number.Post
 put-number-add-put t c = search needs
 
--- src/page.rt:36:9
 put-number-put-requires : (t : ℕ) → put-number-lts.Need-put-requires (
   put-reads.Asked,
   put-reads.Learnt,
@@ -51,7 +49,6 @@ put-number-put-requires : (t : ℕ) → put-number-lts.Need-put-requires (
 ) (put-number-at t) put-number.Post
 put-number-put-requires t c κs = search needs
 
--- src/page.rt:36:9
 put-number-same-length : (t : ℕ) → put-number-lts.Need-same-length (
   put-reads.Asked,
   put-reads.Learnt,
@@ -60,7 +57,6 @@ put-number-same-length : (t : ℕ) → put-number-lts.Need-same-length (
 ) (put-number-at t) put-number.Post
 put-number-same-length t c = search needs
 
--- src/page.rt:36:9
 put-number-returns : (t : ℕ) → put-number-lts.Need-returns (
   put-reads.Asked,
   put-reads.Learnt,
@@ -69,7 +65,6 @@ put-number-returns : (t : ℕ) → put-number-lts.Need-returns (
 ) (put-number-at t) put-number.Post
 put-number-returns t c = c .before .before .put .ensures ∙ sym (ap (puts _) (decimal-low _ (c .before .before .before .before .if1 .taken)) ∙ puts-one _ _)
 
--- src/page.rt:38:9
 put-number-put-number-requires : (t : ℕ) → put-number-lts.Need-put-number-requires (
   put-reads.Asked,
   put-reads.Learnt,
@@ -78,7 +73,6 @@ put-number-put-number-requires : (t : ℕ) → put-number-lts.Need-put-number-re
 ) (put-number-at t) put-number.Post
 put-number-put-number-requires t c κs = search needs
 
--- src/page.rt:39:25
 put-number-cast-put-2 : (t : ℕ) → put-number-lts.Need-cast-put-2 (
   put-reads.Asked,
   put-reads.Learnt,
@@ -87,7 +81,6 @@ put-number-cast-put-2 : (t : ℕ) → put-number-lts.Need-cast-put-2 (
 ) (put-number-at t) put-number.Post
 put-number-cast-put-2 t c = search needs
 
--- src/page.rt:39:20
 put-number-add-put-2 : (t : ℕ) → put-number-lts.Need-add-put-2 (
   put-reads.Asked,
   put-reads.Learnt,
@@ -96,7 +89,6 @@ put-number-add-put-2 : (t : ℕ) → put-number-lts.Need-add-put-2 (
 ) (put-number-at t) put-number.Post
 put-number-add-put-2 t c = search needs
 
--- src/page.rt:39:5
 put-number-put-requires-2 : (t : ℕ) → put-number-lts.Need-put-requires-2 (
   put-reads.Asked,
   put-reads.Learnt,
@@ -105,7 +97,6 @@ put-number-put-requires-2 : (t : ℕ) → put-number-lts.Need-put-requires-2 (
 ) (put-number-at t) put-number.Post
 put-number-put-requires-2 t c κs = search needs
 
--- src/page.rt:32:1
 put-number-same-length-2 : (t : ℕ) → put-number-lts.Need-same-length-2 (
   put-reads.Asked,
   put-reads.Learnt,
@@ -114,7 +105,6 @@ put-number-same-length-2 : (t : ℕ) → put-number-lts.Need-same-length-2 (
 ) (put-number-at t) put-number.Post
 put-number-same-length-2 t c = search needs
 
--- src/page.rt:32:1
 put-number-returns-2 : (t : ℕ) → put-number-lts.Need-returns-2 (
   put-reads.Asked,
   put-reads.Learnt,

@@ -1,27 +1,21 @@
+-- `page::put`: where there is room, or not.
 use borrow.Author.Tests.{lt-ltb, le-ltb}
 use borrow.Author.Needs.{needs}
 use Rattle.listing.proofs.page.put.Statement.{statement}
 use Rattle.listing.proofs.page.put.Tie as tie
-use Rattle.listing.proofs.page.put.Reads as reads
-use Rattle.listing.proofs.page.put.Lts as lts
 
--- src/page.rt:13:9
 slice-write-out : tie.Need-slice-write-out
 slice-write-out c = search needs
 
--- src/page.rt:14:16
 add-result : tie.Need-add-result
 add-result c = search needs
 
--- src/page.rt:14:9
 same-length : tie.Need-same-length
 same-length c = search needs
 
--- src/page.rt:14:9
 returns : tie.Need-returns
 returns c = simp (lt-ltb _ _ (c .if1 .taken))
 
--- src/page.rt:9:1
 returns-2 : tie.Need-returns-2
 returns-2 c = simp (le-ltb _ _ (c .if1 .left))
 

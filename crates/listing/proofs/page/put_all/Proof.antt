@@ -1,15 +1,12 @@
-use mathlib.Core.Path.{_≡_, refl, ap, _∙_}
+-- `page::put_all`: with the bytes that are left put, the text is put.
+use mathlib.Core.Path.{_≡_, refl, _∙_}
 use Prim.Native.Nat.{_≤_, _-_, zero-le}
-use native.Mathlib.Omega.{arith}
 use lib.ListN.{length, drop}
-use Rattle.listing.specs.Page.{Page, putByte, puts}
-use Rattle.listing.proofs.PageLaws.{put-length, put-next, put-end}
+use Rattle.listing.specs.Page.{Page, puts}
+use Rattle.listing.proofs.PageLaws.{put-next, put-end}
 use borrow.Author.Needs.{needs}
 use Rattle.listing.proofs.page.put_all.Statement.{statement}
 use Rattle.listing.proofs.page.put_all.Tie as tie
-use Rattle.listing.proofs.page.put_all.Reads as reads
-use Rattle.listing.proofs.page.put_all.Lts as lts
-use Rattle.listing.proofs.page.put.Reads as put-reads
 
 abbrev Inv-loop : tie.InvT-loop
 Inv-loop out₀ at text next₀ i₀ out next i = (i ≤ length text) × (length out ≡ length out₀) × (_≡_ {A = Page} (puts (record { count = next; out = out }) (drop i text)) (puts (record { count = at; out = out₀ }) text))
@@ -17,27 +14,21 @@ Inv-loop out₀ at text next₀ i₀ out next i = (i ≤ length text) × (length
 abbrev μ-loop : tie.MeasureT-loop
 μ-loop out₀ at text next₀ i₀ out next i = length text - i
 
--- src/page.rt:24:5
 loop-holds : tie.Need-loop-holds Inv-loop μ-loop
 loop-holds c = (zero-le, refl, refl)
 
--- src/page.rt:25:31
 shared-slice-read-put : tie.Need-shared-slice-read-put Inv-loop μ-loop
 shared-slice-read-put c = search needs
 
--- src/page.rt:25:9
 put-requires : tie.Need-put-requires Inv-loop μ-loop
 put-requires c κs = search needs
 
--- src/page.rt:26:9
 add-i : tie.Need-add-i Inv-loop μ-loop
 add-i c = search needs
 
--- src/page.rt:24:5
 loop-less : tie.Need-loop-less Inv-loop μ-loop
 loop-less c = search needs
 
--- src/page.rt:24:5
 loop-again : tie.Need-loop-again Inv-loop μ-loop
 loop-again c =
     let l = c .before .before .before .before .before .before in (
@@ -46,11 +37,9 @@ loop-again c =
       put-next _ (l .loop .i) _ _ (c .before .before .before .before .before .loop-test .taken) (c .before .before .put .ensures) ∙ l .loop .inv .2,
     )
 
--- src/page.rt:19:1
 same-length : tie.Need-same-length Inv-loop μ-loop
 same-length c = search needs
 
--- src/page.rt:19:1
 returns : tie.Need-returns Inv-loop μ-loop
 returns c = put-end _ _ _ (c .loop-test .left) ∙ c .before .loop .inv .2
 

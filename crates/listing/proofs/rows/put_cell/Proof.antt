@@ -1,30 +1,21 @@
+-- `rows::put_cell`: the digits and the space.
 use Rattle.listing.proofs.RowLaws.{cell-put}
 use borrow.Author.Needs.{needs}
 use Rattle.listing.proofs.rows.put_cell.Statement.{statement}
 use Rattle.listing.proofs.rows.put_cell.Tie as tie
-use Rattle.listing.proofs.rows.put_cell.Reads as reads
-use Rattle.listing.proofs.rows.put_cell.Lts as lts
-use Rattle.listing.proofs.page.put.Reads as put-reads
-use Rattle.listing.proofs.page.put_number.Reads as put-number-reads
-use Rattle.records.proofs.fields.to_index.Reads as to-index-reads
 
--- src/rows.rt:55:36
 to-index-requires : tie.Need-to-index-requires
 to-index-requires c κs = search needs
 
--- src/rows.rt:55:9
 put-number-requires : tie.Need-put-number-requires
 put-number-requires c κs = search needs
 
--- src/rows.rt:56:5
 put-requires : tie.Need-put-requires
 put-requires c κs = search needs
 
--- src/rows.rt:52:1
 same-length : tie.Need-same-length
 same-length c = search needs
 
--- src/rows.rt:52:1
 returns : tie.Need-returns
 returns c = cell-put _ _ _ _ _ (c .before .before .before .before .before .before .before .to-index .ensures .0) (c .before .before .before .before .before .before .put-number .ensures) (c .before .before .put .ensures)
 

@@ -1,37 +1,27 @@
+-- `rows::put_person`: the first person, or one behind a comma.
 use Rattle.listing.proofs.PersonLaws.{first-put, later-put}
 use borrow.Author.Needs.{needs}
 use Rattle.listing.proofs.rows.put_person.Statement.{statement}
 use Rattle.listing.proofs.rows.put_person.Tie as tie
-use Rattle.listing.proofs.rows.put_person.Reads as reads
-use Rattle.listing.proofs.rows.put_person.Lts as lts
-use Rattle.listing.proofs.page.put.Reads as put-reads
-use Rattle.listing.proofs.page.put_number.Reads as put-number-reads
 
--- src/rows.rt:23:9
 put-number-requires : tie.Need-put-number-requires
 put-number-requires c κs = search needs
 
--- src/rows.rt:23:9
 same-length : tie.Need-same-length
 same-length c = search needs
 
--- src/rows.rt:23:9
 returns : tie.Need-returns
 returns c = first-put _ _ _ _ (c .before .before .before .before .if1 .taken) (c .before .before .put-number .ensures)
 
--- src/rows.rt:25:9
 put-requires : tie.Need-put-requires
 put-requires c κs = search needs
 
--- src/rows.rt:26:5
 put-number-requires-2 : tie.Need-put-number-requires-2
 put-number-requires-2 c κs = search needs
 
--- src/rows.rt:19:1
 same-length-2 : tie.Need-same-length-2
 same-length-2 c = search needs
 
--- src/rows.rt:19:1
 returns-2 : tie.Need-returns-2
 returns-2 c = later-put _ _ _ _ _ (c .before .before .before .before .before .before .before .before .if1 .left) (c .before .before .before .before .before .before .put .ensures) (c .before .before .put-number2 .ensures)
 

@@ -1,7 +1,7 @@
+-- `rows::put_persons`: with the persons from p on put, the block is put.
 use mathlib.Core.Path.{_≡_, refl, ap, _∙_}
 use mathlib.Core.Logic.{⊎-elim}
 use Prim.Native.Nat.{_≤_, _-_, zero-le}
-use native.Mathlib.Omega.{arith}
 use lib.ListN.{length}
 use borrow.Author.Needs.{needs}
 use Rattle.records.specs.Sets.{members}
@@ -11,10 +11,6 @@ use Rattle.listing.proofs.PageLaws.{puts-length, page}
 use Rattle.listing.proofs.PersonLaws.{pending, from, turn-in, turn-out, none-put, all-put}
 use Rattle.listing.proofs.rows.put_persons.Statement.{statement}
 use Rattle.listing.proofs.rows.put_persons.Tie as tie
-use Rattle.listing.proofs.rows.put_persons.Reads as reads
-use Rattle.listing.proofs.rows.put_persons.Lts as lts
-use Rattle.listing.proofs.page.put.Reads as put-reads
-use Rattle.listing.proofs.rows.put_person.Reads as put-person-reads
 
 abbrev Inv-loop : tie.InvT-loop
 Inv-loop out₀ at block next₀ rest₀ p₀ first₀ out next rest p first = (p ≤ 64) × (length out ≡ length out₀) × (_≡_ {A = Page} (puts (record { count = next; out = out }) (pending first (from p rest))) (puts (record { count = at; out = out₀ }) (persons (members block))))
@@ -22,24 +18,19 @@ Inv-loop out₀ at block next₀ rest₀ p₀ first₀ out next rest p first = (
 abbrev μ-loop : tie.MeasureT-loop
 μ-loop out₀ at block next₀ rest₀ p₀ first₀ out next rest p first = 64 - p
 
--- src/rows.rt:37:5
 loop-holds : tie.Need-loop-holds Inv-loop μ-loop
 unfolding members
 loop-holds c = (zero-le, refl, refl)
 
--- src/rows.rt:39:13
 put-person-requires : tie.Need-put-person-requires Inv-loop μ-loop
 put-person-requires c κs = search needs
 
--- src/rows.rt:43:9
 add-p : tie.Need-add-p Inv-loop μ-loop
 add-p c = search needs
 
--- src/rows.rt:37:5
 loop-less : tie.Need-loop-less Inv-loop μ-loop
 loop-less c = search needs
 
--- src/rows.rt:37:5
 loop-again : tie.Need-loop-again Inv-loop μ-loop
 loop-again c =
     let l = c .before .before .loop in
@@ -50,23 +41,18 @@ loop-again c =
           (λ w. turn-out _ _ (l .first) (c .if1 .first) (l .p) (l .rest) h (w .0 .left) (page (w .2) (w .1)) (w .3) ∙ l .inv .2) (c .if1 .came),
     )
 
--- src/rows.rt:46:9
 put-requires : tie.Need-put-requires Inv-loop μ-loop
 put-requires c κs = search needs
 
--- src/rows.rt:46:9
 same-length : tie.Need-same-length Inv-loop μ-loop
 same-length c = search needs
 
--- src/rows.rt:46:9
 returns : tie.Need-returns Inv-loop μ-loop
 returns c = let l = c .before .before .before .before .before .before .loop in none-put _ _ _ _ (l .p) (l .rest) (c .before .before .before .before .before .loop-test .left) (c .before .before .before .before .if2 .taken) (c .before .before .put .ensures) (l .inv .2)
 
--- src/rows.rt:30:1
 same-length-2 : tie.Need-same-length-2 Inv-loop μ-loop
 same-length-2 c = search needs
 
--- src/rows.rt:30:1
 returns-2 : tie.Need-returns-2 Inv-loop μ-loop
 returns-2 c = let l = c .before .before .loop in all-put _ _ _ (l .p) (l .rest) (c .before .loop-test .left) (c .if2 .left) (l .inv .2)
 

@@ -1,41 +1,29 @@
+-- `rows::put_refused`: word, number, record; a byte and a place of 64 bits keep it short.
 use native.Mathlib.Omega.{arith}
 use Rattle.listing.proofs.RowLaws.{refused-put}
 use Rattle.listing.proofs.Short.{refused-short}
 use borrow.Author.Needs.{needs}
 use Rattle.listing.proofs.rows.put_refused.Statement.{statement}
 use Rattle.listing.proofs.rows.put_refused.Tie as tie
-use Rattle.listing.proofs.rows.put_refused.Reads as reads
-use Rattle.listing.proofs.rows.put_refused.Lts as lts
-use Rattle.listing.proofs.page.put.Reads as put-reads
-use Rattle.listing.proofs.page.put_all.Reads as put-all-reads
-use Rattle.listing.proofs.page.put_number.Reads as put-number-reads
-use Rattle.listing.proofs.rows.put_cell.Reads as put-cell-reads
 
--- src/rows.rt:89:37
 slice-aggregate-put-all : tie.Need-slice-aggregate-put-all
 slice-aggregate-put-all c = search needs
 
--- src/rows.rt:89:9
 put-all-requires : tie.Need-put-all-requires
 put-all-requires c κs = search needs
 
--- src/rows.rt:90:5
 put-cell-requires : tie.Need-put-cell-requires
 put-cell-requires c κs = search needs
 
--- src/rows.rt:91:5
 put-number-requires : tie.Need-put-number-requires
 put-number-requires c κs = search needs
 
--- src/rows.rt:92:5
 put-requires : tie.Need-put-requires
 put-requires c κs = search needs
 
--- src/rows.rt:85:1
 same-length : tie.Need-same-length
 same-length c = search needs
 
--- src/rows.rt:85:1
 returns : tie.Need-returns
 returns c =
     let f = c .before .before .before .before .before .before .before .before .before .before .before .before .before .before .before .before .before .before .fits in (

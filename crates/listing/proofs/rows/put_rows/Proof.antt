@@ -1,8 +1,7 @@
-use mathlib.Core.Path.{ap}
-use Prim.Native.Nat.{ℕ}
+-- `rows::put_rows`: with the rows of the lines left put, the rows are put.
+use mathlib.Core.Path.{ap, _≡_, refl, _∙_}
+use Prim.Native.Nat.{ℕ, _≤_, _-_, zero-le}
 use denote.Ref.{now}
-use mathlib.Core.Path.{_≡_, refl, _∙_}
-use Prim.Native.Nat.{_≤_, _-_, zero-le}
 use native.Mathlib.Omega.{arith}
 use lib.ListN.{length}
 use borrow.Author.Needs.{needs}
@@ -12,10 +11,6 @@ use Rattle.listing.specs.Page.{Page, puts}
 use Rattle.listing.proofs.RowLaws.{rows-next, rows-end}
 use Rattle.listing.proofs.rows.put_rows.Statement.{statement}
 use Rattle.listing.proofs.rows.put_rows.Tie as tie
-use Rattle.listing.proofs.rows.put_rows.Reads as reads
-use Rattle.listing.proofs.rows.put_rows.Lts as lts
-use Rattle.listing.proofs.fields.fields_at.Reads as fields-at-reads
-use Rattle.listing.proofs.rows.put_row.Reads as put-row-reads
 
 abbrev Inv-loop : tie.InvT-loop
 Inv-loop out₀ at lines n next₀ k₀ out next k = (k ≤ n) × (length out ≡ length out₀) × (_≡_ {A = Page} (puts (record { count = next; out = out }) (rows (linesFrom lines k (n - k)))) (puts (record { count = at; out = out₀ }) (rows (linesFrom lines 0 n))))
@@ -23,29 +18,23 @@ Inv-loop out₀ at lines n next₀ k₀ out next k = (k ≤ n) × (length out �
 abbrev μ-loop : tie.MeasureT-loop
 μ-loop out₀ at lines n next₀ k₀ out next k = n - k
 
--- src/rows.rt:76:5
 loop-holds : tie.Need-loop-holds Inv-loop μ-loop
 loop-holds c =
     let a = c .before .before .args in
     (zero-le, refl, ap (λ (j : ℕ). puts (record { count = a .at; out = now (a .out) }) (rows (linesFrom (now (a .lines)) 0 j))) (let e : a .n - 0 ≡ a .n = omega arith in e))
 
--- src/rows.rt:77:13
 fields-at-requires : tie.Need-fields-at-requires Inv-loop μ-loop
 fields-at-requires c κs = search needs
 
--- src/rows.rt:78:9
 put-row-requires : tie.Need-put-row-requires Inv-loop μ-loop
 put-row-requires c κs = search needs
 
--- src/rows.rt:79:9
 add-k : tie.Need-add-k Inv-loop μ-loop
 add-k c = search needs
 
--- src/rows.rt:76:5
 loop-less : tie.Need-loop-less Inv-loop μ-loop
 loop-less c = search needs
 
--- src/rows.rt:76:5
 loop-again : tie.Need-loop-again Inv-loop μ-loop
 loop-again c =
     let l = c .before .before .before .before .before .before .loop in (
@@ -54,11 +43,9 @@ loop-again c =
       rows-next _ (l .k) _ _ _ _ (c .before .before .before .before .before .loop-test .taken) (c .before .before .before .before .fields-at .ensures) (c .before .before .put-row .ensures) ∙ l .inv .2,
     )
 
--- src/rows.rt:70:1
 same-length : tie.Need-same-length Inv-loop μ-loop
 same-length c = search needs
 
--- src/rows.rt:70:1
 returns : tie.Need-returns Inv-loop μ-loop
 returns c = rows-end _ _ _ _ (c .loop-test .left) ∙ c .before .loop .inv .2
 

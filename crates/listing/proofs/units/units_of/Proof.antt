@@ -1,7 +1,7 @@
+-- `units::units_of`: with the blocks of the lines left joined, the units are found.
 use denote.Ref.{now}
-use mathlib.Core.List.{[]}
-use mathlib.Core.Path.{_≡_, refl, ap, _∙_}
-use mathlib.Core.List.{List}
+use mathlib.Core.List.{[], List}
+use mathlib.Core.Path.{_≡_, ap, _∙_}
 use Prim.Native.Nat.{ℕ, _≤_, _+_, _-_, zero-le}
 use native.Mathlib.Omega.{arith}
 use lib.ListN.{length, take}
@@ -11,11 +11,6 @@ use Rattle.report.specs.Units.{unitsWith, units}
 use Rattle.listing.proofs.UnitLaws.{units-next, units-end}
 use Rattle.listing.proofs.units.units_of.Statement.{statement}
 use Rattle.listing.proofs.units.units_of.Tie as tie
-use Rattle.listing.proofs.units.units_of.Reads as reads
-use Rattle.listing.proofs.units.units_of.Lts as lts
-use Rattle.listing.proofs.fields.fields_at.Reads as fields-at-reads
-use Rattle.listing.proofs.units.Units.join.Reads as join-reads
-use Rattle.listing.proofs.units.Units.none.Reads as none-reads
 
 abbrev Inv-loop : tie.InvT-loop
 Inv-loop lines n found₀ k₀ found k = (k ≤ n) × (found .count ≤ k) × (length (found .blocks) ≡ 64) × (unitsWith (take (found .count) (found .blocks)) (linesFrom lines k (n - k)) ≡ units (linesFrom lines 0 n))
@@ -23,11 +18,9 @@ Inv-loop lines n found₀ k₀ found k = (k ≤ n) × (found .count ≤ k) × (l
 abbrev μ-loop : tie.MeasureT-loop
 μ-loop lines n found₀ k₀ found k = n - k
 
--- src/units.rt:68:9
 none-requires : tie.Need-none-requires Inv-loop μ-loop
 none-requires c κs = search needs
 
--- src/units.rt:70:5
 loop-holds : tie.Need-loop-holds Inv-loop μ-loop
 unfolding units
 loop-holds c =
@@ -41,23 +34,18 @@ loop-holds c =
           ∙ ap (λ (j : ℕ). unitsWith [] (linesFrom s 0 j)) (let z : a .n - 0 ≡ a .n = omega arith in z),
     )
 
--- src/units.rt:71:13
 fields-at-requires : tie.Need-fields-at-requires Inv-loop μ-loop
 fields-at-requires c κs = search needs
 
--- src/units.rt:72:9
 join-requires : tie.Need-join-requires Inv-loop μ-loop
 join-requires c κs = (omega (arith, c .before .before .loop .inv, c .before .before .before .before .before .pre), c .before .before .loop .inv .2)
 
--- src/units.rt:73:9
 add-k : tie.Need-add-k Inv-loop μ-loop
 add-k c = search needs
 
--- src/units.rt:70:5
 loop-less : tie.Need-loop-less Inv-loop μ-loop
 loop-less c = search needs
 
--- src/units.rt:70:5
 loop-again : tie.Need-loop-again Inv-loop μ-loop
 loop-again c =
     let l = c .before .before .before .loop in
@@ -70,7 +58,6 @@ loop-again c =
           ∙ units-next _ _ _ _ _ (c .before .before .loop-test .taken) (c .before .fields-at .ensures .block) ∙ l .inv .3,
     )
 
--- src/units.rt:64:1
 returns : tie.Need-returns Inv-loop μ-loop
 returns c =
     let l = c .before .loop in

@@ -81,8 +81,8 @@ returns-3 c =
 enum-told : tie.Need-enum-told
 enum-told c = search needs
 
-bindings-requires : tie.Need-bindings-requires
-bindings-requires c κs = search needs
+bind-facts-requires : tie.Need-bind-facts-requires
+bind-facts-requires c κs = search needs
 
 count-worlds-requires : tie.Need-count-worlds-requires
 count-worlds-requires c κs = search needs
@@ -90,7 +90,7 @@ count-worlds-requires c κs = search needs
 returns-4 : tie.Need-returns-4
 returns-4 c =
     let k = c .before in
-    let b = k .before in
+    let b = k .before .before in
     let g = b .before .before in
     let f = g .before .before in
     let j = f .before in
@@ -103,14 +103,14 @@ returns-4 c =
     (p .rule-persons .ensures) (length (now (a .args .lines))) (h .heading-fault .result) (h .heading-fault .ensures) (i .if1 .left) (not-false _ (j .if2 .left)))
     (stops (a .args .wanted) _ _ _ _ _
     (count-stops (a .args .plan) (a .args .case) (a .pre .sound) (a .pre .sane) (q .reach-of .result) (q .reach-of .ensures)
-    (b .bindings .result) (b .bindings .ensures) (k .count-worlds .result) (k .count-worlds .ensures) (sym (f .bindable .ensures) ∙ g .enum-told .given .1) (c .if3 .taken))
+    (b .bind-facts .result .codes) (b .bind-facts .ensures .codes) (k .count-worlds .result) (k .count-worlds .ensures) (sym (f .bindable .ensures) ∙ g .enum-told .given .1) (c .if3 .taken))
     (a .pre .zeros) (a .pre .none))
 
 answer-ready-requires : tie.Need-answer-ready-requires
 answer-ready-requires c κs =
     let t = c .before .before in
     let k = t .before in
-    let b = k .before in
+    let b = k .before .before in
     let i = b .before .before .before .before .before .before .before in
     let h = i .before in
     let p = h .before in
@@ -125,9 +125,10 @@ answer-ready-requires c κs =
           (p .rule-persons .ensures) (length (now (a .args .lines))) (h .heading-fault .result) (h .heading-fault .ensures) (i .if1 .left);
       reached = q .reach-of .ensures;
       bound = codes-bound (a .args .plan) (a .args .case) (a .pre .sound) (a .pre .sane) (q .reach-of .result) (q .reach-of .ensures)
-          (b .bindings .result) (b .bindings .ensures);
+          (b .bind-facts .result .codes) (b .bind-facts .ensures .codes);
+      defaulted = record { at = b .bind-facts .ensures .defaults };
       few = worlds-few (a .args .plan) (a .args .case) (a .pre .sound) (a .pre .sane) (q .reach-of .result) (q .reach-of .ensures)
-          (b .bindings .result) (b .bindings .ensures) (k .count-worlds .result) (k .count-worlds .ensures) (t .if3 .left);
+          (b .bind-facts .result .codes) (b .bind-facts .ensures .codes) (k .count-worlds .result) (k .count-worlds .ensures) (t .if3 .left);
       room = lines-fit (a .args .plan) (a .args .case) (a .pre .sound) (a .pre .sane) (q .reach-of .result) (q .reach-of .ensures) (p .rule-persons .result)
           (p .rule-persons .ensures) (length (now (a .args .lines))) (h .heading-fault .result) (h .heading-fault .ensures) (i .if1 .left);
       zeros = a .pre .zeros;
@@ -145,7 +146,7 @@ returns-5 c =
     let w = c .before .before .before .before in
     let t = w .before .before .before in
     let k = t .before in
-    let b = k .before in
+    let b = k .before .before in
     let g = b .before .before in
     let f = g .before .before in
     let j = f .before in
@@ -158,7 +159,7 @@ returns-5 c =
     (p .rule-persons .ensures) (length (now (a .args .lines))) (h .heading-fault .result) (h .heading-fault .ensures) (i .if1 .left) (not-false _ (j .if2 .left)))
     (ready-outcome (a .args .wanted) (a .args .plan) (a .args .case) _ _ _ _ _
     (count-passes (a .args .plan) (a .args .case) (a .pre .sound) (a .pre .sane) (q .reach-of .result) (q .reach-of .ensures)
-    (b .bindings .result) (b .bindings .ensures) (k .count-worlds .result) (k .count-worlds .ensures) (sym (f .bindable .ensures) ∙ g .enum-told .given .1) (t .if3 .left))
+    (b .bind-facts .result .codes) (b .bind-facts .ensures .codes) (k .count-worlds .result) (k .count-worlds .ensures) (sym (f .bindable .ensures) ∙ g .enum-told .given .1) (t .if3 .left))
     (w .answer-ready .ensures))
 
 pub operate-case-spec : {M : Type 1} → statement M
@@ -176,7 +177,7 @@ operate-case-spec =
     enum-known-found
     returns-3
     enum-told
-    bindings-requires
+    bind-facts-requires
     count-worlds-requires
     returns-4
     answer-ready-requires

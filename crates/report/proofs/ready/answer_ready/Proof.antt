@@ -18,26 +18,26 @@ variables-of-requires : tie.Need-variables-of-requires
 variables-of-requires c κs = search needs
 
 influence-of-requires : tie.Need-influence-of-requires
-influence-of-requires c κs = let s = c .before .before .before .before .before .before .before in (facts-few (s .pre), decisions-few (s .pre))
+influence-of-requires c κs = let s = c .before .before .before .before .before .before .before .before in (facts-few (s .pre), decisions-few (s .pre))
 
 lay-tables-requires : tie.Need-lay-tables-requires
-lay-tables-requires c κs = tables-ready (c .before .before .before .before .before .before .before .before .before .pre)
+lay-tables-requires c κs = tables-ready (c .before .before .before .before .before .before .before .before .before .before .pre)
 
 common-of-requires : tie.Need-common-of-requires
-common-of-requires c κs = c .before .before .before .before .before .before .before .before .before .before .pre .sound
+common-of-requires c κs = c .before .before .before .before .before .before .before .before .before .before .before .pre .sound
 
 boolean-count-requires : tie.Need-boolean-count-requires
 boolean-count-requires c κs = search needs
 
 variable-order-requires : tie.Need-variable-order-requires
 variable-order-requires c κs =
-    let s = c .before .before .before .before .before .before .before .before .before .before .before .before .before in
+    let s = c .before .before .before .before .before .before .before .before .before .before .before .before .before .before in
     (booleans-fit (s .pre) (c .boolean-count .ensures .0), facts-few (s .pre), decisions-few (s .pre))
 
 free-variables-requires : tie.Need-free-variables-requires
 free-variables-requires c κs =
     let v = c .before in
-    (order-fits (c .before .before .before .before .before .before .before .before .before .before .before .before .before .before .before .pre) (v .before .boolean-count .ensures .0) (v .variable-order .result) (v .variable-order .ensures), zeros-small 16)
+    (order-fits (c .before .before .before .before .before .before .before .before .before .before .before .before .before .before .before .before .pre) (v .before .boolean-count .ensures .0) (v .variable-order .result) (v .variable-order .ensures), zeros-small 16)
 
 started-requires : tie.Need-started-requires
 started-requires c κs = search needs
@@ -45,7 +45,7 @@ started-requires c κs = search needs
 run-requires : tie.Need-run-requires
 run-requires c κs =
     let f = c .before .before .before .before .before .before in
-    (f .before .before .before .before .before .before .before .before .before .before .before .before .before .before .before .before .pre .sound, f .free-variables .ensures .few, f .free-variables .ensures .small)
+    (f .before .before .before .before .before .before .before .before .before .before .before .before .before .before .before .before .before .pre .sound, f .free-variables .ensures .few, f .free-variables .ensures .small)
 
 concerns-requires : tie.Need-concerns-requires
 concerns-requires c κs = search needs
@@ -65,7 +65,7 @@ abbrev influence-at : tie.After-run → tie.After-influence-of
 influence-at x = common-at x .before .before .before
 
 abbrev start : tie.After-run → tie.Start
-start x = influence-at x .before .before .before .before .before .before .before .before
+start x = influence-at x .before .before .before .before .before .before .before .before .before
 
 abbrev I : tie.After-run → Influence
 I x =

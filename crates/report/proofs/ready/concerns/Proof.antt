@@ -11,22 +11,19 @@ use Rattle.report.proofs.ready.concerns.Tie as tie
 upto-requires : tie.Need-upto-requires
 upto-requires c κs = search needs
 
-defaults-taken-requires : tie.Need-defaults-taken-requires
-defaults-taken-requires c κs = search needs
-
 returns : tie.Need-returns
 unfolding setsOf
 returns c =
-    let u = c .before in
+    let u = c in
     let s = u .before .before .before in
     let i = s .args .influence in
-    let long : length (i .sets) ≡ 80 = sym (length-map (i .sets) (λ v. v)) ∙ s .good .1 .1 .1 .0 .1 .1 .1 .0 .1 .0 .1 in
+    let long : length (i .sets) ≡ 80 = sym (length-map (i .sets) (λ v. v)) ∙ s .good .0 .1 .1 .1 .0 .1 .0 .1 in
     record {
       yes = λ e. (
         used-take (i .sets) (i .count) 80 (u .upto .result) long (u .upto .ensures .0),
         sym (used-length (i .sets) (i .count) 80 (u .upto .result) long (u .upto .ensures .0)),
         refl,
-        record { at = c .defaults-taken .ensures },
+        refl,
       );
       no = λ e. absurd (false≢true (sym e ∙ u .before .before .if1 .taken));
     }
@@ -38,4 +35,4 @@ returns-2 c = record {
 }
 
 pub concerns-spec : {M : Type 1} → statement M
-concerns-spec = tie.close (tie.spec upto-requires defaults-taken-requires returns returns-2)
+concerns-spec = tie.close (tie.spec upto-requires returns returns-2)

@@ -1,7 +1,8 @@
+-- `Units::has`: a search through the first blocks.
 use mathlib.Core.Path.{_≡_, refl, sym, _∙_}
 use Prim.Native.Nat.{_≤_, _-_, zero-le}
 use native.Mathlib.Omega.{arith}
-use lib.ListN.{length, take, drop}
+use lib.ListN.{take, drop}
 use lib.Dec.{eqb}
 use borrow.Author.Tests.{eq-eqb, ne-eqb}
 use borrow.Author.Needs.{needs}
@@ -9,8 +10,6 @@ use Rattle.records.specs.Sets.{anyOf}
 use Rattle.listing.proofs.UnitLaws.{any-here, any-on, any-end}
 use Rattle.listing.proofs.units.Units.has.Statement.{statement}
 use Rattle.listing.proofs.units.Units.has.Tie as tie
-use Rattle.listing.proofs.units.Units.has.Reads as reads
-use Rattle.listing.proofs.units.Units.has.Lts as lts
 
 abbrev Inv-loop : tie.InvT-loop
 Inv-loop block self i₀ i = (i ≤ self .count) × (anyOf (eqb block) (drop i (take (self .count) (self .blocks))) ≡ anyOf (eqb block) (take (self .count) (self .blocks)))
@@ -18,33 +17,26 @@ Inv-loop block self i₀ i = (i ≤ self .count) × (anyOf (eqb block) (drop i (
 abbrev μ-loop : tie.MeasureT-loop
 μ-loop block self i₀ i = self .count - i
 
--- src/units.rt:35:9
 loop-holds : tie.Need-loop-holds Inv-loop μ-loop
 loop-holds c = (zero-le, refl)
 
--- src/units.rt:36:16
 mul-if1 : tie.Need-mul-if1 Inv-loop μ-loop
 mul-if1 c = search needs
 
--- src/units.rt:36:16
 element-copy-out-if1 : tie.Need-element-copy-out-if1 Inv-loop μ-loop
 element-copy-out-if1 c = search needs
 
--- src/units.rt:37:17
 returns : tie.Need-returns Inv-loop μ-loop
 returns c =
     let s = c .before .before .before .before in
     sym (any-here _ _ _ (omega (arith, s .pre)) _ (c .before .before .loop-test .taken) (eq-eqb _ _ (sym (c .if1 .taken)))) ∙ c .before .before .before .loop .inv .1
 
--- src/units.rt:39:13
 add-i : tie.Need-add-i Inv-loop μ-loop
 add-i c = search needs
 
--- src/units.rt:35:9
 loop-less : tie.Need-loop-less Inv-loop μ-loop
 loop-less c = search needs
 
--- src/units.rt:35:9
 loop-again : tie.Need-loop-again Inv-loop μ-loop
 loop-again c =
     let s = c .before .before .before .before in (
@@ -52,7 +44,6 @@ loop-again c =
       sym (any-on _ _ _ (omega (arith, s .pre)) _ (c .before .before .loop-test .taken) (ne-eqb _ _ (λ e. c .if1 .left (sym e)))) ∙ c .before .before .before .loop .inv .1,
     )
 
--- src/units.rt:30:5
 returns-2 : tie.Need-returns-2 Inv-loop μ-loop
 returns-2 c = sym (any-end _ _ _ (let s = c .before .before in omega (arith, s .pre)) _ (c .loop-test .left)) ∙ c .before .loop .inv .1
 
