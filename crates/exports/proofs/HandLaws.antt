@@ -2,7 +2,7 @@
 use mathlib.Core.Path.{_≡_, ap, ap₂, _∙_}
 use mathlib.Core.List.{List}
 use Prim.Native.Nat.{ℕ}
-use Rattle.report.specs.Operations.{told, Outcome}
+use Rattle.report.specs.paper.Operations.{told, Outcome}
 use Rattle.report.specs.declared.Answer.{Answer}
 use Rattle.exports.specs.Handed.{numbers, Handed, handed}
 

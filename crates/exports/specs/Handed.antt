@@ -1,7 +1,7 @@
 -- What an operation hands to a host: a result, document 01's numbers in a list, the bytes of both lent buffers.
 use mathlib.Core.List.{List, [], _∷_}
 use Prim.Native.Nat.{ℕ}
-use Rattle.report.specs.Operations.{Told, told, Outcome}
+use Rattle.report.specs.paper.Operations.{Told, told, Outcome}
 
 unfoldable pub numbers : Told → List ℕ
 numbers t = t .refusal ∷ t .«record» ∷ t .count ∷ t .maximum ∷ t .lines ∷ t .events ∷ t .worlds ∷ []

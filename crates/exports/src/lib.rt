@@ -7,7 +7,7 @@ use report::operations::show;
 use tell::tell;
 ghost use mathlib.Core.Path.{_≡_};
 ghost use lib.ListN.{length};
-ghost use Rattle.report.specs.Operations.{told as toldOf, check as checkOf, answer as answerOf, show as showOf};
+ghost use Rattle.report.specs.paper.Operations.{told as toldOf, check as checkOf, answer as answerOf, show as showOf};
 ghost use Rattle.exports.specs.Handed.{numbers, handed};
 
 // Check a plan: the refusal's number, 0 for none. The seven numbers of document 01 go behind the reference.

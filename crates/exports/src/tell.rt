@@ -1,7 +1,7 @@
 // An answer as document 01's numbers.
 use report::Answer;
 ghost use mathlib.Core.Path.{_≡_};
-ghost use Rattle.report.specs.Operations.{told as toldOf};
+ghost use Rattle.report.specs.paper.Operations.{told as toldOf};
 ghost use Rattle.exports.specs.Handed.{numbers};
 
 // Refusal, record, count, maximum, lines, events and worlds; the result is the refusal's number.

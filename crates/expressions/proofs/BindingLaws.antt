@@ -5,9 +5,9 @@ use mathlib.Core.List.{[]}
 use Prim.Native.Nat.{ℕ}
 use lib.ListN.{length}
 use borrow.Author.Tests.{ne-eqb}
-use Rattle.records.specs.Plan.{Plan}
-use Rattle.records.specs.Case.{Case}
-use Rattle.expressions.specs.Bindings.{unknown, weighed, boundBoolean, boundRelation, inScope, observed, saidUnknown, byDefault, defaultOf, elections, inFamily}
+use Rattle.records.specs.paper.Plan.{Plan}
+use Rattle.records.specs.paper.Case.{Case}
+use Rattle.expressions.specs.paper.Bindings.{unknown, weighed, boundBoolean, boundRelation, inScope, observed, saidUnknown, byDefault, defaultOf, elections, inFamily}
 
 -- explicit unknown is Unknown: no observation and no default overrides it
 pub explicit-unknown : (P : Plan) (C : Case) (f : ℕ) → (length (saidUnknown C f) ≡ 0 → ⊥) → boundBoolean P C f ≡ unknown

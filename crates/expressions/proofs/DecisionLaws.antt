@@ -10,19 +10,19 @@ use lib.ListN.{length, getD, set}
 use lib.Seq.{getD-set-same, getD-set-other}
 use lib.Dec.{eqb}
 use borrow.Author.Tests.{eq-eqb, ne-eqb}
-use Rattle.records.specs.Sets.{union, below, numbers, anyOf}
-use Rattle.records.specs.Sound.{All}
-use Rattle.records.specs.Decoded.{cutOf, edgeOf}
+use Rattle.records.specs.paper.Sets.{union, below, numbers, anyOf}
+use Rattle.records.specs.promises.Sound.{All}
+use Rattle.records.specs.code.Decoded.{cutOf, edgeOf}
 use Rattle.records.specs.declared.plan.Cut.{Cut}
 use Rattle.records.specs.declared.plan.Edge.{Edge}
 use Rattle.records.specs.declared.plan.Cuts.{Cuts}
 use Rattle.records.specs.declared.plan.Edges.{Edges}
 use Rattle.records.proofs.LoopLaws.{all-at, getD-below, length-below}
-use Rattle.expressions.specs.Coded.{cutsOf, edgesOf}
-use Rattle.expressions.specs.Listed.{endsOf, cutHolds}
+use Rattle.expressions.specs.code.Coded.{cutsOf, edgesOf}
+use Rattle.expressions.specs.code.Listed.{endsOf, cutHolds}
 use Rattle.expressions.specs.declared.decisions.Undecided.{Undecided}
-use Rattle.expressions.specs.Influence.{Open}
-use Rattle.expressions.specs.Undecided.{pairOf, openAt, opensOf, Named, openTouch}
+use Rattle.expressions.specs.paper.Influence.{Open}
+use Rattle.expressions.specs.code.Undecided.{pairOf, openAt, opensOf, Named, openTouch}
 use Rattle.records.proofs.Listing.{below-more, below-ext}
 use Rattle.expressions.proofs.ListLaws.{any-last, below-last, made-length, made-at}
 

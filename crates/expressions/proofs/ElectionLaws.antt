@@ -6,11 +6,11 @@ use Prim.Native.Nat.{ℕ, _+_, _≤_, _<_, min}
 use lib.ListN.{length, getD, take, drop, set}
 use lib.Dec.{eqb}
 use borrow.Author.Tests.{eq-eqb, ne-eqb, eqb-true, eqb-false}
-use Rattle.records.specs.Plan as paper
-use Rattle.records.specs.Decoded.{given, noElection, planOf, cutOf, attachmentOf, electionOf}
+use Rattle.records.specs.paper.Plan as paper
+use Rattle.records.specs.code.Decoded.{given, noElection, planOf, cutOf, attachmentOf, electionOf}
 use Rattle.records.specs.declared.plan.Election.{Election}
 use Rattle.records.specs.declared.plan.Plan.{Plan}
-use Rattle.expressions.specs.Bindings.{elections, electionsIn, defaultOf}
+use Rattle.expressions.specs.paper.Bindings.{elections, electionsIn, defaultOf}
 use Rattle.expressions.proofs.ListLaws.{flat-append, changed-at}
 use Rattle.expressions.proofs.Rests.{made-next, made-none}
 

@@ -6,18 +6,18 @@ use Prim.Native.Nat.{ℕ, _+_, _≤_, _<_}
 use lib.ListN.{getD, drop}
 use lib.Dec.{eqb}
 use borrow.Author.Tests.{eq-eqb, ne-eqb}
-use Rattle.records.specs.Sets.{one, union, unionOf, setOf}
-use Rattle.records.specs.Case as paper
-use Rattle.records.specs.Case.{Case, Observation}
-use Rattle.records.specs.Sound.{All, SoundObservation, SoundBoolean, SoundRelation}
-use Rattle.records.specs.Decoded.{observationsOf, booleanOf, relationOf}
+use Rattle.records.specs.paper.Sets.{one, union, unionOf, setOf}
+use Rattle.records.specs.paper.Case as paper
+use Rattle.records.specs.paper.Case.{Case, Observation}
+use Rattle.records.specs.promises.Sound.{All, SoundObservation, SoundBoolean, SoundRelation}
+use Rattle.records.specs.code.Decoded.{observationsOf, booleanOf, relationOf}
 use Rattle.records.specs.declared.case.Observations.{Observations}
 use Rattle.records.specs.declared.case.Boolean.{Boolean}
 use Rattle.records.specs.declared.case.Relation.{Relation}
 use Rattle.records.proofs.LoopLaws.{all-at, getD-below, length-below}
 use Rattle.records.proofs.Every.{all-then}
-use Rattle.expressions.specs.Bindings.{observedInBooleans, observedInRelations, unknownIn, saidUnknown, evidenceOf}
-use Rattle.expressions.specs.Evident.{evidenceMark, Evident, EvidentBoolean, EvidentRelation, ReadCase}
+use Rattle.expressions.specs.paper.Bindings.{observedInBooleans, observedInRelations, unknownIn, saidUnknown, evidenceOf}
+use Rattle.expressions.specs.code.Evident.{evidenceMark, Evident, EvidentBoolean, EvidentRelation, ReadCase}
 use Rattle.expressions.proofs.Rests.{below-next, below-none}
 use Rattle.expressions.proofs.UnionLaws.{union-none, union-append, union-flat, set-union}
 

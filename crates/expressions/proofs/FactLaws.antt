@@ -4,14 +4,14 @@ use mathlib.Core.Bool.{true, false}
 use mathlib.Core.List.{List, [], _∷_, map}
 use Prim.Native.Nat.{ℕ, zero, suc, _+_, _<_}
 use lib.ListN.{length, getD, set, replicate, length-map, List·getD-map}
-use Rattle.records.specs.Sets.{has, below, numbers}
-use Rattle.expressions.specs.Codes.{boundOf}
-use Rattle.expressions.specs.Coded.{Holds}
-use Rattle.records.specs.Plan as paper
-use Rattle.records.specs.Plan.{getFact, isBoolean}
-use Rattle.records.specs.Case.{Case, caseHeading}
-use Rattle.expressions.specs.Bindings.{Bound, unbound, bindingBy, boundBoolean, boundRelation, inScope, scoped, inFamily, observed, tookDefaultBy, tookDefault, bindings, bindingsBy, bindingOf, frameOf}
-use Rattle.expressions.specs.Influence.{boundFacts}
+use Rattle.records.specs.paper.Sets.{has, below, numbers}
+use Rattle.expressions.specs.code.Codes.{boundOf}
+use Rattle.expressions.specs.code.Coded.{Holds}
+use Rattle.records.specs.paper.Plan as paper
+use Rattle.records.specs.paper.Plan.{getFact, isBoolean}
+use Rattle.records.specs.paper.Case.{Case, caseHeading}
+use Rattle.expressions.specs.paper.Bindings.{Bound, unbound, bindingBy, boundBoolean, boundRelation, inScope, scoped, inFamily, observed, tookDefaultBy, tookDefault, bindings, bindingsBy, bindingOf, frameOf}
+use Rattle.expressions.specs.paper.Influence.{boundFacts}
 use Rattle.expressions.proofs.ListLaws.{filled-at, fill-next}
 
 module _ (P : paper.Plan) (C : Case) (set f : ℕ) where

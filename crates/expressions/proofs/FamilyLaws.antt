@@ -7,13 +7,13 @@ use lib.ListN.{length, getD, take, drop}
 use native.Mathlib.Omega.{arith}
 use lib.Dec.{eqb}
 use borrow.Author.Tests.{eq-eqb, ne-eqb}
-use Rattle.records.specs.Sets.{allOf}
-use Rattle.records.specs.Case as paper
-use Rattle.records.specs.Case.{Observation}
-use Rattle.records.specs.Decoded.{familyOf}
+use Rattle.records.specs.paper.Sets.{allOf}
+use Rattle.records.specs.paper.Case as paper
+use Rattle.records.specs.paper.Case.{Observation}
+use Rattle.records.specs.code.Decoded.{familyOf}
 use Rattle.records.specs.declared.case.Family.{Family}
-use Rattle.expressions.specs.Bindings.{scoped, unknown, known, weighed, inFamily}
-use Rattle.expressions.specs.Codes.{boundOf, silentCode}
+use Rattle.expressions.specs.paper.Bindings.{scoped, unknown, known, weighed, inFamily}
+use Rattle.expressions.specs.code.Codes.{boundOf, silentCode}
 use Rattle.expressions.proofs.Rests.{made-next, made-none}
 
 -- ---- one record more

@@ -2,10 +2,10 @@
 use Prim.Native.Nat.{ℕ, suc}
 use mathlib.Core.List.{List, [], _∷_}
 use native.Mathlib.Omega.{arith}
-use Rattle.records.specs.Plan.{Plan, Node, literal, fact, conj, disj, neg}
-use Rattle.records.specs.Sound.{All, Sound, SoundFact, SoundNode, SoundNodes, SoundEdge, SoundAttachment, SoundStatus}
+use Rattle.records.specs.paper.Plan.{Plan, Node, literal, fact, conj, disj, neg}
+use Rattle.records.specs.promises.Sound.{All, Sound, SoundFact, SoundNode, SoundNodes, SoundEdge, SoundAttachment, SoundStatus}
 use Rattle.records.proofs.Every.{all-then}
-use Rattle.expressions.specs.Coded.{TupleFits, FactFits, EndsFit, AnchorFits, PersonFits}
+use Rattle.expressions.specs.code.Coded.{TupleFits, FactFits, EndsFit, AnchorFits, PersonFits}
 
 module _ (P : Plan) (sound : Sound P) where
   node-fits : (k : ℕ) (n : Node) → SoundNode P k n → FactFits n

@@ -4,12 +4,12 @@ use mathlib.Core.Bool.{Bool, true, _&&_, _||_, not}
 use mathlib.Core.List.{List, [], _∷_, _++_}
 use Prim.Native.Nat.{ℕ, zero, suc}
 use lib.ListN.{getD}
-use Rattle.records.specs.Sets.{has, union, allOf, anyOf, unionOf}
-use Rattle.records.specs.Plan.{Plan, Node, literal, fact, conj, disj, neg}
+use Rattle.records.specs.paper.Sets.{has, union, allOf, anyOf, unionOf}
+use Rattle.records.specs.paper.Plan.{Plan, Node, literal, fact, conj, disj, neg}
 use Rattle.records.proofs.SetLaws.{in-union-l, in-union-r}
 use Rattle.records.proofs.Closing.{in-one}
-use Rattle.expressions.specs.Nodes.{on, value, valuesFrom, values, uses, usesFrom, nodeUses}
-use Rattle.expressions.specs.Influence.{usesAt}
+use Rattle.expressions.specs.paper.Nodes.{on, value, valuesFrom, values, uses, usesFrom, nodeUses}
+use Rattle.expressions.specs.paper.Influence.{usesAt}
 
 -- two sets of true facts that are alike on the facts of u
 pub record On (u v w : ℕ) : Type 0 where

@@ -7,17 +7,17 @@ use native.Mathlib.Nat.{lt-of-lt-of-le}
 use native.Mathlib.Omega.{arith}
 use lib.ListN.{length, take}
 use lib.Seq.{length-take-le, getD-take}
-use Rattle.records.specs.Sets.{has, only, closeOf, below}
+use Rattle.records.specs.paper.Sets.{has, only, closeOf, below}
 use Rattle.records.proofs.SetLaws.{Within, has-not, has-none}
 use Rattle.records.proofs.Listing.{below-ext}
 use Rattle.records.proofs.Closing.{Closed, close-within, close-closed}
-use Rattle.expressions.specs.Rules.{ruleSets}
-use Rattle.expressions.specs.Influence.{Frame, touch, decisionTouch}
-use Rattle.expressions.specs.Bindings.{Bound, bindingAt}
-use Rattle.expressions.specs.Influences.{closed, closedIf, influenceBy}
+use Rattle.expressions.specs.paper.Rules.{ruleSets}
+use Rattle.expressions.specs.paper.Influence.{Frame, touch, decisionTouch}
+use Rattle.expressions.specs.paper.Bindings.{Bound, bindingAt}
+use Rattle.expressions.specs.code.Influences.{closed, closedIf, influenceBy}
 use Rattle.expressions.specs.declared.reach.Reach.{Reach}
 use Rattle.expressions.proofs.ListLaws.{used-take}
-use Rattle.expressions.specs.Variables.{isVariable, factInfluence, decisionInfluence}
+use Rattle.expressions.specs.paper.Variables.{isVariable, factInfluence, decisionInfluence}
 
 -- of the front of a list
 closed-front : (groups : List ℕ) (wanted : ℕ) (xs : List ℕ) (n : ℕ) → n ≤ length xs

@@ -6,11 +6,11 @@ use mathlib.Core.List.{List, [], _∷_, _++_}
 use native.Mathlib.Nat.{add-zero}
 use native.Mathlib.Omega.{arith}
 use lib.ListN.{length, getD, set, length-append}
-use Rattle.records.specs.Plan.{Node, literal, fact, conj, disj, neg}
-use Rattle.records.specs.Decoded.{nodeBy, planOf}
+use Rattle.records.specs.paper.Plan.{Node, literal, fact, conj, disj, neg}
+use Rattle.records.specs.code.Decoded.{nodeBy, planOf}
 use Rattle.records.specs.declared.plan.Plan.{Plan}
-use Rattle.expressions.specs.Nodes.{on, value, values, valuesFrom, uses, usesFrom, nodeUses}
-use Rattle.expressions.specs.Coded.{Holds, nodesOf}
+use Rattle.expressions.specs.paper.Nodes.{on, value, values, valuesFrom, uses, usesFrom, nodeUses}
+use Rattle.expressions.specs.code.Coded.{Holds, nodesOf}
 use Rattle.expressions.proofs.ListLaws.{all-agree, any-agree, holds-next}
 use Rattle.expressions.proofs.UnionLaws.{union-agree}
 

@@ -11,15 +11,15 @@ use lib.ListN.{length, getD, take, length-append}
 use lib.Seq.{take-suc, take-length}
 use lib.Dec.{eqb}
 use borrow.Author.Tests.{eqb-true, ne-eqb}
-use Rattle.records.specs.Sets.{below, anyOf}
-use Rattle.records.specs.Plan.{Plan, Decision, Cut, unresolvedIn, unresolved}
-use Rattle.records.specs.Sound.{All, Sound}
+use Rattle.records.specs.paper.Sets.{below, anyOf}
+use Rattle.records.specs.paper.Plan.{Plan, Decision, Cut, unresolvedIn, unresolved}
+use Rattle.records.specs.promises.Sound.{All, Sound}
 use Rattle.records.proofs.LoopLaws.{length-below, all-append}
 use Rattle.records.proofs.DecisionLaws.{unresolved-more}
-use Rattle.expressions.specs.Listed.{endsOf}
-use Rattle.expressions.specs.Rules.{pair, edge, cut, cutCount, edgeCount}
-use Rattle.expressions.specs.Influence.{Open, openIn, openBelow, openDecisions, openDecision, decisionTouch}
-use Rattle.expressions.specs.Undecided.{decides, pairOf, openAt, opensOf, openOf, openAll, Named, openTouch}
+use Rattle.expressions.specs.code.Listed.{endsOf}
+use Rattle.expressions.specs.paper.Rules.{pair, edge, cut, cutCount, edgeCount}
+use Rattle.expressions.specs.paper.Influence.{Open, openIn, openBelow, openDecisions, openDecision, decisionTouch}
+use Rattle.expressions.specs.code.Undecided.{decides, pairOf, openAt, opensOf, openOf, openAll, Named, openTouch}
 use Rattle.expressions.specs.declared.decisions.Undecided.{Undecided}
 use Rattle.expressions.proofs.ListLaws.{length-if}
 use Rattle.expressions.proofs.RuleLaws.{below-list}

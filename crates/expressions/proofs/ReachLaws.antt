@@ -5,21 +5,21 @@ use mathlib.Core.List.{List, [], _∷_, _++_}
 use native.Mathlib.Omega.{arith}
 use lib.ListN.{length, take, length-take}
 use lib.Seq.{getD-take}
-use Rattle.records.specs.Sets.{has, only, closeOf, below}
+use Rattle.records.specs.paper.Sets.{has, only, closeOf, below}
 use Rattle.records.proofs.LoopLaws.{getD-below}
 use Rattle.records.proofs.Listing.{below-ext}
-use Rattle.records.specs.Case.{CaseHeading, caseHeading}
-use Rattle.records.specs.Decoded.{planOf, caseOf, caseHeadingOf}
+use Rattle.records.specs.paper.Case.{CaseHeading, caseHeading}
+use Rattle.records.specs.code.Decoded.{planOf, caseOf, caseHeadingOf}
 use Rattle.records.specs.declared.plan.Plan.{Plan}
 use Rattle.records.specs.declared.case.Case.{Case}
-use Rattle.expressions.specs.Rules.{factCount, ruleSets}
-use Rattle.expressions.specs.Influence.{Frame, touch, touches, decisionCount, decisionTouch, decisionTouches, openDecisions, joins}
-use Rattle.expressions.specs.Coded.{frameBy}
-use Rattle.expressions.specs.Bindings.{Bound, bindingAt, frameOf}
-use Rattle.expressions.specs.Variables.{isVariable, factInfluence, decisionInfluence, influence}
-use Rattle.expressions.specs.Listed.{usedAt}
-use Rattle.expressions.specs.Reached.{Reached}
-use Rattle.expressions.specs.Influences.{closed, closedIf, influenceBy}
+use Rattle.expressions.specs.paper.Rules.{factCount, ruleSets}
+use Rattle.expressions.specs.paper.Influence.{Frame, touch, touches, decisionCount, decisionTouch, decisionTouches, openDecisions, joins}
+use Rattle.expressions.specs.code.Coded.{frameBy}
+use Rattle.expressions.specs.paper.Bindings.{Bound, bindingAt, frameOf}
+use Rattle.expressions.specs.paper.Variables.{isVariable, factInfluence, decisionInfluence, influence}
+use Rattle.expressions.specs.code.Listed.{usedAt}
+use Rattle.expressions.specs.code.Reached.{Reached}
+use Rattle.expressions.specs.code.Influences.{closed, closedIf, influenceBy}
 use Rattle.expressions.specs.declared.reach.Reach.{Reach}
 use Rattle.expressions.proofs.OpenLaws.{opens-number}
 

@@ -6,10 +6,10 @@ use native.Mathlib.Nat.{add-zero, add-assoc, le-refl}
 use native.Mathlib.Omega.{arith}
 use lib.ListN.{length, getD, length-append}
 use lib.Seq.{take-length}
-use Rattle.records.specs.Sets.{below}
-use Rattle.records.specs.Plan.{Plan}
-use Rattle.expressions.specs.Rules.{ruleSets, pair, span, edge, cut, attachment, bar}
-use Rattle.expressions.specs.Listed.{Rules, lists, Added, usesOf, personsOf, endsOf, spanOf, cutHolds, barHolds}
+use Rattle.records.specs.paper.Sets.{below}
+use Rattle.records.specs.paper.Plan.{Plan}
+use Rattle.expressions.specs.paper.Rules.{ruleSets, pair, span, edge, cut, attachment, bar}
+use Rattle.expressions.specs.code.Listed.{Rules, lists, Added, usesOf, personsOf, endsOf, spanOf, cutHolds, barHolds}
 use Rattle.expressions.proofs.ListLaws.{below-map, front-below}
 
 pub added-none : (r : Rules) → Added r r [] []

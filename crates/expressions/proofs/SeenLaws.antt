@@ -6,15 +6,15 @@ use Prim.Native.Nat.{ℕ, _+_, _≤_, _<_, min}
 use lib.ListN.{length, getD, take, drop}
 use lib.Dec.{eqb, eqb·suc-zero}
 use borrow.Author.Tests.{eqb-true, eqb-false, eq-eqb, ne-eqb}
-use Rattle.records.specs.Sets.{allOf, below}
-use Rattle.records.specs.Case as paper
-use Rattle.records.specs.Case.{Observation}
-use Rattle.records.specs.Decoded.{observationsOf, booleanOf, relationOf}
+use Rattle.records.specs.paper.Sets.{allOf, below}
+use Rattle.records.specs.paper.Case as paper
+use Rattle.records.specs.paper.Case.{Observation}
+use Rattle.records.specs.code.Decoded.{observationsOf, booleanOf, relationOf}
 use Rattle.records.specs.declared.case.Boolean.{Boolean}
 use Rattle.records.specs.declared.case.Relation.{Relation}
 use Rattle.expressions.specs.declared.observations.Seen.{Seen}
-use Rattle.expressions.specs.Bindings.{Bound, known, conflict, just, both, sameObservation, valuesSeen, weighed, observedInBooleans, observedInRelations, unknownIn}
-use Rattle.expressions.specs.Seen.{nothing, lookAt, lookAll, boundBy}
+use Rattle.expressions.specs.paper.Bindings.{Bound, known, conflict, just, both, sameObservation, valuesSeen, weighed, observedInBooleans, observedInRelations, unknownIn}
+use Rattle.expressions.specs.code.Seen.{nothing, lookAt, lookAll, boundBy}
 use Rattle.expressions.proofs.Rests.{below-next, below-none, made-next, made-none}
 
 pub look-append : (s : Seen) (xs ys : List Observation) → lookAll s (xs ++ ys) ≡ lookAll (lookAll s xs) ys

@@ -7,15 +7,15 @@ use mathlib.Core.Logic.{_⊎_, inl, inr}
 use Prim.Native.Nat.{ℕ, _≤_, _<_}
 use lib.Dec.{eqb}
 use borrow.Author.Tests.{eqb-true}
-use Rattle.records.specs.Sets.{has, one, union, only, closeOf}
-use Rattle.records.specs.Plan.{Plan}
+use Rattle.records.specs.paper.Sets.{has, one, union, only, closeOf}
+use Rattle.records.specs.paper.Plan.{Plan}
 use Rattle.records.proofs.SetLaws.{has-union, has-none, has-one, lt-or-le}
 use Rattle.records.proofs.Local.{which, clash, Outside, Side, inside, outside, Twin, near, far, Twins, in-only, out-only, out-not, twin-near, twins-append, twins-below, close-in, close-out}
-use Rattle.expressions.specs.Rules.{factCount, ruleSets}
-use Rattle.expressions.specs.Nodes.{on, values}
-use Rattle.expressions.specs.Influence.{Frame, constraintUses, touch, touchesCircle, decisionCount, decisionTouch, usesAt}
-use Rattle.expressions.specs.Bindings.{Choice, just, both, Bound, bindingAt}
-use Rattle.expressions.specs.Variables.{Slot, fact, decision, choices, isVariable, choice, Values, set, choose, valuations, admissible, factInfluence, decisionInfluence, influence}
+use Rattle.expressions.specs.paper.Rules.{factCount, ruleSets}
+use Rattle.expressions.specs.paper.Nodes.{on, values}
+use Rattle.expressions.specs.paper.Influence.{Frame, constraintUses, touch, touchesCircle, decisionCount, decisionTouch, usesAt}
+use Rattle.expressions.specs.paper.Bindings.{Choice, just, both, Bound, bindingAt}
+use Rattle.expressions.specs.paper.Variables.{Slot, fact, decision, choices, isVariable, choice, Values, set, choose, valuations, admissible, factInfluence, decisionInfluence, influence}
 use Rattle.expressions.proofs.Follow.{all-follows, node-follows}
 use Rattle.expressions.proofs.Circles.{Circle, in-circle, uncrossed, fact-side, decision-side, touching, touch-roster}
 

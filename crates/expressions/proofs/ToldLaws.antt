@@ -7,11 +7,11 @@ use native.Mathlib.Omega.{arith}
 use lib.ListN.{length, getD, take}
 use lib.Dec.{eqb, ltb}
 use borrow.Author.Tests.{eqb-true, eqb-false, ltb-true}
-use Rattle.records.specs.Sets.{has, below}
-use Rattle.records.specs.Plan as paper
-use Rattle.records.specs.Plan.{getFact, isBoolean}
-use Rattle.records.specs.Case.{Case, Family, caseHeading}
-use Rattle.records.specs.Decoded.{noElection, planOf, caseOf, factOf, familyOf, electionOf}
+use Rattle.records.specs.paper.Sets.{has, below}
+use Rattle.records.specs.paper.Plan as paper
+use Rattle.records.specs.paper.Plan.{getFact, isBoolean}
+use Rattle.records.specs.paper.Case.{Case, Family, caseHeading}
+use Rattle.records.specs.code.Decoded.{noElection, planOf, caseOf, factOf, familyOf, electionOf}
 use Rattle.records.specs.declared.plan.Fact.{Fact}
 use Rattle.records.specs.declared.plan.Plan.{Plan as CodedPlan}
 use Rattle.records.specs.declared.plan.Facts.{Facts}
@@ -19,11 +19,11 @@ use Rattle.records.specs.declared.case.Case.{Case as CodedCase}
 use Rattle.records.specs.declared.case.Families.{Families}
 use Rattle.records.proofs.NamingLaws.{boolean-of, family-of}
 use Rattle.records.proofs.Listing.{below-ext}
-use Rattle.expressions.specs.Rules.{factCount}
-use Rattle.expressions.specs.Bindings.{Bound, unbound, unknown, observed, saidUnknown, elections, byDefault, defaultOf, scoped, inFamily, boundBoolean, bindingBy, bindingsBy, bindingAt, tookDefaultBy}
-use Rattle.expressions.specs.Seen.{nothing, boundBy}
-use Rattle.expressions.specs.Codes.{boundOf, silentCode}
-use Rattle.expressions.specs.Told.{Tells, booleanBy, relationBy, bindingFrom, defaultFrom}
+use Rattle.expressions.specs.paper.Rules.{factCount}
+use Rattle.expressions.specs.paper.Bindings.{Bound, unbound, unknown, observed, saidUnknown, elections, byDefault, defaultOf, scoped, inFamily, boundBoolean, bindingBy, bindingsBy, bindingAt, tookDefaultBy}
+use Rattle.expressions.specs.code.Seen.{nothing, boundBy}
+use Rattle.expressions.specs.code.Codes.{boundOf, silentCode}
+use Rattle.expressions.specs.code.Told.{Tells, booleanBy, relationBy, bindingFrom, defaultFrom}
 use Rattle.expressions.specs.declared.observations.Seen.{Seen}
 use Rattle.expressions.specs.declared.observations.Sights.{Sights}
 use Rattle.expressions.specs.declared.elections.Elected.{Elected}

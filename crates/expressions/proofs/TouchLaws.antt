@@ -3,12 +3,12 @@ use Prim.Native.Nat.{ℕ, zero, suc}
 use mathlib.Core.Path.{_≡_, refl, sym, ap, ap₂, _∙_, subst, fun-ext}
 use mathlib.Core.List.{List, [], _∷_, _++_, map, append-assoc}
 use lib.ListN.{length, getD}
-use Rattle.records.specs.Sets.{has, one, union, only, setOf, below, numbers, unionBelow, unionOf}
-use Rattle.records.specs.Plan.{getFact}
-use Rattle.expressions.specs.Rules.{edge, cut, attachment, bar, status, pair, span}
-use Rattle.expressions.specs.Influence.{Frame, usesAt, edgeUses, cutUses, attachmentUses, barUses, statusUses, usersOf, constraintUses, boundFacts, touched, touch, touches}
-use Rattle.expressions.specs.Listed.{endsOf, spanOf, edgeUsed, cutUsed, cutHolds, attachmentUsed, barUsed, barHolds, statusUsed, statusHolds, joiningUses, ruleUses, rulePersons, usersIn, touchedBy, touchBy, touchesBy}
-use Rattle.expressions.specs.Coded.{Holds}
+use Rattle.records.specs.paper.Sets.{has, one, union, only, setOf, below, numbers, unionBelow, unionOf}
+use Rattle.records.specs.paper.Plan.{getFact}
+use Rattle.expressions.specs.paper.Rules.{edge, cut, attachment, bar, status, pair, span}
+use Rattle.expressions.specs.paper.Influence.{Frame, usesAt, edgeUses, cutUses, attachmentUses, barUses, statusUses, usersOf, constraintUses, boundFacts, touched, touch, touches}
+use Rattle.expressions.specs.code.Listed.{endsOf, spanOf, edgeUsed, cutUsed, cutHolds, attachmentUsed, barUsed, barHolds, statusUsed, statusHolds, joiningUses, ruleUses, rulePersons, usersIn, touchedBy, touchBy, touchesBy}
+use Rattle.expressions.specs.code.Coded.{Holds}
 use Rattle.expressions.proofs.ListLaws.{below-last}
 use Rattle.expressions.proofs.UnionLaws.{union-assoc, union-none, none-union, union-append}
 use Rattle.expressions.proofs.RuleLaws.{below-list, rule-sets}

@@ -11,11 +11,11 @@ ghost use mathlib.Core.List.{List, [], map};
 ghost use Prim.Native.Nat.{ℕ, _<_};
 ghost use lib.Dec.{eqb};
 ghost use lib.ListN.{length, take};
-ghost use Rattle.records.specs.Sets.{anyOf};
-ghost use Rattle.records.specs.Fields.{fine, firstFault};
-ghost use Rattle.records.specs.Decoded.{caseOf, familyOf, booleanOf, observationsOf};
-ghost use Rattle.records.specs.Check.{checkedOf};
-ghost use Rattle.expressions.specs.Bindings.{familyFaults, booleanFaults, bindable as bindableCase};
+ghost use Rattle.records.specs.paper.Sets.{anyOf};
+ghost use Rattle.records.specs.paper.Fields.{fine, firstFault};
+ghost use Rattle.records.specs.code.Decoded.{caseOf, familyOf, booleanOf, observationsOf};
+ghost use Rattle.records.specs.code.Check.{checkedOf};
+ghost use Rattle.expressions.specs.paper.Bindings.{familyFaults, booleanFaults, bindable as bindableCase};
 
 // Whether a number is among these.
 fn appears(numbers: &[u8], number: u8) -> bool

@@ -19,14 +19,14 @@ ghost use mathlib.Core.List.{List, [], _∷_, map};
 ghost use Prim.Native.Nat.{ℕ};
 ghost use lib.Dec.{eqb, ltb};
 ghost use lib.ListN.{length, getD, take};
-ghost use Rattle.records.specs.Sets.{has};
-ghost use Rattle.records.specs.Case.{caseHeading};
-ghost use Rattle.records.specs.Decoded.{planOf, caseOf, electionOf, familyOf};
-ghost use Rattle.expressions.specs.Rules.{factCount};
-ghost use Rattle.expressions.specs.Bindings.{byDefault, defaultOf, scoped, bindingsBy, bindingAt, tookDefaultBy};
-ghost use Rattle.expressions.specs.Seen.{boundBy};
-ghost use Rattle.expressions.specs.Codes.{boundOf, silentCode};
-ghost use Rattle.expressions.specs.Told.{booleanBy, relationBy, bindingFrom, defaultFrom, BindsFacts};
+ghost use Rattle.records.specs.paper.Sets.{has};
+ghost use Rattle.records.specs.paper.Case.{caseHeading};
+ghost use Rattle.records.specs.code.Decoded.{planOf, caseOf, electionOf, familyOf};
+ghost use Rattle.expressions.specs.paper.Rules.{factCount};
+ghost use Rattle.expressions.specs.paper.Bindings.{byDefault, defaultOf, scoped, bindingsBy, bindingAt, tookDefaultBy};
+ghost use Rattle.expressions.specs.code.Seen.{boundBy};
+ghost use Rattle.expressions.specs.code.Codes.{boundOf, silentCode};
+ghost use Rattle.expressions.specs.code.Told.{booleanBy, relationBy, bindingFrom, defaultFrom, BindsFacts};
 
 // What is told of a fact: its observations, whether it is said to be unknown, the first election on it.
 pub struct Told {

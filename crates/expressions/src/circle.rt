@@ -7,9 +7,9 @@ ghost use mathlib.Core.Path.{_≡_};
 ghost use mathlib.Core.List.{_++_};
 ghost use Prim.Native.Nat.{_+_, _<_, _≤_};
 ghost use lib.ListN.{length, getD, take};
-ghost use Rattle.records.specs.Sets.{one, below, closeOf};
-ghost use Rattle.expressions.specs.Joined.{joinsOf};
-ghost use Rattle.expressions.specs.Listed.{usedAt};
+ghost use Rattle.records.specs.paper.Sets.{one, below, closeOf};
+ghost use Rattle.expressions.specs.code.Joined.{joinsOf};
+ghost use Rattle.expressions.specs.code.Listed.{usedAt};
 
 // Sets of persons that are joined: by a rule, a fact or an unresolved decision.
 pub struct Joins {

@@ -11,12 +11,12 @@ ghost use mathlib.Core.Path.{_≡_};
 ghost use mathlib.Core.List.{_++_, map};
 ghost use Prim.Native.Nat.{_+_, _<_, _≤_};
 ghost use lib.ListN.{length};
-ghost use Rattle.records.specs.Sets.{below};
-ghost use Rattle.records.specs.Decoded.{decisionsOf, planOf};
-ghost use Rattle.records.specs.Sound.{All, Sound};
-ghost use Rattle.expressions.specs.Coded.{Holds, EndsFit, cutsOf, edgesOf};
-ghost use Rattle.expressions.specs.Influence.{openDecisions, decisionCount, decisionTouch};
-ghost use Rattle.expressions.specs.Undecided.{decides, opensOf, openOf, openAll, Named, openTouch};
+ghost use Rattle.records.specs.paper.Sets.{below};
+ghost use Rattle.records.specs.code.Decoded.{decisionsOf, planOf};
+ghost use Rattle.records.specs.promises.Sound.{All, Sound};
+ghost use Rattle.expressions.specs.code.Coded.{Holds, EndsFit, cutsOf, edgesOf};
+ghost use Rattle.expressions.specs.paper.Influence.{openDecisions, decisionCount, decisionTouch};
+ghost use Rattle.expressions.specs.code.Undecided.{decides, opensOf, openOf, openAll, Named, openTouch};
 
 pub struct Undecided {
     pub count: usize,

@@ -9,8 +9,8 @@ ghost use mathlib.Core.Path.{_≡_};
 ghost use mathlib.Core.List.{_++_, map};
 ghost use Prim.Native.Nat.{ℕ, _<_};
 ghost use lib.ListN.{getD, take};
-ghost use Rattle.records.specs.Decoded.{planOf, electionOf, noElection};
-ghost use Rattle.expressions.specs.Bindings.{elections, electionsIn};
+ghost use Rattle.records.specs.code.Decoded.{planOf, electionOf, noElection};
+ghost use Rattle.expressions.specs.paper.Bindings.{elections, electionsIn};
 
 fn elected_in_cuts(cuts: Cuts, fact: u8) -> Election
     ensures { λ r. ⌜ electionOf r ≡ take 1 (electionsIn (map (λ c. electionOf (c .election)) (take (cuts .count) (cuts .items))) fact) ⌝ }

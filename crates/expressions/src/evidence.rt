@@ -11,11 +11,11 @@ ghost use mathlib.Core.Path.{_≡_};
 ghost use mathlib.Core.List.{map};
 ghost use Prim.Native.Nat.{_<_};
 ghost use lib.ListN.{take};
-ghost use Rattle.records.specs.Sets.{one, union as both, unionOf, setOf};
-ghost use Rattle.records.specs.Sound.{All};
-ghost use Rattle.records.specs.Decoded.{observationsOf, booleanOf, relationOf, caseOf};
-ghost use Rattle.expressions.specs.Bindings.{observedInBooleans, observedInRelations, unknownIn, evidenceOf};
-ghost use Rattle.expressions.specs.Evident.{evidenceMark, Evident, EvidentBoolean, EvidentRelation, ReadCase};
+ghost use Rattle.records.specs.paper.Sets.{one, union as both, unionOf, setOf};
+ghost use Rattle.records.specs.promises.Sound.{All};
+ghost use Rattle.records.specs.code.Decoded.{observationsOf, booleanOf, relationOf, caseOf};
+ghost use Rattle.expressions.specs.paper.Bindings.{observedInBooleans, observedInRelations, unknownIn, evidenceOf};
+ghost use Rattle.expressions.specs.code.Evident.{evidenceMark, Evident, EvidentBoolean, EvidentRelation, ReadCase};
 
 fn mark(m: u64, e: u8) -> u64
     requires { ⌜ e < 64 ⌝ }

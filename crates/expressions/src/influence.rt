@@ -10,8 +10,8 @@ ghost use mathlib.Core.List.{_++_};
 ghost use Prim.Native.Nat.{ℕ, _+_, _<_, _≤_};
 ghost use lib.Dec.{leb};
 ghost use lib.ListN.{length, getD, take};
-ghost use Rattle.records.specs.Sets.{has, below};
-ghost use Rattle.expressions.specs.Influences.{setsOf, closedIf, influenceBy};
+ghost use Rattle.records.specs.paper.Sets.{has, below};
+ghost use Rattle.expressions.specs.code.Influences.{setsOf, closedIf, influenceBy};
 
 // The sets of the facts, then those of the unresolved decisions.
 pub struct Influence {

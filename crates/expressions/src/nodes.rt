@@ -6,12 +6,12 @@ use records::plan::Nodes;
 use records::plan::Numbers;
 use records::sets::contains;
 ghost use mathlib.Core.Path.{_≡_};
-ghost use Rattle.records.specs.Sets.{allOf, anyOf};
-ghost use Rattle.records.specs.Decoded.{numbersOf, nodeOf};
+ghost use Rattle.records.specs.paper.Sets.{allOf, anyOf};
+ghost use Rattle.records.specs.code.Decoded.{numbersOf, nodeOf};
 ghost use mathlib.Core.Bool.{false};
 ghost use mathlib.Core.List.{[]};
-ghost use Rattle.expressions.specs.Nodes.{on, value as valueOf, valuesFrom};
-ghost use Rattle.expressions.specs.Coded.{Holds, nodesOf};
+ghost use Rattle.expressions.specs.paper.Nodes.{on, value as valueOf, valuesFrom};
+ghost use Rattle.expressions.specs.code.Coded.{Holds, nodesOf};
 
 fn all_hold(children: Numbers, lower: &[bool; 256]) -> bool
     ensures { λ r. ⌜ r ≡ allOf (on (now (lower .entry))) (numbersOf children) ⌝ }

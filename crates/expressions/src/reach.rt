@@ -18,10 +18,10 @@ use records::plan::Plan;
 ghost use mathlib.Core.Path.{_≡_};
 ghost use Prim.Native.Nat.{_≤_};
 ghost use lib.ListN.{length};
-ghost use Rattle.records.specs.Sound.{Sound};
-ghost use Rattle.records.specs.Decoded.{planOf};
-ghost use Rattle.expressions.specs.Coded.{factsOf, frameBy};
-ghost use Rattle.expressions.specs.Reached.{Reached};
+ghost use Rattle.records.specs.promises.Sound.{Sound};
+ghost use Rattle.records.specs.code.Decoded.{planOf};
+ghost use Rattle.expressions.specs.code.Coded.{factsOf, frameBy};
+ghost use Rattle.expressions.specs.code.Reached.{Reached};
 
 // `count`: how many facts there are
 pub struct Reach {

@@ -16,11 +16,11 @@ ghost use mathlib.Core.Path.{_≡_};
 ghost use mathlib.Core.List.{[], _∷_, map};
 ghost use Prim.Native.Nat.{_<_, _≤_, _+_};
 ghost use lib.ListN.{length};
-ghost use Rattle.records.specs.Sets.{one};
-ghost use Rattle.records.specs.Sound.{All, Sound};
-ghost use Rattle.records.specs.Decoded.{edgeOf, attachmentOf, planOf};
-ghost use Rattle.expressions.specs.Coded.{edgesOf, cutsOf, attachmentsOf, barsOf, statusesOf, EndsFit, AnchorFits, PersonFits};
-ghost use Rattle.expressions.specs.Listed.{lists, Joining, Listed, usedAt, endsOf, spanOf, edgeUsed, cutUsed, cutHolds, attachmentUsed, barUsed, barHolds, statusUsed, statusHolds, Added};
+ghost use Rattle.records.specs.paper.Sets.{one};
+ghost use Rattle.records.specs.promises.Sound.{All, Sound};
+ghost use Rattle.records.specs.code.Decoded.{edgeOf, attachmentOf, planOf};
+ghost use Rattle.expressions.specs.code.Coded.{edgesOf, cutsOf, attachmentsOf, barsOf, statusesOf, EndsFit, AnchorFits, PersonFits};
+ghost use Rattle.expressions.specs.code.Listed.{lists, Joining, Listed, usedAt, endsOf, spanOf, edgeUsed, cutUsed, cutHolds, attachmentUsed, barUsed, barHolds, statusUsed, statusHolds, Added};
 
 // A list has its 176 entries, which a reference to it does not tell the proof. The compiler drops the call with its copy.
 fn whole(list: [u64; 176])

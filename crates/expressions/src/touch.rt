@@ -11,11 +11,11 @@ use records::sets::contains;
 use records::sets::union;
 ghost use mathlib.Core.Path.{_≡_};
 ghost use lib.ListN.{length, take};
-ghost use Rattle.records.specs.Sets.{union as both, unionOf, setOf};
-ghost use Rattle.records.specs.Sound.{All};
-ghost use Rattle.records.specs.Decoded.{factOf};
-ghost use Rattle.expressions.specs.Coded.{Holds, TupleFits, factsOf};
-ghost use Rattle.expressions.specs.Listed.{usedAt, usersIn, touchedBy, touchesBy};
+ghost use Rattle.records.specs.paper.Sets.{union as both, unionOf, setOf};
+ghost use Rattle.records.specs.promises.Sound.{All};
+ghost use Rattle.records.specs.code.Decoded.{factOf};
+ghost use Rattle.expressions.specs.code.Coded.{Holds, TupleFits, factsOf};
+ghost use Rattle.expressions.specs.code.Listed.{usedAt, usersIn, touchedBy, touchesBy};
 
 // The facts that the constraints use.
 pub fn constraint_uses(constraints: Constraints, nodes: &[u64; 256]) -> u64

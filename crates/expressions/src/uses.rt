@@ -10,11 +10,11 @@ ghost use mathlib.Core.Path.{_≡_};
 ghost use mathlib.Core.List.{[]};
 ghost use Prim.Native.Nat.{ℕ};
 ghost use lib.ListN.{getD};
-ghost use Rattle.records.specs.Sets.{unionOf};
-ghost use Rattle.records.specs.Sound.{All};
-ghost use Rattle.records.specs.Decoded.{numbersOf, nodeOf};
-ghost use Rattle.expressions.specs.Nodes.{uses, usesFrom};
-ghost use Rattle.expressions.specs.Coded.{Holds, FactFits, nodesOf};
+ghost use Rattle.records.specs.paper.Sets.{unionOf};
+ghost use Rattle.records.specs.promises.Sound.{All};
+ghost use Rattle.records.specs.code.Decoded.{numbersOf, nodeOf};
+ghost use Rattle.expressions.specs.paper.Nodes.{uses, usesFrom};
+ghost use Rattle.expressions.specs.code.Coded.{Holds, FactFits, nodesOf};
 
 // The facts that any of these nodes uses.
 pub fn used_by(nodes: Numbers, lower: &[u64; 256]) -> u64

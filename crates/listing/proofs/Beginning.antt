@@ -7,12 +7,12 @@ use native.Mathlib.Omega.{arith}
 use lib.ListN.{length, getD, take}
 use lib.Dec.{eqb, ltb}
 use borrow.Author.Tests.{ltb-false}
-use Rattle.records.specs.Sets.{allOf}
-use Rattle.records.specs.Fields.{Raw, formatOf, Verdict, fine, refused, onFine, firstFault}
-use Rattle.records.specs.Plan.{Plan, planFormats, planCounts, addToPlan, judgePlan, emptyPlan, planRecords, planFaults, checkedPlan, unresolved, factsRise, decidedOnce, headingFrom, factFrom, nodeOf, edgeOf, cutOf, attachmentOf, barFrom, statusFrom}
-use Rattle.records.specs.Case.{Case, caseFormats, caseCounts, addToCase, judgeCase, emptyCase, caseRecords, readCase, caseHeading, booleansAt, caseNamingFaults, headingOf, familyBy, booleanBy, relationBy, constraintBy}
+use Rattle.records.specs.paper.Sets.{allOf}
+use Rattle.records.specs.paper.Fields.{Raw, formatOf, Verdict, fine, refused, onFine, firstFault}
+use Rattle.records.specs.paper.Plan.{Plan, planFormats, planCounts, addToPlan, judgePlan, emptyPlan, planRecords, planFaults, checkedPlan, unresolved, factsRise, decidedOnce, headingFrom, factFrom, nodeOf, edgeOf, cutOf, attachmentOf, barFrom, statusFrom}
+use Rattle.records.specs.paper.Case.{Case, caseFormats, caseCounts, addToCase, judgeCase, emptyCase, caseRecords, readCase, caseHeading, booleansAt, caseNamingFaults, headingOf, familyBy, booleanBy, relationBy, constraintBy}
 use Rattle.records.proofs.ReadLaws.{fine-then, of-fine, to-fine}
-use Rattle.report.specs.Operations.{Opened, orStop, unlessFault, headingFault, bound, opened, answer, answerOpened}
+use Rattle.report.specs.paper.Operations.{Opened, orStop, unlessFault, headingFault, bound, opened, answer, answerOpened}
 use Rattle.listing.specs.Rooms.{recordsMost, planRoom, caseRoom}
 use Rattle.listing.specs.Listing.{listing, outcomeText}
 use Rattle.listing.proofs.Counted.{bump, joined-length, tally-bump}

@@ -8,8 +8,8 @@ use native.Mathlib.Omega.{arith}
 use lib.ListN.{length, getD, length-append}
 use lib.Dec.{eqb}
 use borrow.Author.Tests.{eq-eqb, ne-eqb}
-use Rattle.records.specs.Fields.{Format, noFormat, Raw}
-use Rattle.records.specs.Plan.{joined}
+use Rattle.records.specs.paper.Fields.{Format, noFormat, Raw}
+use Rattle.records.specs.paper.Plan.{joined}
 use Rattle.listing.specs.Rooms.{recordMost, recordsMost}
 
 -- one more of kind i, counted from 0

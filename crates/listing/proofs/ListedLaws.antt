@@ -7,13 +7,13 @@ use native.Mathlib.Omega.{arith}
 use lib.ListN.{length, length-append, length-map, replicate}
 use lib.Seq.{length-take-le}
 use lib.Dec.{ltb}
-use Rattle.records.specs.Sets.{members, membersFrom, when}
-use Rattle.report.specs.Line.{Line, lineBytes, bareLine}
-use Rattle.report.specs.LineAt.{linesFrom}
-use Rattle.report.specs.EventList.{eventLength}
+use Rattle.records.specs.paper.Sets.{members, membersFrom, when}
+use Rattle.report.specs.paper.Line.{Line, lineBytes, bareLine}
+use Rattle.report.specs.promises.LineAt.{linesFrom}
+use Rattle.report.specs.paper.EventList.{eventLength}
 use Rattle.report.specs.declared.Answer.{Answer}
 use Rattle.report.specs.declared.Answer.the-variants.{Accepted, Answered, Refused, TooManyWorlds}
-use Rattle.report.specs.Operations.{told, Opened, stopped, incomplete, ready, opened, Outcome, filled, refusal, written, linesOver, answerReady, answerOpened, answer}
+use Rattle.report.specs.paper.Operations.{told, Opened, stopped, incomplete, ready, opened, Outcome, filled, refusal, written, linesOver, answerReady, answerOpened, answer}
 use Rattle.report.proofs.LinesAt.{run, line-length}
 use Rattle.report.proofs.OpenedLaws.{OnOpened, opened-law}
 use Rattle.listing.specs.Text.{table, refusedRow}

@@ -9,7 +9,7 @@ use lib.ListN.{length, getD, take}
 use lib.Seq.{getD-take, length-take-le, take-all}
 use lib.Dec.{eqb, ltb, leb}
 use borrow.Author.Tests.{lt-ltb, lt-leb, leb-true}
-use Rattle.records.specs.Fields.{Read, got, bad, Format, noFormat, Raw, formatOf, recordAt, Verdict, fine, refused, readFrom}
+use Rattle.records.specs.paper.Fields.{Read, got, bad, Format, noFormat, Raw, formatOf, recordAt, Verdict, fine, refused, readFrom}
 use Rattle.records.proofs.ReadLaws.{OnFine}
 use Rattle.records.proofs.SetLaws.{lt-or-le}
 use mathlib.Core.Logic.{_⊎_, ⊎-elim}

@@ -5,10 +5,10 @@ use Prim.Native.Nat.{ℕ, _+_, _-_, _≤_, _<_}
 use native.Mathlib.Omega.{arith}
 use lib.ListN.{length}
 use lib.Seq.{length-take-le}
-use Rattle.records.specs.Sets.{members}
-use Rattle.report.specs.Line.{Line}
-use Rattle.report.specs.LineAt.{lineAt, decoded, linesFrom}
-use Rattle.report.specs.Units.{units}
+use Rattle.records.specs.paper.Sets.{members}
+use Rattle.report.specs.paper.Line.{Line}
+use Rattle.report.specs.promises.LineAt.{lineAt, decoded, linesFrom}
+use Rattle.report.specs.paper.Units.{units}
 use Rattle.listing.specs.Text.{feed, space, decimal, persons, cell, row, rowOf, rows, header, unitsWord, lastRow, table, refusedWord, refusedRow}
 use Rattle.listing.specs.Page.{Page, putByte, puts}
 use Rattle.listing.specs.Shown.{Shows, IsUnits}

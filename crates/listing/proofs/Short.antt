@@ -8,10 +8,10 @@ use native.Mathlib.Nat.{pow-suc}
 use lib.ListN.{length, getD, take, drop, length-append}
 use lib.Seq.{getD-take, getD-drop}
 use lib.Dec.{eqb}
-use Rattle.records.specs.Sets.{members, membersFrom, when, anyOf}
-use Rattle.report.specs.Line.{Line, lineLength}
-use Rattle.report.specs.LineAt.{lineAt, decoded, linesFrom}
-use Rattle.report.specs.Units.{joinUnit, unitsWith, units}
+use Rattle.records.specs.paper.Sets.{members, membersFrom, when, anyOf}
+use Rattle.report.specs.paper.Line.{Line, lineLength}
+use Rattle.report.specs.promises.LineAt.{lineAt, decoded, linesFrom}
+use Rattle.report.specs.paper.Units.{joinUnit, unitsWith, units}
 use Rattle.listing.specs.Text.{decimal, further, persons, cell, row, rowOf, rows, lastRow, table, refusedRow}
 use Rattle.listing.specs.Listing.{longest}
 use Rattle.listing.proofs.DecimalLaws.{digits-more, two-digits, three-digits}

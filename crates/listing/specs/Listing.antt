@@ -1,8 +1,8 @@
 -- What the lister prints of a plan and a case. Document 01, "Line and event".
 use mathlib.Core.List.{List}
 use Prim.Native.Nat.{ℕ, zero, suc}
-use Rattle.report.specs.Operations.{Told, told, Outcome, answer}
-use Rattle.report.specs.LineAt.{linesFrom}
+use Rattle.report.specs.paper.Operations.{Told, told, Outcome, answer}
+use Rattle.report.specs.promises.LineAt.{linesFrom}
 use Rattle.listing.specs.Text.{table, refusedRow}
 
 -- the lines are read out of the buffer of lines

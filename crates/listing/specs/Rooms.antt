@@ -5,9 +5,9 @@ use mathlib.Core.List.{List, [], _∷_}
 use Prim.Native.Nat.{ℕ, _+_, _*_}
 use lib.ListN.{length}
 use lib.Dec.{ltb}
-use Rattle.records.specs.Fields.{Shape, bytes, list, most, Format}
-use Rattle.records.specs.Plan.{planFormats}
-use Rattle.records.specs.Case.{caseFormats}
+use Rattle.records.specs.paper.Fields.{Shape, bytes, list, most, Format}
+use Rattle.records.specs.paper.Plan.{planFormats}
+use Rattle.records.specs.paper.Case.{caseFormats}
 
 abbrev pub shapeMost : Shape → ℕ
 shapeMost (bytes rs) = length rs

@@ -4,9 +4,9 @@ use mathlib.Core.List.{List, [], _∷_, _++_}
 use Prim.Native.Nat.{ℕ, zero, suc, _+_, _/_, _%_}
 use lib.ListN.{length}
 use lib.Dec.{ltb}
-use Rattle.records.specs.Sets.{members}
-use Rattle.report.specs.Line.{Line}
-use Rattle.report.specs.Units.{units}
+use Rattle.records.specs.paper.Sets.{members}
+use Rattle.report.specs.paper.Line.{Line}
+use Rattle.report.specs.paper.Units.{units}
 
 -- ---- numbers in base ten, without leading zeros
 

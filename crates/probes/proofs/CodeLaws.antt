@@ -2,7 +2,7 @@
 use mathlib.Core.Path.{_≡_, refl, ap}
 use Prim.Native.Nat.{ℕ, zero, suc, _≤_, _<_, _-_}
 use native.Mathlib.Omega.{arith}
-use Rattle.expressions.specs.Codes.{boundOf}
+use Rattle.expressions.specs.code.Codes.{boundOf}
 use Rattle.probes.specs.Entries.{codeOf}
 
 pub code-below : (n : ℕ) → n < 6 → n ≡ codeOf (boundOf n)

@@ -9,36 +9,36 @@ use lib.ListN.{length, getD, take, replicate, length-take, List·getD-eq-default
 use lib.Seq.{getD-take}
 use lib.Dec.{leb}
 use borrow.Author.Tests.{eq-eqb, ne-eqb}
-use Rattle.records.specs.Fields.{Verdict, fine, refused, onFine}
-use Rattle.records.specs.Plan.{Plan, checkedPlan}
-use Rattle.records.specs.Case.{Case, CaseHeading, readCase, caseHeading}
-use Rattle.records.specs.Decoded.{planOf, caseOf, caseHeadingOf}
-use Rattle.records.specs.PlanRead.{planReadOf}
-use Rattle.records.specs.CaseRead.{caseReadOf}
-use Rattle.records.specs.Sound.{Sound, SoundCase}
-use Rattle.records.specs.declared.read_plan.PlanRead.{PlanRead}
-use Rattle.records.specs.declared.read_case.CaseRead.{CaseRead}
+use Rattle.records.specs.paper.Fields.{Verdict, fine, refused, onFine}
+use Rattle.records.specs.paper.Plan.{Plan, checkedPlan}
+use Rattle.records.specs.paper.Case.{Case, CaseHeading, readCase, caseHeading}
+use Rattle.records.specs.code.Decoded.{planOf, caseOf, caseHeadingOf}
+use Rattle.records.specs.code.PlanRead.{planReadOf}
+use Rattle.records.specs.code.CaseRead.{caseReadOf}
+use Rattle.records.specs.promises.Sound.{Sound, SoundCase}
+use Rattle.records.specs.declared.plan.reading.PlanRead.{PlanRead}
+use Rattle.records.specs.declared.case.reading.CaseRead.{CaseRead}
 use Rattle.records.proofs.Accepted.{accepted}
 use Rattle.records.proofs.AcceptedCase.{accepted-case}
-use Rattle.records.specs.Sets.{has}
-use Rattle.expressions.specs.Influence.{Frame, openDecisions, decisionCount}
-use Rattle.expressions.specs.Variables.{isVariable, slots, booleanCount, worldCount}
-use Rattle.expressions.specs.Codes.{boundOf}
-use Rattle.expressions.specs.Slots.{slotsBy, booleansIn}
-use Rattle.expressions.specs.Counted.{countOf, Counts}
-use Rattle.expressions.specs.Reached.{Reached}
-use Rattle.expressions.specs.Influences.{influenceBy, setsOf}
+use Rattle.records.specs.paper.Sets.{has}
+use Rattle.expressions.specs.paper.Influence.{Frame, openDecisions, decisionCount}
+use Rattle.expressions.specs.paper.Variables.{isVariable, slots, booleanCount, worldCount}
+use Rattle.expressions.specs.code.Codes.{boundOf}
+use Rattle.expressions.specs.code.Slots.{slotsBy, booleansIn}
+use Rattle.expressions.specs.code.Counted.{countOf, Counts}
+use Rattle.expressions.specs.code.Reached.{Reached}
+use Rattle.expressions.specs.code.Influences.{influenceBy, setsOf}
 use Rattle.expressions.specs.declared.influence.Influence.{Influence}
 use Rattle.expressions.specs.declared.reach.Reach.{Reach}
 use Rattle.expressions.specs.declared.variables.Count.{Count}
 use Rattle.expressions.proofs.SlotLaws.{variable-from, order-of}
 use Rattle.expressions.proofs.CountLaws.{boolean-few}
 use Rattle.expressions.proofs.OpenLaws.{opens-number}
-use Rattle.expressions.specs.Bindings.{Bound, bindings, bindingsBy, bindingAt, bindable, frameOf}
-use Rattle.expressions.specs.Coded.{frameBy}
+use Rattle.expressions.specs.paper.Bindings.{Bound, bindings, bindingsBy, bindingAt, bindable, frameOf}
+use Rattle.expressions.specs.code.Coded.{frameBy}
 use Rattle.expressions.proofs.FactLaws.{bindings-by}
 use Rattle.expressions.proofs.ReachLaws.{frame-of, heading-of, influence-list}
-use Rattle.records.specs.Check.{checkedOf}
+use Rattle.records.specs.code.Check.{checkedOf}
 use Rattle.records.proofs.CheckLaws.{refused-is}
 use Rattle.records.specs.declared.checked.Checked.the-variants.{Accepted, Refused}
 use Rattle.probes.specs.Entries.{numberOf, recordOf, givenOver, given, influencesIn, refusalBy}

@@ -8,11 +8,11 @@ use native.Mathlib.Omega.{arith}
 use lib.Dec.{leb}
 use lib.ListN.{length, getD, take, List·getD-map}
 use lib.Seq.{take-suc}
-use Rattle.records.specs.Fields.{Verdict, fine, refused}
-use Rattle.expressions.specs.Bindings.{Bound, bindingAt}
-use Rattle.expressions.specs.Variables.{Slot, fact, decision, choices, isVariable, slots}
-use Rattle.expressions.specs.Codes.{boundOf}
-use Rattle.expressions.specs.Slots.{slotOf, choiceCode}
+use Rattle.records.specs.paper.Fields.{Verdict, fine, refused}
+use Rattle.expressions.specs.paper.Bindings.{Bound, bindingAt}
+use Rattle.expressions.specs.paper.Variables.{Slot, fact, decision, choices, isVariable, slots}
+use Rattle.expressions.specs.code.Codes.{boundOf}
+use Rattle.expressions.specs.code.Slots.{slotOf, choiceCode}
 use Rattle.expressions.proofs.SlotLaws.{slot-fact, slot-decision, variable-from}
 use Rattle.probes.specs.Entries.{Given, bindingsOf, boundIn, slotsIn, varies, varying, variableCode, variableCodes, variablesIn}
 

@@ -3,10 +3,10 @@ use mathlib.Core.Path.{_≡_}
 use mathlib.Core.List.{List}
 use Prim.Native.Nat.{ℕ}
 use lib.ListN.{getD, take}
-use Rattle.records.specs.Fields.{Verdict}
-use Rattle.expressions.specs.Codes.{boundOf}
-use Rattle.expressions.specs.Influences.{setsOf}
-use Rattle.expressions.specs.Slots.{slotsOf}
+use Rattle.records.specs.paper.Fields.{Verdict}
+use Rattle.expressions.specs.code.Codes.{boundOf}
+use Rattle.expressions.specs.code.Influences.{setsOf}
+use Rattle.expressions.specs.code.Slots.{slotsOf}
 use Rattle.probes.specs.Entries.{numberOf, recordOf, Given, boundIn, influencesIn, slotsIn, countIn, refusalIn}
 use Rattle.probes.specs.declared.bind.Bound.{Bound}
 use Rattle.probes.specs.declared.refusal.Refusal.{Refusal}

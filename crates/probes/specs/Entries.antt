@@ -2,13 +2,13 @@
 use mathlib.Core.Bool.{Bool, true, false, cond}
 use mathlib.Core.List.{List, [], _∷_, _++_, map, flatMap}
 use Prim.Native.Nat.{ℕ, _+_, _*_}
-use Rattle.records.specs.Fields.{Verdict, fine, refused, onFine}
-use Rattle.records.specs.Plan.{Plan, checkedPlan}
-use Rattle.records.specs.Case.{Case, readCase, caseHeading}
-use Rattle.expressions.specs.Bindings.{just, both, Bound, unbound, known, unknown, conflict, bindings, bindingAt, frameOf, bindable}
-use Rattle.expressions.specs.Variables.{Influence, influence, Slot, fact, decision, slots, choice, isVariable, worldCount}
-use Rattle.expressions.specs.Slots.{choiceCode}
-use Rattle.expressions.specs.Counted.{countOf}
+use Rattle.records.specs.paper.Fields.{Verdict, fine, refused, onFine}
+use Rattle.records.specs.paper.Plan.{Plan, checkedPlan}
+use Rattle.records.specs.paper.Case.{Case, readCase, caseHeading}
+use Rattle.expressions.specs.paper.Bindings.{just, both, Bound, unbound, known, unknown, conflict, bindings, bindingAt, frameOf, bindable}
+use Rattle.expressions.specs.paper.Variables.{Influence, influence, Slot, fact, decision, slots, choice, isVariable, worldCount}
+use Rattle.expressions.specs.code.Slots.{choiceCode}
+use Rattle.expressions.specs.code.Counted.{countOf}
 use Rattle.expressions.specs.declared.variables.Count.{Count}
 
 -- the refusal's number, 0 for none, and its record

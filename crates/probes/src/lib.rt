@@ -7,7 +7,7 @@ mod variables;
 use bind::bind;
 use bind::set_at;
 use code::told_code;
-use records::naming::entry;
+use records::plan::checks::naming::entry;
 use variables::list_variables;
 use variables::variable_at;
 ghost use mathlib.Core.Path.{_≡_};

@@ -2,7 +2,7 @@
 use expressions::bindable::bindable;
 use records::case::Case;
 use records::checked::Checked;
-ghost use Rattle.records.specs.Decoded.{caseOf};
+ghost use Rattle.records.specs.code.Decoded.{caseOf};
 ghost use Rattle.probes.specs.Entries.{refusalBy};
 ghost use Rattle.probes.specs.Binds.{Tells};
 

@@ -8,8 +8,8 @@ ghost use mathlib.Core.Path.{_≡_};
 ghost use mathlib.Core.List.{[], _∷_, _++_, map};
 ghost use Prim.Native.Nat.{_+_, _<_};
 ghost use lib.ListN.{length, getD};
-ghost use Rattle.expressions.specs.Codes.{boundOf};
-ghost use Rattle.expressions.specs.Slots.{slotOf, slotsOf};
+ghost use Rattle.expressions.specs.code.Codes.{boundOf};
+ghost use Rattle.expressions.specs.code.Slots.{slotOf, slotsOf};
 ghost use Rattle.probes.specs.Entries.{varies as variesIn, variableCode, variableCodes, variables};
 ghost use Rattle.probes.specs.Binds.{codesOf};
 

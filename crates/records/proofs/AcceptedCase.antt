@@ -8,10 +8,10 @@ use native.Mathlib.Omega.{arith}
 use lib.ListN.{length, getD}
 use lib.Dec.{eqb, ltb}
 use borrow.Author.Tests.{ltb-false, eqb-false}
-use Rattle.records.specs.Fields.{Raw, field, num, formatOf, evidence, upTo, list, fine}
-use Rattle.records.specs.Plan.{Plan, booleanFact, faults}
-use Rattle.records.specs.Case.{Case, Family, Observation, Boolean, Relation, caseFormats, observationsOf, headingOf, addToCase, caseCounts, judgeCase, emptyCase, caseRecords, relationSound, caseNamingFaults, booleansAt, readCase}
-use Rattle.records.specs.Sound.{All, SoundHeading, SoundObservation, SoundBoolean, SoundRelation, SoundCase}
+use Rattle.records.specs.paper.Fields.{Raw, field, num, formatOf, evidence, upTo, list, fine}
+use Rattle.records.specs.paper.Plan.{Plan, booleanFact, faults}
+use Rattle.records.specs.paper.Case.{Case, Family, Observation, Boolean, Relation, caseFormats, observationsOf, headingOf, addToCase, caseCounts, judgeCase, emptyCase, caseRecords, relationSound, caseNamingFaults, booleansAt, readCase}
+use Rattle.records.specs.promises.Sound.{All, SoundHeading, SoundObservation, SoundBoolean, SoundRelation, SoundCase}
 use Rattle.records.proofs.Every.{all-any, exactly-one, all-less, all-parts}
 use Rattle.records.proofs.FieldLaws.{InFormat, Held, held, byte-top, byte-numbers, mask-below, most-top, pairs, list-pairs}
 use Rattle.records.proofs.ReadLaws.{fine-then, of-fine, past-faults, faultless, Judged, Kept, read-keeps, OfKind, Kind, kind-none, kind-joined, each-sound}

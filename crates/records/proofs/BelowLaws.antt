@@ -6,7 +6,7 @@ use mathlib.Core.Logic.{_⊎_, inl, inr, ⊎-elim}
 use Prim.Native.Nat.{ℕ, zero, suc, _≤_, _<_}
 use native.Mathlib.Omega.{arith}
 use lib.ListN.{getD}
-use Rattle.records.specs.Sets.{has, union, only, numbers, below, anyBelow, unionBelow, foldBelow}
+use Rattle.records.specs.paper.Sets.{has, union, only, numbers, below, anyBelow, unionBelow, foldBelow}
 use Rattle.records.proofs.SetLaws.{Within, has-none, in-union-l, in-union-r, of-union, lt-or-le}
 use Rattle.records.proofs.LoopLaws.{getD-below, getD-past}
 use Rattle.records.proofs.Closing.{Takes, Closed}

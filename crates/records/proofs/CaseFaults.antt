@@ -8,21 +8,21 @@ use native.Mathlib.Omega.{arith}
 use lib.ListN.{length, getD, drop, drop-of-length-le}
 use lib.Seq.{drop-cons}
 use borrow.Author.Tests.{eq-eqb, ne-eqb, lt-ltb, le-ltb}
-use Rattle.records.specs.Sets.{allOf, anyOf}
-use Rattle.records.specs.Fields.{Verdict, fine, refused, onFine, firstFault}
-use Rattle.records.specs.Plan as paper
-use Rattle.records.specs.Case as case
-use Rattle.records.specs.Decoded.{factOf, familyOf, relationOf, caseOf}
-use Rattle.records.specs.Check.{checkedOf}
-use Rattle.records.specs.CaseRead.{caseReadOf}
-use Rattle.records.specs.CaseNamed.{sameFamily}
+use Rattle.records.specs.paper.Sets.{allOf, anyOf}
+use Rattle.records.specs.paper.Fields.{Verdict, fine, refused, onFine, firstFault}
+use Rattle.records.specs.paper.Plan as paper
+use Rattle.records.specs.paper.Case as case
+use Rattle.records.specs.code.Decoded.{factOf, familyOf, relationOf, caseOf}
+use Rattle.records.specs.code.Check.{checkedOf}
+use Rattle.records.specs.code.CaseRead.{caseReadOf}
+use Rattle.records.specs.code.CaseNamed.{sameFamily}
 use Rattle.records.specs.declared.plan.Fact.{Fact}
 use Rattle.records.specs.declared.case.Family.{Family}
 use Rattle.records.specs.declared.case.Relation.{Relation}
 use Rattle.records.specs.declared.case.Case.{Case}
 use Rattle.records.specs.declared.checked.Checked.{Checked}
 use Rattle.records.specs.declared.checked.Checked.the-variants.{Accepted, Refused}
-use Rattle.records.specs.declared.read_case.CaseRead.{CaseRead}
+use Rattle.records.specs.declared.case.reading.CaseRead.{CaseRead}
 use Rattle.records.proofs.NamingLaws.{boolean-of, family-of}
 
 -- ---- the three turns of a loop that looks for an entry: it is not at i, it is at i, no place is left

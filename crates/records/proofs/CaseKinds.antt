@@ -6,11 +6,11 @@ use Prim.Native.Nat.{ℕ, suc, _≤_}
 use native.Mathlib.Omega.{arith}
 use lib.ListN.{length, take}
 use lib.Dec.{eqb, ltb, leb}
-use Rattle.records.specs.Fields.{needs}
-use Rattle.records.specs.Case.{Case, CaseHeading, Family, Boolean, Relation, caseFormats, caseCounts, headingOf, addToCase, judgeCase, emptyCase, caseRecords}
-use Rattle.records.specs.Passes.{Passed, judgement}
-use Rattle.records.specs.Case.{familyBy, booleanBy, relationBy, constraintBy}
-use Rattle.records.specs.CasePasses.{Clean, caseReading, withHeadings, withFamilies, withBooleans, withRelations, withConstraints}
+use Rattle.records.specs.paper.Fields.{needs}
+use Rattle.records.specs.paper.Case.{Case, CaseHeading, Family, Boolean, Relation, caseFormats, caseCounts, headingOf, addToCase, judgeCase, emptyCase, caseRecords}
+use Rattle.records.specs.code.Passes.{Passed, judgement}
+use Rattle.records.specs.paper.Case.{familyBy, booleanBy, relationBy, constraintBy}
+use Rattle.records.specs.code.CasePasses.{Clean, caseReading, withHeadings, withFamilies, withBooleans, withRelations, withConstraints}
 use Rattle.records.proofs.KindLaws.{length-more, past, not-not, heading-there}
 use Rattle.records.proofs.Chain.{raw}
 use Rattle.records.proofs.Passing.{Kind, Reached, first-kind, next-pass}

@@ -8,11 +8,11 @@ use native.Mathlib.Omega.{arith}
 use lib.ListN.{length}
 use lib.Dec.{eqb, leb}
 use borrow.Author.Tests.{eq-eqb, ne-eqb}
-use Rattle.records.specs.Sets.{odd}
-use Rattle.records.specs.Fields.{Shape, bytes, list, most, number, Read, got, bad, andThen, Raw, Format, Range, byteAt, bytesAt, fieldAt, fieldsAt, formatOf, repeat, little}
-use Rattle.records.specs.Readers.{mapRead, fieldIf, first, span}
-use Rattle.records.specs.Decoded.{given}
-use Rattle.records.specs.Passes.{rawOf}
+use Rattle.records.specs.paper.Sets.{odd}
+use Rattle.records.specs.paper.Fields.{Shape, bytes, list, most, number, Read, got, bad, andThen, Raw, Format, Range, byteAt, bytesAt, fieldAt, fieldsAt, formatOf, repeat, little}
+use Rattle.records.specs.code.Readers.{mapRead, fieldIf, first, span}
+use Rattle.records.specs.code.Decoded.{given}
+use Rattle.records.specs.code.Passes.{rawOf}
 use Rattle.records.proofs.Reading.{byte-next, bytes-got, bad-got, got-inj, found}
 
 -- the test `m % 2 == 1`

@@ -3,11 +3,11 @@ use mathlib.Core.Path.{_≡_, refl, sym, ap, _∙_}
 use mathlib.Core.List.{List, [], _∷_}
 use Prim.Native.Nat.{ℕ, zero, suc, _+_}
 use native.Mathlib.Omega.{arith}
-use Rattle.records.specs.Fields.{Verdict, fine, refused, firstFault}
-use Rattle.records.specs.Plan.{Plan, planFaults, namingFaults, nodesAt, cutsAt}
-use Rattle.records.specs.Check.{checkedOf}
-use Rattle.records.specs.Crossings.{crossingFaults}
-use Rattle.records.specs.Elections.{agreement}
+use Rattle.records.specs.paper.Fields.{Verdict, fine, refused, firstFault}
+use Rattle.records.specs.paper.Plan.{Plan, planFaults, namingFaults, nodesAt, cutsAt}
+use Rattle.records.specs.code.Check.{checkedOf}
+use Rattle.records.specs.code.Crossings.{crossingFaults}
+use Rattle.records.specs.code.Elections.{agreement}
 use Rattle.records.specs.declared.checked.Checked.{Checked}
 use Rattle.records.specs.declared.checked.Checked.the-variants.{Accepted, Refused}
 

@@ -12,7 +12,7 @@ use lib.Seq.{drop-cons}
 use native.Mathlib.Numerals.{add-one}
 use lib.Dec.{eqb}
 use borrow.Author.Tests.{eqb-true, eqb-false, eq-eqb, ne-eqb}
-use Rattle.records.specs.Sets.{has, union, meet, minus, disjoint, subset, one, absorb, pass, passes, closeOf}
+use Rattle.records.specs.paper.Sets.{has, union, meet, minus, disjoint, subset, one, absorb, pass, passes, closeOf}
 use Rattle.records.proofs.SetLaws.{Within, has-one, antisym, within-refl, along, thru, in-union-l, in-union-r, of-union, in-meet, of-meet, in-minus, of-minus, disjoint-false, meeting, subset-true, subset-false, within-subset}
 
 -- ---- what it means: m is closed where each group that meets m lies in m

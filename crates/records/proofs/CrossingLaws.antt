@@ -7,15 +7,15 @@ use native.Mathlib.Numerals.{add-one}
 use native.Mathlib.Omega.{arith}
 use lib.ListN.{length, getD, drop, drop-of-length-le}
 use lib.Seq.{drop-cons}
-use Rattle.records.specs.Sets.{allOf}
-use Rattle.records.specs.Fields.{fault, fine, firstFault}
-use Rattle.records.specs.Plan as paper
-use Rattle.records.specs.Check.{checkedOf}
-use Rattle.records.specs.Crossings.{isOpen, edgesFrom, cutsFrom, firstCrossing, crossingFaults}
+use Rattle.records.specs.paper.Sets.{allOf}
+use Rattle.records.specs.paper.Fields.{fault, fine, firstFault}
+use Rattle.records.specs.paper.Plan as paper
+use Rattle.records.specs.code.Check.{checkedOf}
+use Rattle.records.specs.code.Crossings.{isOpen, edgesFrom, cutsFrom, firstCrossing, crossingFaults}
 use Rattle.records.specs.declared.checked.Checked.{Checked}
 use Rattle.records.specs.declared.checked.Checked.the-variants.{Accepted, Refused}
-use Rattle.records.specs.declared.crossing.Crossing.{Crossing}
-use Rattle.records.specs.declared.crossing.Crossing.the-variants.{At, Nowhere}
+use Rattle.records.specs.declared.plan.checks.crossing.Crossing.{Crossing}
+use Rattle.records.specs.declared.plan.checks.crossing.Crossing.the-variants.{At, Nowhere}
 
 module _ (P : paper.Plan) where
   -- ---- one edge, and none left; one cut, and none left

@@ -8,10 +8,10 @@ use native.Mathlib.Omega.{arith}
 use lib.ListN.{getD}
 use lib.Dec.{eqb}
 use borrow.Author.Tests.{eq-eqb, ne-eqb}
-use Rattle.records.specs.Sets.{numbers, below, anyOf, allOf}
-use Rattle.records.specs.Plan.{Cut, decidedOnce, unresolvedIn, unresolved}
-use Rattle.records.specs.Decoded.{decisionsOf}
-use Rattle.records.specs.PlanPasses.{decisionsFrom}
+use Rattle.records.specs.paper.Sets.{numbers, below, anyOf, allOf}
+use Rattle.records.specs.paper.Plan.{Cut, decidedOnce, unresolvedIn, unresolved}
+use Rattle.records.specs.code.Decoded.{decisionsOf}
+use Rattle.records.specs.code.PlanPasses.{decisionsFrom}
 use Rattle.records.specs.declared.plan.Decisions.{Decisions}
 use Rattle.records.proofs.FactLaws.{and-true, and-assoc}
 

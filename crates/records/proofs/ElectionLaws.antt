@@ -10,12 +10,12 @@ use lib.Dec.{eqb}
 use lib.ListN.{length, getD, set, replicate, length-map, length-append, length-replicate, getD-replicate, List·getD-eq-default}
 use lib.Seq.{getD-set-same, getD-set-other}
 use borrow.Author.Tests.{eq-eqb, ne-eqb, eqb-true, eqb-false}
-use Rattle.records.specs.Sets.{allOf}
-use Rattle.records.specs.Fields.{fault}
-use Rattle.records.specs.Plan as paper
-use Rattle.records.specs.Decoded.{given, electionOf, noElection, cutOf, attachmentOf}
-use Rattle.records.specs.PlanPasses.{cutsOf, attachmentsOf}
-use Rattle.records.specs.Elections.{earlier, agree, agreement}
+use Rattle.records.specs.paper.Sets.{allOf}
+use Rattle.records.specs.paper.Fields.{fault}
+use Rattle.records.specs.paper.Plan as paper
+use Rattle.records.specs.code.Decoded.{given, electionOf, noElection, cutOf, attachmentOf}
+use Rattle.records.specs.code.PlanPasses.{cutsOf, attachmentsOf}
+use Rattle.records.specs.code.Elections.{earlier, agree, agreement}
 use Rattle.records.specs.declared.plan.Election.{Election}
 use Rattle.records.specs.declared.plan.Cut.{Cut}
 use Rattle.records.specs.declared.plan.Cuts.{Cuts}

@@ -7,8 +7,8 @@ use native.Mathlib.Omega.{arith}
 use lib.ListN.{getD}
 use lib.Dec.{ltb}
 use borrow.Author.Tests.{ltb-true}
-use Rattle.records.specs.Sets.{allOf}
-use Rattle.records.specs.Sound.{All, Numbers}
+use Rattle.records.specs.paper.Sets.{allOf}
+use Rattle.records.specs.promises.Sound.{All, Numbers}
 use Rattle.records.proofs.SetLaws.{and-parts}
 
 -- of which nothing is asked

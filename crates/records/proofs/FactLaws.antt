@@ -9,9 +9,9 @@ use native.Mathlib.Omega.{arith}
 use lib.ListN.{length, getD, take, drop}
 use lib.Dec.{eqb, ltb}
 use borrow.Author.Tests.{eq-eqb, ne-eqb}
-use Rattle.records.specs.Sets.{lexLess}
-use Rattle.records.specs.Plan.{Fact, isBoolean, rises, factsRise}
-use Rattle.records.specs.Decoded.{given}
+use Rattle.records.specs.paper.Sets.{lexLess}
+use Rattle.records.specs.paper.Plan.{Fact, isBoolean, rises, factsRise}
+use Rattle.records.specs.code.Decoded.{given}
 
 -- ---- both of two tests
 

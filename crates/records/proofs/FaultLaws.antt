@@ -5,10 +5,10 @@ use mathlib.Core.List.{List, [], _∷_, _++_, map}
 use Prim.Native.Nat.{ℕ, zero, suc, _+_, _≤_, _<_}
 use native.Mathlib.Omega.{arith}
 use lib.ListN.{length, getD, take, drop, length-map}
-use Rattle.records.specs.Fields.{fault, Verdict, fine, firstFault}
-use Rattle.records.specs.Plan as paper
-use Rattle.records.specs.Decoded.{nodeOf}
-use Rattle.records.specs.Check.{checkedOf}
+use Rattle.records.specs.paper.Fields.{fault, Verdict, fine, firstFault}
+use Rattle.records.specs.paper.Plan as paper
+use Rattle.records.specs.code.Decoded.{nodeOf}
+use Rattle.records.specs.code.Check.{checkedOf}
 use Rattle.records.specs.declared.plan.Node.{Node}
 use Rattle.records.specs.declared.checked.Checked.{Checked}
 use Rattle.records.specs.declared.checked.Checked.the-variants.{Accepted, Refused}

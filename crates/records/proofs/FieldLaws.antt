@@ -8,9 +8,9 @@ use native.Mathlib.Omega.{arith}
 use lib.ListN.{length, getD}
 use lib.Dec.{eqb, ltb, leb}
 use borrow.Author.Tests.{leb-true}
-use Rattle.records.specs.Sets.{odd}
-use Rattle.records.specs.Fields.{Range, upTo, number, Shape, bytes, list, most, Read, got, bad, andThen, byteAt, bytesAt, repeat, little, fieldAt, fieldsAt, Format, Raw, field, formatOf, recordAt}
-use Rattle.records.specs.Sound.{All, Numbers}
+use Rattle.records.specs.paper.Sets.{odd}
+use Rattle.records.specs.paper.Fields.{Range, upTo, number, Shape, bytes, list, most, Read, got, bad, andThen, byteAt, bytesAt, repeat, little, fieldAt, fieldsAt, Format, Raw, field, formatOf, recordAt}
+use Rattle.records.specs.promises.Sound.{All, Numbers}
 
 -- ---- what holds of that which was read, if it was
 

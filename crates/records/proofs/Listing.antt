@@ -6,9 +6,9 @@ use native.Mathlib.Numerals.{add-one}
 use native.Mathlib.Omega.{arith}
 use lib.ListN.{length, getD, set, take}
 use lib.Seq.{take-suc-set, getD-set-same, getD-set-other}
-use Rattle.records.specs.Sets.{numbers, below}
-use Rattle.records.specs.Plan.{Decision, decisionsOf}
-use Rattle.records.specs.Readers.{span}
+use Rattle.records.specs.paper.Sets.{numbers, below}
+use Rattle.records.specs.paper.Plan.{Decision, decisionsOf}
+use Rattle.records.specs.code.Readers.{span}
 
 pub span-more : (s : List ℕ) (at n : ℕ) → span s at (n + 1) ≡ span s at n ++ (getD s (at + n) 0 ∷ [])
 unfolding span

@@ -8,8 +8,8 @@ use native.Mathlib.Omega.{arith}
 use lib.ListN.{length, getD}
 use lib.Dec.{eqb}
 use borrow.Author.Tests.{eqb-true, eqb-false, eq-eqb, not-true}
-use Rattle.records.specs.Sets.{has, one, union, meet, minus, disjoint, meets, subset, only, absorb, pass, passes, closeOf, numbers, below, anyBelow, unionBelow, foldBelow, unionOf}
-use Rattle.records.specs.Sound.{All}
+use Rattle.records.specs.paper.Sets.{has, one, union, meet, minus, disjoint, meets, subset, only, absorb, pass, passes, closeOf, numbers, below, anyBelow, unionBelow, foldBelow, unionOf}
+use Rattle.records.specs.promises.Sound.{All}
 use Rattle.records.proofs.SetLaws.{ext, has-none, has-one, has-union, has-meet, has-minus, of-union, of-minus, in-union-l, in-union-r, disjoint-true, disjoint-false, apart, member, lt-or-le}
 use Rattle.records.proofs.Closing.{Takes, Closed, passes-next}
 use Rattle.records.proofs.LoopLaws.{getD-below, getD-past, length-below, all-at}

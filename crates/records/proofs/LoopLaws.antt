@@ -5,8 +5,8 @@ use Prim.Native.Nat.{ℕ, zero, suc, _+_, _≤_, _<_}
 use native.Mathlib.Nat.{le-of-suc-le-suc, not-suc-le-zero}
 use native.Mathlib.Omega.{arith}
 use lib.ListN.{length, getD, take, length-map, List·getD-eq-default}
-use Rattle.records.specs.Sets.{numbers, below}
-use Rattle.records.specs.Sound.{All}
+use Rattle.records.specs.paper.Sets.{numbers, below}
+use Rattle.records.specs.promises.Sound.{All}
 
 -- ---- f 0 … f (n − 1)
 

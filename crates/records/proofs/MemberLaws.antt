@@ -7,7 +7,7 @@ use native.Mathlib.Omega.{arith}
 use native.Mathlib.Nat.{not-suc-le-zero, le-of-suc-le-suc, mod-lt, zero-lt-suc}
 use lib.ListN.{length, getD}
 use lib.Count.{onesIn}
-use Rattle.records.specs.Sets.{odd, has, size, when, members, membersFrom, allOf}
+use Rattle.records.specs.paper.Sets.{odd, has, size, when, members, membersFrom, allOf}
 use Rattle.records.proofs.SetLaws.{has-zero, has-suc, and-parts}
 
 -- a test of the persons of a set

@@ -7,10 +7,10 @@ use native.Mathlib.Nat.{le-of-suc-le-suc, not-suc-le-zero}
 use native.Mathlib.Omega.{arith}
 use lib.Dec.{eqb, ltb}
 use lib.ListN.{length, getD}
-use Rattle.records.specs.Sets.{allOf, below, numbers}
-use Rattle.records.specs.Plan as paper
-use Rattle.records.specs.Decoded.{given, nodeBy, factOf, decisionsOf}
-use Rattle.records.specs.Named.{allUnder}
+use Rattle.records.specs.paper.Sets.{allOf, below, numbers}
+use Rattle.records.specs.paper.Plan as paper
+use Rattle.records.specs.code.Decoded.{given, nodeBy, factOf, decisionsOf}
+use Rattle.records.specs.code.Named.{allUnder}
 use Rattle.records.specs.declared.plan.Plan.{Plan}
 use Rattle.records.proofs.ListLaws.{all-mapped}
 use Rattle.records.specs.declared.plan.Fact.{Fact}

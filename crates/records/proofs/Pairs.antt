@@ -5,8 +5,8 @@ use Prim.Native.Nat.{ℕ, zero, suc, _+_, _*_, _<_}
 use native.Mathlib.Omega.{arith}
 use lib.ListN.{length, getD, set}
 use lib.Seq.{getD-set-same, getD-set-other}
-use Rattle.records.specs.Sets.{below}
-use Rattle.records.specs.Readers.{span}
+use Rattle.records.specs.paper.Sets.{below}
+use Rattle.records.specs.code.Readers.{span}
 use Rattle.records.proofs.Listing.{below-more, below-ext}
 
 -- ---- pairs: `all` takes the bytes two by two

@@ -9,9 +9,9 @@ use native.Mathlib.Omega.{arith}
 use lib.ListN.{length, getD}
 use lib.Dec.{eqb, ltb, leb}
 use borrow.Author.Tests.{lt-ltb, le-ltb, le-leb, lt-leb, ltb-true, ltb-false, eq-eqb, ne-eqb}
-use Rattle.records.specs.Fields.{Read, got, bad, andThen, Raw, Format, Range, byteAt, recordAt, Verdict, fine, refused, readFrom}
-use Rattle.records.specs.Readers.{mapRead}
-use Rattle.records.specs.Passes.{rawOf, Seen, seenBy, Reading, readOn, after, Passed}
+use Rattle.records.specs.paper.Fields.{Read, got, bad, andThen, Raw, Format, Range, byteAt, recordAt, Verdict, fine, refused, readFrom}
+use Rattle.records.specs.code.Readers.{mapRead}
+use Rattle.records.specs.code.Passes.{rawOf, Seen, seenBy, Reading, readOn, after, Passed}
 use Rattle.records.proofs.Reading.{found, none, byte-next, byte-in, bad-got}
 use Rattle.records.proofs.Chain.{raw, raw-parts}
 use Rattle.records.proofs.SetLaws.{lt-or-le}

@@ -7,11 +7,11 @@ use native.Mathlib.Numerals.{add-one}
 use lib.ListN.{length}
 use lib.Dec.{ltb}
 use borrow.Author.Tests.{ltb-true}
-use Rattle.records.specs.Sets.{has, allOf}
-use Rattle.records.specs.Fields.{Raw, field, num, wide, number, citation, person, actor, upTo, bytes, list, fault}
-use Rattle.records.specs.Plan.{Plan, Fact, Node, literal, fact, conj, disj, neg, Decision, Bar, Status, planFormats, nodeOf, electionOf, decisionsOf, edgeOf, cutOf, attachmentOf, decidedOnce, eachFrom, booleanFact, nodeSound, edgeSound, electionSound, cutSound, attachmentSound, nodeNumber}
-use Rattle.records.specs.Plan.{factFrom, barFrom, statusFrom}
-use Rattle.records.specs.Sound.{All, SoundNode, SoundNodes, SoundElection, SoundEdge, SoundDecision, SoundCut, SoundAttachment, SoundBar, SoundStatus, SoundFact}
+use Rattle.records.specs.paper.Sets.{has, allOf}
+use Rattle.records.specs.paper.Fields.{Raw, field, num, wide, number, citation, person, actor, upTo, bytes, list, fault}
+use Rattle.records.specs.paper.Plan.{Plan, Fact, Node, literal, fact, conj, disj, neg, Decision, Bar, Status, planFormats, nodeOf, electionOf, decisionsOf, edgeOf, cutOf, attachmentOf, decidedOnce, eachFrom, booleanFact, nodeSound, edgeSound, electionSound, cutSound, attachmentSound, nodeNumber}
+use Rattle.records.specs.paper.Plan.{factFrom, barFrom, statusFrom}
+use Rattle.records.specs.promises.Sound.{All, SoundNode, SoundNodes, SoundElection, SoundEdge, SoundDecision, SoundCut, SoundAttachment, SoundBar, SoundStatus, SoundFact}
 use Rattle.records.proofs.Every.{all-both, all-tested, named}
 use Rattle.records.proofs.SetLaws.{and-parts}
 use Rattle.records.proofs.FieldLaws.{Held, held, byte-top, list-numbers, mask-below, pairs, list-pairs}

@@ -7,8 +7,8 @@ use native.Mathlib.Omega.{arith}
 use lib.ListN.{length, getD}
 use lib.Dec.{ltb, leb}
 use borrow.Author.Tests.{ltb-true, leb-true, lt-ltb, le-leb}
-use Rattle.records.specs.Fields.{Range, bytes, list, Read, got, bad, andThen, byteAt, bytesAt, fieldAt, repeat, little}
-use Rattle.records.specs.Readers.{mapRead, isGot, first, span, mask}
+use Rattle.records.specs.paper.Fields.{Range, bytes, list, Read, got, bad, andThen, byteAt, bytesAt, fieldAt, repeat, little}
+use Rattle.records.specs.code.Readers.{mapRead, isGot, first, span, mask}
 
 -- ---- answers by what they are made from
 

@@ -14,7 +14,7 @@ use lib.Bits.{bitXor, differ, xor-step}
 use lib.Count.{trailingZeros, under}
 use borrow.Author.Tests.{eqb-true, eqb-false, eq-eqb, ne-eqb, lt-ltb, le-ltb}
 use lib.Bits.{xor-self}
-use Rattle.records.specs.Sets.{has, odd, when, membersFrom, members, lexLess, risingLess}
+use Rattle.records.specs.paper.Sets.{has, odd, when, membersFrom, members, lexLess, risingLess}
 use Rattle.records.proofs.SetLaws.{has-zero, has-suc, has-none, has-xor, differs, ext, differ-lt}
 
 -- ---- by the digits

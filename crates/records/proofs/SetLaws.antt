@@ -12,7 +12,7 @@ use lib.Arith.{digits-mod, bin-ind}
 use lib.Pow.{shr-shr}
 use lib.Bits.{bitAnd, bitOr, bitXor, differ, and-step, or-step, xor-step, and-shr, or-shr, xor-shr, and-lt, or-lt, xor-lt}
 use lib.Count.{onesIn, ones, ones-step, trailingZeros, under}
-use Rattle.records.specs.Sets.{odd, has, one, union, meet, minus, disjoint, subset, size}
+use Rattle.records.specs.paper.Sets.{odd, has, one, union, meet, minus, disjoint, subset, size}
 
 -- ---- a digit as a test, and membership
 

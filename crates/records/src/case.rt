@@ -1,4 +1,6 @@
-// A case as it comes out of its bytes. specs/Decoded.antt says which case of document 01 a `Case` stands for.
+// A case as it comes out of its bytes. specs/code/Decoded.antt says which case of document 01 a `Case` stands for.
+pub mod naming;
+pub mod reading;
 
 // scope and segment: 0 is empty; `complete`: the roster's completeness evidence is given
 pub struct CaseHeading {

@@ -1,13 +1,16 @@
 // Readers of fields by their place: each answers the field's value and the place after it, or that the record is cut short or out of range.
+pub mod judge;
+pub mod lists;
+
 use crate::plan::Election;
 ghost use mathlib.Core.Path.{_≡_};
 ghost use mathlib.Core.List.{[], _∷_};
 ghost use Prim.Native.Nat.{_+_, _*_, _≤_, _<_};
 ghost use lib.ListN.{length, getD};
-ghost use Rattle.records.specs.Fields.{got, byteAt, bytesAt, bytes, list, most, repeat, upTo, little};
-ghost use Rattle.records.specs.Readers.{fieldRead, wideRead, shortRead, electionRead, listRead, listFits, pairsRead, pairsFit, mapRead, first, isGot, fieldIf, mask, election, span};
-ghost use Rattle.records.specs.Plan.{electionOf};
-ghost use Rattle.records.specs.Decoded.{noElection};
+ghost use Rattle.records.specs.paper.Fields.{got, byteAt, bytesAt, bytes, list, most, repeat, upTo, little};
+ghost use Rattle.records.specs.code.Readers.{fieldRead, wideRead, shortRead, electionRead, listRead, listFits, pairsRead, pairsFit, mapRead, first, isGot, fieldIf, mask, election, span};
+ghost use Rattle.records.specs.paper.Plan.{electionOf};
+ghost use Rattle.records.specs.code.Decoded.{noElection};
 
 pub enum Field {
     Got(u8, usize),

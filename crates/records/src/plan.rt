@@ -1,5 +1,8 @@
 // A plan as it comes out of its bytes: for each kind of record a count and that many records in order.
-// specs/Decoded.antt says which plan of document 01 a `Plan` stands for.
+// specs/code/Decoded.antt says which plan of document 01 a `Plan` stands for.
+pub mod checks;
+pub mod counts;
+pub mod reading;
 
 // Up to sixteen numbers: children, defeaters, cuts that a cut precedes.
 pub struct Numbers {

@@ -1,7 +1,7 @@
 // Sets of persons as masks: bit p stands for person p.
 ghost use mathlib.Core.Path.{_≡_};
 ghost use Prim.Native.Nat.{_<_};
-ghost use Rattle.records.specs.Sets.{has, one, union as both, minus as without, disjoint as apart, subset as inside, size as ones, lowest as least, risingLess, pass as onePass, closeOf};
+ghost use Rattle.records.specs.paper.Sets.{has, one, union as both, minus as without, disjoint as apart, subset as inside, size as ones, lowest as least, risingLess, pass as onePass, closeOf};
 
 // A person's mask.
 pub fn bit(p: u8) -> u64

@@ -7,19 +7,19 @@ use Prim.Native.Nat.{ℕ, zero, suc, _+_, _*_, _-_, _^_}
 use native.Mathlib.Omega.{arith}
 use lib.ListN.{length}
 use lib.Dec.{eqb, ltb}
-use Rattle.records.specs.Sets.{members}
-use Rattle.records.specs.Fields.{Verdict, fine, refused, firstFault}
-use Rattle.records.specs.Plan.{Plan, checkedPlan}
-use Rattle.records.specs.Case.{Case, readCase, caseHeading, familiesAt, booleansAt}
-use Rattle.expressions.specs.Influence.{Frame}
-use Rattle.expressions.specs.Bindings.{Bound, bindings, bindable, frameOf, familyFaults, booleanFaults}
-use Rattle.expressions.specs.Variables.{Values, worldCount, worlds, influence}
-use Rattle.worlds.specs.Active.{active}
-use Rattle.worlds.specs.World.{worldOf}
-use Rattle.worlds.specs.View.{View, view}
-use Rattle.report.specs.Line.{Line, lineBytes, bareLine, lineOver}
-use Rattle.report.specs.EventList.{eventLength}
-use Rattle.report.specs.Operations.{told, Opened, stopped, incomplete, ready, orStop, unlessFault, headingFault, tooMany, counted, bound, opened, Outcome, filled, refusal, written, influences, allWorlds, linesOver, answerReady, answerOpened, answer}
+use Rattle.records.specs.paper.Sets.{members}
+use Rattle.records.specs.paper.Fields.{Verdict, fine, refused, firstFault}
+use Rattle.records.specs.paper.Plan.{Plan, checkedPlan}
+use Rattle.records.specs.paper.Case.{Case, readCase, caseHeading, familiesAt, booleansAt}
+use Rattle.expressions.specs.paper.Influence.{Frame}
+use Rattle.expressions.specs.paper.Bindings.{Bound, bindings, bindable, frameOf, familyFaults, booleanFaults}
+use Rattle.expressions.specs.paper.Variables.{Values, worldCount, worlds, influence}
+use Rattle.worlds.specs.paper.Active.{active}
+use Rattle.worlds.specs.paper.World.{worldOf}
+use Rattle.worlds.specs.paper.View.{View, view}
+use Rattle.report.specs.paper.Line.{Line, lineBytes, bareLine, lineOver}
+use Rattle.report.specs.paper.EventList.{eventLength}
+use Rattle.report.specs.paper.Operations.{told, Opened, stopped, incomplete, ready, orStop, unlessFault, headingFault, tooMany, counted, bound, opened, Outcome, filled, refusal, written, influences, allWorlds, linesOver, answerReady, answerOpened, answer}
 use Rattle.report.specs.declared.Answer.{Answer}
 use Rattle.report.specs.declared.Answer.the-variants.{Refused, TooManyWorlds}
 

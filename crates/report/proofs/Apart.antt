@@ -5,8 +5,8 @@ use mathlib.Core.Bool.{true}
 use mathlib.Core.List.{List}
 use mathlib.Core.Logic.{_⊎_, _↔_, _≢_}
 use Prim.Native.Nat.{ℕ, _<_}
-use Rattle.records.specs.Sets.{has, disjoint}
-use Rattle.report.specs.LineAt.{personAt, kindAt, blockAt}
+use Rattle.records.specs.paper.Sets.{has, disjoint}
+use Rattle.report.specs.promises.LineAt.{personAt, kindAt, blockAt}
 
 -- of any two lines the blocks are equal or disjoint, and a line's block holds its person
 pub record Apart (s : List ℕ) : Type 0 where

@@ -6,22 +6,22 @@ use mathlib.Core.Logic.{inl, ⊎-elim}
 use Prim.Native.Nat.{ℕ, _<_, _^_}
 use native.Mathlib.Omega.{arith}
 use lib.ListN.{length, take, drop, take-append-drop}
-use Rattle.records.specs.Fields.{fine}
-use Rattle.records.specs.Plan.{Plan}
-use Rattle.records.specs.Case.{Case, readCase, caseHeading}
-use Rattle.records.specs.Sound.{All}
+use Rattle.records.specs.paper.Fields.{fine}
+use Rattle.records.specs.paper.Plan.{Plan}
+use Rattle.records.specs.paper.Case.{Case, readCase, caseHeading}
+use Rattle.records.specs.promises.Sound.{All}
 use Rattle.records.proofs.Every.{all-parts, all-map}
 use Rattle.records.proofs.AcceptedCase.{accepted-case}
-use Rattle.expressions.specs.Bindings.{Bound, frameOf}
-use Rattle.expressions.specs.Variables.{worlds}
-use Rattle.worlds.specs.Active.{active}
-use Rattle.worlds.specs.World.{World, worldOf}
-use Rattle.worlds.specs.View.{view}
-use Rattle.worlds.specs.Events.{eventsOf}
-use Rattle.report.specs.Line.{bareLine, lineOver, lineIn}
-use Rattle.report.specs.EventList.{rising}
+use Rattle.expressions.specs.paper.Bindings.{Bound, frameOf}
+use Rattle.expressions.specs.paper.Variables.{worlds}
+use Rattle.worlds.specs.paper.Active.{active}
+use Rattle.worlds.specs.paper.World.{World, worldOf}
+use Rattle.worlds.specs.paper.View.{view}
+use Rattle.worlds.specs.paper.Events.{eventsOf}
+use Rattle.report.specs.paper.Line.{bareLine, lineOver, lineIn}
+use Rattle.report.specs.paper.EventList.{rising}
 use Rattle.report.specs.declared.Answer.the-variants.{Refused}
-use Rattle.report.specs.Operations.{told, Opened, stopped, incomplete, ready, opened, influences, allWorlds, linesOver, linesOf, eventsOver, answerReady, answerOpened, answer, showFrom, showOpened, show}
+use Rattle.report.specs.paper.Operations.{told, Opened, stopped, incomplete, ready, opened, influences, allWorlds, linesOver, linesOf, eventsOver, answerReady, answerOpened, answer, showFrom, showOpened, show}
 use Rattle.report.proofs.OpenedLaws.{Ready, OnOpened, opened-law, on-roster, roster-fits}
 use Rattle.report.proofs.Places.{over-person}
 use Rattle.report.proofs.Apart.{Apart, Partitioned, InOne, InAll}

@@ -14,12 +14,12 @@ use lib.ListN.{length, getD, set, take, drop, take-append-drop, length-append, l
 use lib.Seq.{drop-cons, take-suc, set-at, length-take-le, append-snoc, take-at, take-all, drop-append-add, drop-drop}
 use borrow.Author.Tests.{eq-eqb}
 use borrow.Rule.Slice.PartMut.{putMid}
-use Rattle.records.specs.Sets.{odd, has, size, lowest, when, members, membersFrom, numbers}
+use Rattle.records.specs.paper.Sets.{odd, has, size, lowest, when, members, membersFrom, numbers}
 use Rattle.records.proofs.SetLaws.{has-zero, has-suc, has-none, lt-or-le}
 use Rattle.records.proofs.MemberLaws.{members-length}
 use Rattle.expressions.proofs.ListLaws.{flat-append}
-use Rattle.records.specs.Plan.{Plan, Election}
-use Rattle.records.specs.Decoded.{edgeOf, cutOf, attachmentOf, statusOf}
+use Rattle.records.specs.paper.Plan.{Plan, Election}
+use Rattle.records.specs.code.Decoded.{edgeOf, cutOf, attachmentOf, statusOf}
 use Rattle.records.specs.declared.plan.Edge.{Edge}
 use Rattle.records.specs.declared.plan.Edges.{Edges}
 use Rattle.records.specs.declared.plan.Cut.{Cut}
@@ -29,13 +29,13 @@ use Rattle.records.specs.declared.plan.Attachments.{Attachments}
 use Rattle.records.specs.declared.plan.Status.{Status}
 use Rattle.records.specs.declared.plan.Statuses.{Statuses}
 use Rattle.records.proofs.ListLaws.{getD-front}
-use Rattle.expressions.specs.Coded.{edgesOf, cutsOf, attachmentsOf, statusesOf}
-use Rattle.expressions.specs.Rules.{edgeCount, cutCount, attachmentCount, statusCount, edge, cut, attachment, status}
-use Rattle.expressions.specs.Bindings.{defaultOf}
-use Rattle.worlds.specs.Events.{event, littleBytes, listed, electionActor}
+use Rattle.expressions.specs.code.Coded.{edgesOf, cutsOf, attachmentsOf, statusesOf}
+use Rattle.expressions.specs.paper.Rules.{edgeCount, cutCount, attachmentCount, statusCount, edge, cut, attachment, status}
+use Rattle.expressions.specs.paper.Bindings.{defaultOf}
+use Rattle.worlds.specs.paper.Events.{event, littleBytes, listed, electionActor}
 use Rattle.worlds.proofs.OverLaws.{members-next, members-none, and-less, turn-has}
-use Rattle.report.specs.EventList.{numberOf, electionCitation}
-use Rattle.report.specs.EventBytes.{Below, Writes, sizes}
+use Rattle.report.specs.paper.EventList.{numberOf, electionCitation}
+use Rattle.report.specs.code.EventBytes.{Below, Writes, sizes}
 
 -- ---- byte by byte
 

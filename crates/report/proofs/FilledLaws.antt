@@ -6,11 +6,11 @@ use Prim.Native.Nat.{ℕ, zero, suc, _+_, _*_, _-_, _≤_}
 use native.Mathlib.Omega.{arith}
 use lib.ListN.{length, drop, replicate, length-map, length-append}
 use borrow.Author.Tests.{le-ltb}
-use Rattle.records.specs.Sets.{size, members}
+use Rattle.records.specs.paper.Sets.{size, members}
 use Rattle.records.proofs.MemberLaws.{members-length}
-use Rattle.report.specs.Line.{Line, lineBytes, bareLine}
-use Rattle.report.specs.Operations.{Outcome, filled, written}
-use Rattle.report.specs.Bare.{worldless, Worldless}
+use Rattle.report.specs.paper.Line.{Line, lineBytes, bareLine}
+use Rattle.report.specs.paper.Operations.{Outcome, filled, written}
+use Rattle.report.specs.code.Bare.{worldless, Worldless}
 use Rattle.report.specs.declared.Answer.the-variants.{Answered, Refused}
 use Rattle.report.specs.declared.run.Wanted.{Wanted}
 use Rattle.report.proofs.LinesAt.{line-length}

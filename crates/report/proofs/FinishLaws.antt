@@ -9,42 +9,42 @@ use lib.ListN.{length, take, drop, replicate, length-map, length-append, length-
 use lib.Seq.{take-at, drop-append-add}
 use lib.Dec.{eqb}
 use borrow.Author.Tests.{eq-eqb, ne-eqb, lt-ltb}
-use Rattle.records.specs.Sets.{has, size, members, union, subset, allOf, anyOf, unionOf, unionBelow, lexLess}
-use Rattle.records.specs.Sound.{All}
-use Rattle.records.specs.Plan as paper
-use Rattle.records.specs.Case as case
-use Rattle.records.specs.Case.{caseHeading}
-use Rattle.records.specs.Decoded.{planOf, caseOf, caseHeadingOf}
+use Rattle.records.specs.paper.Sets.{has, size, members, union, subset, allOf, anyOf, unionOf, unionBelow, lexLess}
+use Rattle.records.specs.promises.Sound.{All}
+use Rattle.records.specs.paper.Plan as paper
+use Rattle.records.specs.paper.Case as case
+use Rattle.records.specs.paper.Case.{caseHeading}
+use Rattle.records.specs.code.Decoded.{planOf, caseOf, caseHeadingOf}
 use Rattle.records.specs.declared.plan.Plan.{Plan}
 use Rattle.records.specs.declared.case.Case.{Case}
 use Rattle.records.proofs.SetLaws.{ext, has-union, has-none, member}
 use Rattle.records.proofs.Local.{clash}
 use Rattle.records.proofs.Every.{all-tested, all-map}
 use Rattle.records.proofs.MemberLaws.{members-same, members-length}
-use Rattle.expressions.specs.Rules.{factCount, cutCount, rulePersons}
-use Rattle.expressions.specs.Influence.{Frame}
-use Rattle.expressions.specs.Variables.{Influence, Values}
-use Rattle.expressions.specs.Bindings.{Bound, tookDefault}
-use Rattle.expressions.specs.Influences.{setsOf}
+use Rattle.expressions.specs.paper.Rules.{factCount, cutCount, rulePersons}
+use Rattle.expressions.specs.paper.Influence.{Frame}
+use Rattle.expressions.specs.paper.Variables.{Influence, Values}
+use Rattle.expressions.specs.paper.Bindings.{Bound, tookDefault}
+use Rattle.expressions.specs.code.Influences.{setsOf}
 use Rattle.expressions.proofs.ListLaws.{flat-append}
 use Rattle.expressions.proofs.ReachLaws.{heading-of}
-use Rattle.worlds.specs.World.{World, marked}
-use Rattle.worlds.specs.Active.{active}
-use Rattle.worlds.specs.View.{View, view, roleOf}
-use Rattle.worlds.specs.Events.{littleBytes, event, eventsOf}
-use Rattle.worlds.specs.Settled.{blocks, clashes}
-use Rattle.worlds.specs.Tables.{row}
-use Rattle.report.specs.Line.{Line, lineBytes, bareLine, lineOver, lineIn, firstKind, holding}
-use Rattle.report.specs.EventList.{insert, rising, defaultEvents}
-use Rattle.report.specs.Happened.{Rises, Gathered, defaultOver, discretionOver, happened}
-use Rattle.report.specs.EventsWritten.{byRules, countOf, RuleEvents, AllWritten}
-use Rattle.report.specs.Nine.{Nines}
-use Rattle.report.specs.Kept.{Kept}
-use Rattle.report.specs.Written.{SumsOf, LinesBy}
-use Rattle.report.specs.Walked.{worldAt}
-use Rattle.report.specs.Operations.{Outcome, filled, refusal, written, influences, linesOver, linesOf, eventsOver, answerReady, showFrom}
-use Rattle.report.specs.Bare.{worldless, Worldless}
-use Rattle.report.specs.Finish.{Ends, Placed, ended, Finishes}
+use Rattle.worlds.specs.paper.World.{World, marked}
+use Rattle.worlds.specs.paper.Active.{active}
+use Rattle.worlds.specs.paper.View.{View, view, roleOf}
+use Rattle.worlds.specs.paper.Events.{littleBytes, event, eventsOf}
+use Rattle.worlds.specs.code.Settled.{blocks, clashes}
+use Rattle.worlds.specs.code.Tables.{row}
+use Rattle.report.specs.paper.Line.{Line, lineBytes, bareLine, lineOver, lineIn, firstKind, holding}
+use Rattle.report.specs.paper.EventList.{insert, rising, defaultEvents}
+use Rattle.report.specs.code.Happened.{Rises, Gathered, defaultOver, discretionOver, happened}
+use Rattle.report.specs.code.EventsWritten.{byRules, countOf, RuleEvents, AllWritten}
+use Rattle.report.specs.code.Nine.{Nines}
+use Rattle.report.specs.code.Kept.{Kept}
+use Rattle.report.specs.code.Written.{SumsOf, LinesBy}
+use Rattle.report.specs.code.Walked.{worldAt}
+use Rattle.report.specs.paper.Operations.{Outcome, filled, refusal, written, influences, linesOver, linesOf, eventsOver, answerReady, showFrom}
+use Rattle.report.specs.code.Bare.{worldless, Worldless}
+use Rattle.report.specs.code.Finish.{Ends, Placed, ended, Finishes}
 use Rattle.report.specs.declared.nine.Listing.{Listing}
 use Rattle.report.specs.declared.Answer.{Answer}
 use Rattle.report.specs.declared.Answer.the-variants.{Answered, Refused}

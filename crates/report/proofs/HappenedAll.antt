@@ -7,19 +7,19 @@ use Prim.Native.Nat.{ℕ, _<_}
 use native.Mathlib.Omega.{arith}
 use lib.Dec.{eqb}
 use borrow.Author.Tests.{eqb-true, eq-eqb, not-true}
-use Rattle.records.specs.Sets.{has, numbers, anyOf}
-use Rattle.records.specs.Plan.{Plan}
-use Rattle.records.specs.Case.{Case, caseHeading}
+use Rattle.records.specs.paper.Sets.{has, numbers, anyOf}
+use Rattle.records.specs.paper.Plan.{Plan}
+use Rattle.records.specs.paper.Case.{Case, caseHeading}
 use Rattle.records.proofs.SetLaws.{and-parts}
 use Rattle.records.proofs.Local.{clash}
-use Rattle.expressions.specs.Rules.{edgeCount, cutCount, attachmentCount, barCount, statusCount, factCount}
-use Rattle.expressions.specs.Nodes.{on}
-use Rattle.expressions.specs.Bindings.{Bound, tookDefault}
-use Rattle.worlds.specs.World.{World, looseComponents, standing, blockedBy, barHolds}
-use Rattle.worlds.specs.Events.{littleBytes, event, listed, frozenEvents, appliedEvents, blockedEvents, overlapEvents, attachmentEvents, barEvents, statusEvents, discretionEvents, eventsOf}
-use Rattle.report.specs.EventList.{rising, defaultEvents}
-use Rattle.report.specs.Operations.{eventsOver}
-use Rattle.report.specs.Happened.{Rises, overlaps, Gathered, frozenOver, appliedOver, blockedOver, overlapOver, attachmentOver, barOver, statusOver, defaultOver, discretionOver, happened}
+use Rattle.expressions.specs.paper.Rules.{edgeCount, cutCount, attachmentCount, barCount, statusCount, factCount}
+use Rattle.expressions.specs.paper.Nodes.{on}
+use Rattle.expressions.specs.paper.Bindings.{Bound, tookDefault}
+use Rattle.worlds.specs.paper.World.{World, looseComponents, standing, blockedBy, barHolds}
+use Rattle.worlds.specs.paper.Events.{littleBytes, event, listed, frozenEvents, appliedEvents, blockedEvents, overlapEvents, attachmentEvents, barEvents, statusEvents, discretionEvents, eventsOf}
+use Rattle.report.specs.paper.EventList.{rising, defaultEvents}
+use Rattle.report.specs.paper.Operations.{eventsOver}
+use Rattle.report.specs.code.Happened.{Rises, overlaps, Gathered, frozenOver, appliedOver, blockedOver, overlapOver, attachmentOver, barOver, statusOver, defaultOver, discretionOver, happened}
 use Rattle.report.proofs.AmongLaws.{Among, in-left, in-right, of-both, in-flat, of-flat, in-map, of-map, of-numbers, in-listed, of-listed, in-any, of-any}
 use Rattle.report.proofs.RisingSet.{Same, rises-rising}
 use Rattle.report.proofs.RisingKinds.{happened-rising}

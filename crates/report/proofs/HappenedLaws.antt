@@ -6,19 +6,19 @@ use native.Mathlib.Nat.{zero-add}
 use native.Mathlib.Omega.{arith}
 use lib.ListN.{length, getD, set, take, drop, take-append-drop, length-append, length-take, length-map, length-set, drop-of-length-le}
 use lib.Seq.{drop-cons, drop-drop, drop-set-lt, take-set-le, take-take, getD-set-same, getD-take, take-at, drop-at, length-take-le}
-use Rattle.records.specs.Sets.{has, size, members, numbers}
+use Rattle.records.specs.paper.Sets.{has, size, members, numbers}
 use Rattle.records.proofs.MemberLaws.{members-length}
-use Rattle.records.specs.Decoded.{planOf, caseOf}
+use Rattle.records.specs.code.Decoded.{planOf, caseOf}
 use Rattle.records.specs.declared.plan.Plan.{Plan}
 use Rattle.records.specs.declared.case.Case.{Case}
-use Rattle.expressions.specs.Rules.{cutCount}
+use Rattle.expressions.specs.paper.Rules.{cutCount}
 use Rattle.expressions.proofs.ListLaws.{flat-append}
-use Rattle.worlds.specs.Tables.{row}
-use Rattle.worlds.specs.Events.{listed}
+use Rattle.worlds.specs.code.Tables.{row}
+use Rattle.worlds.specs.paper.Events.{listed}
 use Rattle.worlds.proofs.FindLaws.{few-low}
-use Rattle.report.specs.Happened.{frozenOver, appliedOver, blockedOver, overlapOver, attachmentOver, barOver, statusOver, defaultOver, discretionOver, happened}
-use Rattle.report.specs.EventBytes.{Below, Writes, sizes}
-use Rattle.report.specs.EventsWritten.{Shifted, byRules, countOf, RuleEvents, EventsWritten, AllWritten}
+use Rattle.report.specs.code.Happened.{frozenOver, appliedOver, blockedOver, overlapOver, attachmentOver, barOver, statusOver, defaultOver, discretionOver, happened}
+use Rattle.report.specs.code.EventBytes.{Below, Writes, sizes}
+use Rattle.report.specs.code.EventsWritten.{Shifted, byRules, countOf, RuleEvents, EventsWritten, AllWritten}
 use Rattle.report.proofs.EventLaws.{event-length, listed-members, Long, long-map, long-both, writes-both, writes-long}
 
 -- ---- bytes moved up

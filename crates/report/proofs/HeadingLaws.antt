@@ -6,18 +6,18 @@ use Prim.Native.Nat.{ℕ, _+_, _*_, _<_, _≤_, min}
 use native.Mathlib.Omega.{arith}
 use lib.Dec.{eqb, ltb}
 use lib.ListN.{length, getD, take, drop, drop-of-length-le}
-use Rattle.records.specs.Sets.{union, subset, size, below, unionBelow, unionOf}
-use Rattle.records.specs.Plan.{Plan}
-use Rattle.records.specs.Case.{CaseHeading}
-use Rattle.expressions.specs.Rules.{edgeCount, cutCount, attachmentCount, barCount, statusCount, cut, bar, status, pair, span, ruleSets, rulePersons}
-use Rattle.expressions.specs.Listed.{statusHolds}
+use Rattle.records.specs.paper.Sets.{union, subset, size, below, unionBelow, unionOf}
+use Rattle.records.specs.paper.Plan.{Plan}
+use Rattle.records.specs.paper.Case.{CaseHeading}
+use Rattle.expressions.specs.paper.Rules.{edgeCount, cutCount, attachmentCount, barCount, statusCount, cut, bar, status, pair, span, ruleSets, rulePersons}
+use Rattle.expressions.specs.code.Listed.{statusHolds}
 use Rattle.expressions.proofs.ListLaws.{rest-next, made-length, made-at}
 use Rattle.expressions.proofs.RuleLaws.{below-list}
 use Rattle.expressions.proofs.UnionLaws.{union-assoc, union-append}
 use Rattle.worlds.proofs.DiscretionLaws.{union-below}
-use Rattle.report.specs.Line.{lineLength}
-use Rattle.report.specs.Opening.{itself}
-use Rattle.report.specs.Operations.{relationOf, mismatched, headingFault}
+use Rattle.report.specs.paper.Line.{lineLength}
+use Rattle.report.specs.code.Opening.{itself}
+use Rattle.report.specs.paper.Operations.{relationOf, mismatched, headingFault}
 
 -- ---- what is left of a list made from an array's entries in use
 

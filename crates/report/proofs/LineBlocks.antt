@@ -7,18 +7,18 @@ use Prim.Native.Nat.{ℕ, _≤_, _<_, _^_}
 use native.Mathlib.Omega.{arith}
 use lib.Dec.{eqb}
 use borrow.Author.Tests.{eqb-true, eqb-false, eq-eqb}
-use Rattle.records.specs.Sets.{has, subset, allOf, unionOf}
-use Rattle.records.specs.Plan.{Plan}
-use Rattle.records.specs.Sound.{All}
+use Rattle.records.specs.paper.Sets.{has, subset, allOf, unionOf}
+use Rattle.records.specs.paper.Plan.{Plan}
+use Rattle.records.specs.promises.Sound.{All}
 use Rattle.records.proofs.SetLaws.{has-none, and-parts}
 use Rattle.records.proofs.Local.{clash}
-use Rattle.expressions.specs.Rules.{rulePersons}
-use Rattle.expressions.specs.Variables.{Influence}
-use Rattle.worlds.specs.Active.{Active}
-use Rattle.worlds.specs.World.{World, marked, blockOf, worldOf}
-use Rattle.worlds.specs.View.{View, view}
+use Rattle.expressions.specs.paper.Rules.{rulePersons}
+use Rattle.expressions.specs.paper.Variables.{Influence}
+use Rattle.worlds.specs.paper.Active.{Active}
+use Rattle.worlds.specs.paper.World.{World, marked, blockOf, worldOf}
+use Rattle.worlds.specs.paper.View.{View, view}
 use Rattle.worlds.proofs.Partition.{InNoBlock, InOneBlock, partition}
-use Rattle.report.specs.Line.{Line, lineBy, lineOver, firstKind}
+use Rattle.report.specs.paper.Line.{Line, lineBy, lineOver, firstKind}
 use Rattle.report.proofs.Apart.{InOne, InAll}
 
 -- ---- kinds and blocks of the roster persons

@@ -7,14 +7,14 @@ use native.Mathlib.Nat.{pow-suc}
 use native.Mathlib.Omega.{arith}
 use lib.ListN.{length, getD, take, drop, replicate, take-append-drop, List·getD-eq-default}
 use lib.Seq.{take-at}
-use Rattle.records.specs.Fields.{little}
-use Rattle.records.specs.Sound.{All}
+use Rattle.records.specs.paper.Fields.{little}
+use Rattle.records.specs.promises.Sound.{All}
 use Rattle.records.proofs.SetLaws.{lt-or-le}
 use Rattle.records.proofs.Every.{all-parts, all-getD}
-use Rattle.worlds.specs.Events.{littleBytes}
-use Rattle.report.specs.Line.{Line, lineBytes, lineLength, bareLine}
-use Rattle.report.specs.LineAt.{lineAt, personAt, kindAt, blockAt}
-use Rattle.report.specs.Operations.{filled}
+use Rattle.worlds.specs.paper.Events.{littleBytes}
+use Rattle.report.specs.paper.Line.{Line, lineBytes, lineLength, bareLine}
+use Rattle.report.specs.promises.LineAt.{lineAt, personAt, kindAt, blockAt}
+use Rattle.report.specs.paper.Operations.{filled}
 use Rattle.report.proofs.LinesAt.{run, line-at, past-lines}
 
 -- ---- numbers as bytes

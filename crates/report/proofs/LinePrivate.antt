@@ -3,16 +3,16 @@ use mathlib.Core.Path.{_≡_, sym, ap, _∙_, subst}
 use mathlib.Core.Bool.{Bool, true, false, cond}
 use mathlib.Core.List.{List, [], _∷_, _++_, map, map-append}
 use Prim.Native.Nat.{ℕ}
-use Rattle.records.specs.Sets.{has}
-use Rattle.records.specs.Plan.{Plan}
-use Rattle.expressions.specs.Influence.{Frame}
-use Rattle.expressions.specs.Bindings.{Bound}
-use Rattle.expressions.specs.Variables.{Values, choice, slots, worlds, influence, admissible}
+use Rattle.records.specs.paper.Sets.{has}
+use Rattle.records.specs.paper.Plan.{Plan}
+use Rattle.expressions.specs.paper.Influence.{Frame}
+use Rattle.expressions.specs.paper.Bindings.{Bound}
+use Rattle.expressions.specs.paper.Variables.{Values, choice, slots, worlds, influence, admissible}
 use Rattle.expressions.proofs.Circles.{Circle, in-circle, uncrossed}
 use Rattle.expressions.proofs.Similar.{Similar, similar-start, BoundAlike, sorted, worlds-near, admissible-same, facts-twins, decisions-twins, influence-twins}
-use Rattle.worlds.specs.Active.{active}
-use Rattle.worlds.specs.World.{World, worldOf}
-use Rattle.worlds.specs.View.{View, view}
+use Rattle.worlds.specs.paper.Active.{active}
+use Rattle.worlds.specs.paper.World.{World, worldOf}
+use Rattle.worlds.specs.paper.View.{View, view}
 use Rattle.worlds.proofs.CutsSeen.{active-same}
 use Rattle.worlds.proofs.MarksSeen.{marks-agree}
 use Rattle.worlds.proofs.ViewSeen.{after-seen, view-same}

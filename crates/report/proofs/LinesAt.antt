@@ -6,9 +6,9 @@ use native.Mathlib.Omega.{arith}
 use native.Mathlib.Nat.{not-suc-le-zero, le-of-suc-le-suc}
 use lib.ListN.{length, getD, take, drop, replicate}
 use lib.Seq.{take-at, drop-append-add}
-use Rattle.worlds.specs.Events.{littleBytes}
-use Rattle.report.specs.Line.{Line, lineBytes}
-use Rattle.report.specs.Operations.{filled}
+use Rattle.worlds.specs.paper.Events.{littleBytes}
+use Rattle.report.specs.paper.Line.{Line, lineBytes}
+use Rattle.report.specs.paper.Operations.{filled}
 
 pub line-length : (l : Line) → length (lineBytes l) ≡ 29
 unfolding lineBytes littleBytes

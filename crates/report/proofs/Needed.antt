@@ -6,16 +6,16 @@ use mathlib.Core.List.{List, [], _∷_, map}
 use Prim.Native.Nat.{ℕ, _<_}
 use lib.ListN.{drop, getD, length, List·getD-map}
 use borrow.Author.Tests.{ltb-true, eqb-true, eq-eqb}
-use Rattle.records.specs.Sets.{numbers, below}
-use Rattle.records.specs.Plan.{Plan}
-use Rattle.records.specs.Sound.{All}
+use Rattle.records.specs.paper.Sets.{numbers, below}
+use Rattle.records.specs.paper.Plan.{Plan}
+use Rattle.records.specs.promises.Sound.{All}
 use Rattle.records.proofs.BelowLaws.{any-false}
 use Rattle.records.proofs.LoopLaws.{getD-below, all-at}
-use Rattle.expressions.specs.Rules.{factCount}
-use Rattle.expressions.specs.Influence.{Frame, touchesCircle}
-use Rattle.expressions.specs.Bindings.{frameOf, conflict, unknown, known, unbound, Bound, both, just, bindingOf}
-use Rattle.expressions.specs.Variables.{choices}
-use Rattle.report.specs.Private.{Private}
+use Rattle.expressions.specs.paper.Rules.{factCount}
+use Rattle.expressions.specs.paper.Influence.{Frame, touchesCircle}
+use Rattle.expressions.specs.paper.Bindings.{frameOf, conflict, unknown, known, unbound, Bound, both, just, bindingOf}
+use Rattle.expressions.specs.paper.Variables.{choices}
+use Rattle.report.specs.promises.Private.{Private}
 use Rattle.report.proofs.Weaker.{none, touchesBut, whole}
 use Rattle.report.proofs.Sanity.{Shown, table, oneCandidate, thePlan, first, second, Found, found, expected, number, sameBound, sameValues, computed}
 

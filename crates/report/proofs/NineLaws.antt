@@ -11,16 +11,16 @@ use lib.Seq.{drop-cons, length-take-le, take-at, drop-at, take-all, take-add, dr
 use lib.Dec.{eqb, ltb}
 use borrow.Author.Tests.{eqb-true, eq-eqb, lt-ltb, le-ltb}
 use borrow.Rule.Slice.PartMut.{putMid}
-use Rattle.records.specs.Sets.{lexLess, anyOf, members}
-use Rattle.records.specs.Sound.{All}
+use Rattle.records.specs.paper.Sets.{lexLess, anyOf, members}
+use Rattle.records.specs.promises.Sound.{All}
 use Rattle.records.proofs.SetLaws.{lt-or-le}
 use Rattle.records.proofs.Local.{clash}
-use Rattle.worlds.specs.Events.{event}
-use Rattle.worlds.specs.Over.{entry}
-use Rattle.report.specs.EventList.{insert, rising}
-use Rattle.report.specs.Happened.{Rises}
-use Rattle.report.specs.EventBytes.{chunks}
-use Rattle.report.specs.Nine.{order, stands, Inserted, Nines, prepended, PartListed, PartsListed}
+use Rattle.worlds.specs.paper.Events.{event}
+use Rattle.worlds.specs.code.Over.{entry}
+use Rattle.report.specs.paper.EventList.{insert, rising}
+use Rattle.report.specs.code.Happened.{Rises}
+use Rattle.report.specs.code.EventBytes.{chunks}
+use Rattle.report.specs.code.Nine.{order, stands, Inserted, Nines, prepended, PartListed, PartsListed}
 use Rattle.report.specs.declared.nine.Listing.{Listing}
 use Rattle.report.proofs.AmongLaws.{Among, all-each, each-all, of-any}
 use Rattle.report.proofs.RisingSet.{less-head, less-tail, less-self, less-thru, rising-rises, of-rising, rising-set}

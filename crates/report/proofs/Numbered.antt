@@ -6,10 +6,10 @@ use Prim.Native.Nat.{ℕ, zero, suc, _+_}
 use native.Mathlib.Nat.{suc-ne-zero}
 use lib.ListN.{length}
 use lib.Dec.{eqb, ltb, leb}
-use Rattle.records.specs.Fields.{Read, got, bad, Format, Raw, recordAt, Verdict, fine, refused, onFine, readFrom, firstFault}
-use Rattle.records.specs.Plan.{Plan, planRecords, planFaults, checkedPlan}
-use Rattle.records.specs.Case.{Case, caseRecords, readCase}
-use Rattle.expressions.specs.Bindings.{bindable}
+use Rattle.records.specs.paper.Fields.{Read, got, bad, Format, Raw, recordAt, Verdict, fine, refused, onFine, readFrom, firstFault}
+use Rattle.records.specs.paper.Plan.{Plan, planRecords, planFaults, checkedPlan}
+use Rattle.records.specs.paper.Case.{Case, caseRecords, readCase}
+use Rattle.expressions.specs.paper.Bindings.{bindable}
 
 abbrev pub Numbered : {A : Type 0} → Verdict A → Type 0
 Numbered (fine a) = Unit {0}

@@ -9,19 +9,19 @@ use native.Mathlib.Omega.{arith}
 use lib.ListN.{length}
 use lib.Pow.{pow-pos}
 use lib.Dec.{eqb, ltb}
-use Rattle.records.specs.Sets.{subset, size}
-use Rattle.records.specs.Fields.{Verdict, fine, refused}
-use Rattle.records.specs.Plan.{Plan, checkedPlan}
-use Rattle.records.specs.Case.{Case, CaseHeading, readCase, caseHeading, familiesAt, booleansAt}
-use Rattle.records.specs.Sound.{SoundHeading, SoundCase}
+use Rattle.records.specs.paper.Sets.{subset, size}
+use Rattle.records.specs.paper.Fields.{Verdict, fine, refused}
+use Rattle.records.specs.paper.Plan.{Plan, checkedPlan}
+use Rattle.records.specs.paper.Case.{Case, CaseHeading, readCase, caseHeading, familiesAt, booleansAt}
+use Rattle.records.specs.promises.Sound.{SoundHeading, SoundCase}
 use Rattle.records.proofs.Every.{all-getD}
 use Rattle.records.proofs.ReadLaws.{of-fine, past-faults}
-use Rattle.expressions.specs.Rules.{rulePersons}
-use Rattle.expressions.specs.Bindings.{Bound, bindings, bindable, familyFaults, booleanFaults}
-use Rattle.expressions.specs.Variables.{worldCount}
-use Rattle.report.specs.Line.{lineLength}
+use Rattle.expressions.specs.paper.Rules.{rulePersons}
+use Rattle.expressions.specs.paper.Bindings.{Bound, bindings, bindable, familyFaults, booleanFaults}
+use Rattle.expressions.specs.paper.Variables.{worldCount}
+use Rattle.report.specs.paper.Line.{lineLength}
 use Rattle.report.specs.declared.Answer.{Answer}
-use Rattle.report.specs.Operations.{told, relationOf, Opened, stopped, incomplete, ready, mismatched, headingFault, orStop, unlessFault, tooMany, counted, bound, opened, answerOpened, answer, showOpened, show}
+use Rattle.report.specs.paper.Operations.{told, relationOf, Opened, stopped, incomplete, ready, mismatched, headingFault, orStop, unlessFault, tooMany, counted, bound, opened, answerOpened, answer, showOpened, show}
 use Rattle.report.proofs.Numbered.{Numbered, plan-numbered, case-numbered, bindable-numbered}
 use Rattle.report.proofs.Answered.{too-many}
 

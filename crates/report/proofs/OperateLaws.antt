@@ -11,32 +11,32 @@ use lib.Seq.{getD-take}
 use lib.Pow.{pow-pos}
 use lib.Dec.{eqb, ltb}
 use borrow.Author.Tests.{eq-eqb, ne-eqb, ltb-true, ltb-false}
-use Rattle.records.specs.Sets.{size, subset}
-use Rattle.records.specs.Fields.{Verdict, fine, refused}
-use Rattle.records.specs.Plan.{Plan, Heading, checkedPlan}
-use Rattle.records.specs.Case.{Case, CaseHeading, readCase, caseHeading}
-use Rattle.records.specs.Sound.{All, Sound, SoundHeading, SoundCase}
-use Rattle.records.specs.Check.{checkedOf}
-use Rattle.records.specs.Decoded.{planOf, caseOf, caseHeadingOf, given}
-use Rattle.records.specs.PlanRead.{planReadOf}
-use Rattle.records.specs.CaseRead.{caseReadOf}
+use Rattle.records.specs.paper.Sets.{size, subset}
+use Rattle.records.specs.paper.Fields.{Verdict, fine, refused}
+use Rattle.records.specs.paper.Plan.{Plan, Heading, checkedPlan}
+use Rattle.records.specs.paper.Case.{Case, CaseHeading, readCase, caseHeading}
+use Rattle.records.specs.promises.Sound.{All, Sound, SoundHeading, SoundCase}
+use Rattle.records.specs.code.Check.{checkedOf}
+use Rattle.records.specs.code.Decoded.{planOf, caseOf, caseHeadingOf, given}
+use Rattle.records.specs.code.PlanRead.{planReadOf}
+use Rattle.records.specs.code.CaseRead.{caseReadOf}
 use Rattle.records.specs.declared.plan.Plan.{Plan as Coded}
 use Rattle.records.specs.declared.case.Case.{Case as CodedCase}
-use Rattle.records.specs.declared.read_plan.PlanRead.{PlanRead}
-use Rattle.records.specs.declared.read_case.CaseRead.{CaseRead}
+use Rattle.records.specs.declared.plan.reading.PlanRead.{PlanRead}
+use Rattle.records.specs.declared.case.reading.CaseRead.{CaseRead}
 use Rattle.records.specs.declared.checked.Checked.the-variants as checked
 use Rattle.records.proofs.Accepted.{accepted}
 use Rattle.records.proofs.AcceptedCase.{accepted-case}
 use Rattle.records.proofs.CheckLaws.{refused-is}
 use Rattle.records.proofs.Every.{all-getD}
-use Rattle.expressions.specs.Rules.{rulePersons}
-use Rattle.expressions.specs.Influence.{Frame, openDecisions}
-use Rattle.expressions.specs.Bindings.{Bound, bindings, bindingsBy, bindingAt, bindable, frameOf}
-use Rattle.expressions.specs.Variables.{worldCount}
-use Rattle.expressions.specs.Codes.{boundOf}
-use Rattle.expressions.specs.Coded.{frameBy, statusesOf, PersonFits}
-use Rattle.expressions.specs.Counted.{countOf, Counts}
-use Rattle.expressions.specs.Reached.{Reached}
+use Rattle.expressions.specs.paper.Rules.{rulePersons}
+use Rattle.expressions.specs.paper.Influence.{Frame, openDecisions}
+use Rattle.expressions.specs.paper.Bindings.{Bound, bindings, bindingsBy, bindingAt, bindable, frameOf}
+use Rattle.expressions.specs.paper.Variables.{worldCount}
+use Rattle.expressions.specs.code.Codes.{boundOf}
+use Rattle.expressions.specs.code.Coded.{frameBy, statusesOf, PersonFits}
+use Rattle.expressions.specs.code.Counted.{countOf, Counts}
+use Rattle.expressions.specs.code.Reached.{Reached}
 use Rattle.expressions.specs.declared.reach.Reach.{Reach}
 use Rattle.expressions.specs.declared.variables.Count.{Count}
 use Rattle.expressions.proofs.FitLaws.{statuses-fit}
@@ -44,14 +44,14 @@ use Rattle.expressions.proofs.OpenLaws.{opens-number}
 use Rattle.expressions.proofs.FactLaws.{bindings-by}
 use Rattle.expressions.proofs.ReachLaws.{heading-of, frame-of}
 use Rattle.report.proofs.ReadyLaws.{somebody}
-use Rattle.report.specs.Line.{lineLength}
-use Rattle.report.specs.LineAt.{lineAt}
-use Rattle.report.specs.Operations.{told, relationOf, mismatched, headingFault, tooMany, Opened, stopped, incomplete, ready, orStop, unlessFault, counted, bound, opened, Outcome, refusal, answerOpened, answer, showOpened, show}
-use Rattle.report.specs.Opening.{RulePersons, HeadingFault}
-use Rattle.report.specs.Operate.{judged, headed, outcome, Operates}
-use Rattle.report.specs.Bare.{worldless, Worldless}
-use Rattle.report.specs.Ready.{readyOutcome, AnswersReady}
-use Rattle.report.specs.Private.{PrivateLines}
+use Rattle.report.specs.paper.Line.{lineLength}
+use Rattle.report.specs.promises.LineAt.{lineAt}
+use Rattle.report.specs.paper.Operations.{told, relationOf, mismatched, headingFault, tooMany, Opened, stopped, incomplete, ready, orStop, unlessFault, counted, bound, opened, Outcome, refusal, answerOpened, answer, showOpened, show}
+use Rattle.report.specs.code.Opening.{RulePersons, HeadingFault}
+use Rattle.report.specs.code.Operate.{judged, headed, outcome, Operates}
+use Rattle.report.specs.code.Bare.{worldless, Worldless}
+use Rattle.report.specs.code.Ready.{readyOutcome, AnswersReady}
+use Rattle.report.specs.promises.Private.{PrivateLines}
 use Rattle.report.specs.declared.Answer.{Answer}
 use Rattle.report.specs.declared.Answer.the-variants.{Refused, TooManyWorlds}
 use Rattle.report.specs.declared.run.Wanted.{Wanted}

@@ -10,17 +10,17 @@ use lib.ListN.{length, getD, replicate, length-map, List·getD-eq-default}
 use lib.Bits.{and-le-r}
 use lib.Pow.{pow-pos}
 use lib.Dec.{ltb}
-use Rattle.records.specs.Sets.{has, meet, disjoint, members}
+use Rattle.records.specs.paper.Sets.{has, meet, disjoint, members}
 use Rattle.records.proofs.SetLaws.{Within, has-none, has-high, antisym, in-meet, of-meet, apart, disjoint-false, lt-or-le}
 use Rattle.records.proofs.ListLaws.{getD-mapped}
 use Rattle.records.proofs.MemberLaws.{members-length, member-at, member-place}
 use Rattle.records.proofs.Local.{clash}
-use Rattle.report.specs.Line.{Line, lineBytes}
-use Rattle.report.specs.LineAt.{personAt, kindAt, blockAt}
-use Rattle.report.specs.EventList.{eventLength}
+use Rattle.report.specs.paper.Line.{Line, lineBytes}
+use Rattle.report.specs.promises.LineAt.{personAt, kindAt, blockAt}
+use Rattle.report.specs.paper.EventList.{eventLength}
 use Rattle.report.specs.declared.Answer.{Answer}
 use Rattle.report.specs.declared.Answer.the-variants.{Refused, Answered}
-use Rattle.report.specs.Operations.{told, Outcome, filled, refusal, written}
+use Rattle.report.specs.paper.Operations.{told, Outcome, filled, refusal, written}
 use Rattle.report.proofs.LineBytes.{none, zeros, zeros-block, person-read, kind-read, block-read}
 use Rattle.report.proofs.Once.{members-once}
 use Rattle.report.proofs.Apart.{Apart, Partitioned}

@@ -6,20 +6,20 @@ use mathlib.Core.Logic.{_⊎_, inl, inr}
 use Prim.Native.Nat.{ℕ, _<_, _≤_}
 use lib.ListN.{getD, length}
 use lib.Dec.{eqb}
-use Rattle.records.specs.Sets.{has, size, members, allOf, unionOf}
-use Rattle.records.specs.Fields.{fine}
-use Rattle.records.specs.Plan.{Plan, checkedPlan}
-use Rattle.records.specs.Case.{Case, readCase, caseHeading}
+use Rattle.records.specs.paper.Sets.{has, size, members, allOf, unionOf}
+use Rattle.records.specs.paper.Fields.{fine}
+use Rattle.records.specs.paper.Plan.{Plan, checkedPlan}
+use Rattle.records.specs.paper.Case.{Case, readCase, caseHeading}
 use Rattle.records.proofs.SetLaws.{lt-or-le, has-high}
 use Rattle.records.proofs.MemberLaws.{member-place}
 use Rattle.records.proofs.AcceptedCase.{accepted-case}
 use Rattle.records.proofs.Local.{clash}
-use Rattle.expressions.specs.Bindings.{bindings, frameOf}
-use Rattle.expressions.specs.Variables.{Influence, influence, worlds}
-use Rattle.worlds.specs.View.{View}
-use Rattle.report.specs.Line.{lineBytes, bareLine, lineBy, lineOver, firstKind}
-use Rattle.report.specs.LineAt.{personAt}
-use Rattle.report.specs.Operations.{told, answer}
+use Rattle.expressions.specs.paper.Bindings.{bindings, frameOf}
+use Rattle.expressions.specs.paper.Variables.{Influence, influence, worlds}
+use Rattle.worlds.specs.paper.View.{View}
+use Rattle.report.specs.paper.Line.{lineBytes, bareLine, lineBy, lineOver, firstKind}
+use Rattle.report.specs.promises.LineAt.{personAt}
+use Rattle.report.specs.paper.Operations.{told, answer}
 use Rattle.report.proofs.OpenedLaws.{roster-fits}
 use Rattle.report.proofs.Answered.{viewsOf, lineOf, lineFor}
 use Rattle.report.proofs.Privacy.{line-bytes}

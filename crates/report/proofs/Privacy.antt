@@ -6,23 +6,23 @@ use mathlib.Core.List.{List, [], map}
 use Prim.Native.Nat.{ℕ, _<_}
 use lib.ListN.{length, getD, length-map, List·getD-map}
 use lib.Dec.{eqb}
-use Rattle.records.specs.Sets.{has, size, members}
-use Rattle.records.specs.Fields.{fine}
-use Rattle.records.specs.Plan.{Plan, checkedPlan}
-use Rattle.records.specs.Case.{Case, CaseHeading, readCase, caseHeading}
+use Rattle.records.specs.paper.Sets.{has, size, members}
+use Rattle.records.specs.paper.Fields.{fine}
+use Rattle.records.specs.paper.Plan.{Plan, checkedPlan}
+use Rattle.records.specs.paper.Case.{Case, CaseHeading, readCase, caseHeading}
 use Rattle.records.proofs.MemberLaws.{members-length, member-at}
-use Rattle.expressions.specs.Rules.{factCount}
-use Rattle.expressions.specs.Influence.{Frame, touchesCircle}
-use Rattle.expressions.specs.Bindings.{unbound, bindingOf, bindings, frameOf}
+use Rattle.expressions.specs.paper.Rules.{factCount}
+use Rattle.expressions.specs.paper.Influence.{Frame, touchesCircle}
+use Rattle.expressions.specs.paper.Bindings.{unbound, bindingOf, bindings, frameOf}
 use Rattle.expressions.proofs.ListLaws.{below-at}
 use Rattle.expressions.proofs.Similar.{BoundAlike}
-use Rattle.report.specs.Line.{Line, lineBytes, bareLine}
-use Rattle.report.specs.LineAt.{lineAt}
-use Rattle.report.specs.Operations.{told, answer}
+use Rattle.report.specs.paper.Line.{Line, lineBytes, bareLine}
+use Rattle.report.specs.promises.LineAt.{lineAt}
+use Rattle.report.specs.paper.Operations.{told, answer}
 use Rattle.report.proofs.LinesAt.{line-at}
 use Rattle.report.proofs.Answered.{lineOf, lineFor, answered-lines}
 use Rattle.report.proofs.LinePrivate.{line-private}
-use Rattle.report.specs.Private.{SameLines, Private}
+use Rattle.report.specs.promises.Private.{SameLines, Private}
 
 -- ---- two cases
 

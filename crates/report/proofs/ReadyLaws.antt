@@ -9,27 +9,27 @@ use lib.ListN.{length, getD, take, drop, replicate, length-map, length-append}
 use lib.Seq.{take-at, drop-at}
 use lib.Dec.{leb, ltb, eqb}
 use borrow.Author.Tests.{ltb-true, lt-ltb, eqb-false}
-use Rattle.records.specs.Sets.{has, anyOf, subset, size}
-use Rattle.records.specs.Plan as paper
-use Rattle.records.specs.Case as paper-case
-use Rattle.records.specs.Sound.{All}
-use Rattle.records.specs.Decoded.{planOf, caseOf, caseHeadingOf}
+use Rattle.records.specs.paper.Sets.{has, anyOf, subset, size}
+use Rattle.records.specs.paper.Plan as paper
+use Rattle.records.specs.paper.Case as paper-case
+use Rattle.records.specs.promises.Sound.{All}
+use Rattle.records.specs.code.Decoded.{planOf, caseOf, caseHeadingOf}
 use Rattle.records.specs.declared.plan.Plan.{Plan}
 use Rattle.records.specs.declared.case.Case.{Case}
 use Rattle.records.proofs.SetLaws.{and-parts, has-none}
 use Rattle.records.proofs.LoopLaws.{all-at, length-below}
 use Rattle.records.proofs.BelowLaws.{flag-set}
-use Rattle.expressions.specs.Rules.{factCount, edgeCount, cutCount, attachmentCount, barCount, statusCount, edge, rulePersons}
-use Rattle.expressions.specs.Nodes.{on}
-use Rattle.expressions.specs.Influence.{Frame, openDecisions, decisionCount}
+use Rattle.expressions.specs.paper.Rules.{factCount, edgeCount, cutCount, attachmentCount, barCount, statusCount, edge, rulePersons}
+use Rattle.expressions.specs.paper.Nodes.{on}
+use Rattle.expressions.specs.paper.Influence.{Frame, openDecisions, decisionCount}
 use Rattle.expressions.specs.declared.bindings.Bound as code-bound
-use Rattle.expressions.specs.Bindings.{Bound, bindings, bindingOf, frameOf, tookDefault, tookDefaultBy}
-use Rattle.expressions.specs.Variables as variables
-use Rattle.expressions.specs.Variables.{Values, slots, worlds, booleanCount, isVariable, factInfluence, decisionInfluence, influence}
-use Rattle.expressions.specs.Coded.{frameBy}
-use Rattle.expressions.specs.Slots.{slotOf, slotsOf, slotsBy, booleansIn}
-use Rattle.expressions.specs.Reached.{Reached}
-use Rattle.expressions.specs.Influences.{setsOf, influenceBy}
+use Rattle.expressions.specs.paper.Bindings.{Bound, bindings, bindingOf, frameOf, tookDefault, tookDefaultBy}
+use Rattle.expressions.specs.paper.Variables as variables
+use Rattle.expressions.specs.paper.Variables.{Values, slots, worlds, booleanCount, isVariable, factInfluence, decisionInfluence, influence}
+use Rattle.expressions.specs.code.Coded.{frameBy}
+use Rattle.expressions.specs.code.Slots.{slotOf, slotsOf, slotsBy, booleansIn}
+use Rattle.expressions.specs.code.Reached.{Reached}
+use Rattle.expressions.specs.code.Influences.{setsOf, influenceBy}
 use Rattle.expressions.specs.declared.influence.Influence.{Influence}
 use Rattle.expressions.specs.declared.reach.Reach.{Reach}
 use Rattle.expressions.specs.declared.slots.Slots.{Slots}
@@ -39,23 +39,23 @@ use Rattle.expressions.proofs.CountLaws.{boolean-few}
 use Rattle.expressions.proofs.OpenLaws.{opens-number}
 use Rattle.expressions.proofs.FactLaws.{default-by}
 use Rattle.expressions.proofs.ReachLaws.{frame-of, heading-of, influence-list}
-use Rattle.worlds.specs.Active.{active, flags}
-use Rattle.worlds.specs.World.{World, worldOf, afterMarks, keptCuts, appliedCuts, standing, blockedBy, barHolds}
-use Rattle.worlds.specs.Events.{leastOfMerged}
-use Rattle.worlds.specs.Settled.{blocks, clashes}
-use Rattle.worlds.specs.Tables.{row, Stands}
-use Rattle.worlds.specs.Made.{CommonFor, Ready, Made}
+use Rattle.worlds.specs.paper.Active.{active, flags}
+use Rattle.worlds.specs.paper.World.{World, worldOf, afterMarks, keptCuts, appliedCuts, standing, blockedBy, barHolds}
+use Rattle.worlds.specs.paper.Events.{leastOfMerged}
+use Rattle.worlds.specs.code.Settled.{blocks, clashes}
+use Rattle.worlds.specs.code.Tables.{row, Stands}
+use Rattle.worlds.specs.code.Made.{CommonFor, Ready, Made}
 use Rattle.worlds.specs.declared.tables.Common.{Common}
 use Rattle.worlds.proofs.AttachLaws.{moved-is}
-use Rattle.report.specs.EventBytes.{Below}
-use Rattle.report.specs.Kept.{Kept}
-use Rattle.report.specs.Walked.{worldAt, wanted}
-use Rattle.report.specs.Free.{FreeList}
-use Rattle.report.specs.Operations.{relationOf, mismatched, headingFault, influences, allWorlds, answerReady, showFrom}
-use Rattle.report.specs.Line.{lineLength}
-use Rattle.report.specs.Run.{Started, Runs}
-use Rattle.report.specs.Finish.{Ends, Placed, ended, Finishes}
-use Rattle.report.specs.Ready.{Defaulted, Concerns, IsReady, readyOutcome, AnswersReady}
+use Rattle.report.specs.code.EventBytes.{Below}
+use Rattle.report.specs.code.Kept.{Kept}
+use Rattle.report.specs.code.Walked.{worldAt, wanted}
+use Rattle.report.specs.code.Free.{FreeList}
+use Rattle.report.specs.paper.Operations.{relationOf, mismatched, headingFault, influences, allWorlds, answerReady, showFrom}
+use Rattle.report.specs.paper.Line.{lineLength}
+use Rattle.report.specs.code.Run.{Started, Runs}
+use Rattle.report.specs.code.Finish.{Ends, Placed, ended, Finishes}
+use Rattle.report.specs.code.Ready.{Defaulted, Concerns, IsReady, readyOutcome, AnswersReady}
 use Rattle.report.specs.declared.Answer.{Answer}
 use Rattle.report.specs.declared.finish.Opens.{Opens}
 use Rattle.report.specs.declared.nine.Listing.{Listing}

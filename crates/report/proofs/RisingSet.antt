@@ -8,13 +8,13 @@ use native.Mathlib.Omega.{arith}
 use lib.Dec.{eqb, ltb}
 use lib.ListN.{length, getD}
 use borrow.Author.Tests.{eqb-true, eq-eqb, ne-eqb, ltb-true, lt-ltb}
-use Rattle.records.specs.Sets.{lexLess}
-use Rattle.records.specs.Sound.{All}
+use Rattle.records.specs.paper.Sets.{lexLess}
+use Rattle.records.specs.promises.Sound.{All}
 use Rattle.records.proofs.SetLaws.{lt-or-le}
 use Rattle.records.proofs.Every.{all-then}
 use Rattle.records.proofs.Local.{clash}
-use Rattle.report.specs.EventList.{insert, rising}
-use Rattle.report.specs.Happened.{Rises}
+use Rattle.report.specs.paper.EventList.{insert, rising}
+use Rattle.report.specs.code.Happened.{Rises}
 use Rattle.report.proofs.AmongLaws.{Among, all-each, each-all}
 
 -- ---- byte order

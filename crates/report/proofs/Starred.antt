@@ -4,23 +4,23 @@ use mathlib.Core.List.{List, [], _∷_, _++_, map, flatMap}
 use Prim.Native.Nat.{ℕ, _*_}
 use lib.ListN.{length}
 use lib.Count.{onesIn, trailingZeros}
-use Rattle.records.specs.Sets.{has, one, union, meet, minus, disjoint, meets, subset, setOf, size, lowest, membersFrom, members, lexLess, risingLess, absorb, pass, passes, closeOf, numbers, below, anyBelow, unionBelow, foldBelow, allOf, anyOf, unionOf}
-use Rattle.records.specs.Fields.{byteAt, bytesAt, repeat, little, fieldAt, fieldsAt, recordAt, readFrom, firstFault}
-use Rattle.records.specs.Check.{checkedOf}
-use Rattle.records.specs.Plan.{planFormats, nodeOf, electionOf, decisionsOf, addToPlan, planCounts, isBoolean, rises, factsRise, decidedOnce, unresolvedIn, unresolved, judgePlan, planRecords, eachFrom, getFact, nodeSound, edgeSound, electionSound, cutSound, attachmentSound, namingFaults, crosses, crossingsDecided, sameElection, electionFaults, planFaults, checkedPlan}
-use Rattle.records.specs.Case.{caseFormats, observationsOf, addToCase, caseCounts, judgeCase, caseRecords, relationSound, caseNamingFaults, readCase, caseHeading}
-use Rattle.expressions.specs.Rules.{rulePersons, edge, cut, attachment, bar, status, pair, span, ruleSets, chained}
-use Rattle.expressions.specs.Nodes.{value, valuesFrom, values, uses, usesFrom, nodeUses}
-use Rattle.expressions.specs.Influence.{openIn, openBelow, openDecisions, openDecision, decisionTouch, edgeUses, cutUses, attachmentUses, barUses, statusUses, usersOf, constraintUses, boundFacts, touched, touch, touches, decisionTouches, joins, circle, touchesCircle}
-use Rattle.expressions.specs.Bindings.{evidenceOf, valuesSeen, weighed, elections, defaultOf, boundBoolean, inScope, boundRelation, bindingOf, bindings, tookDefault, observedInBooleans, observedInRelations, unknownIn, electionsIn, scoped, bindingBy, bindingsBy, tookDefaultBy, familyFaults, booleanFault, booleanFaults, bindable}
-use Rattle.expressions.specs.Variables.{booleanCount, slots, waysOf, worldCount, set, valuations, admissible, worlds, factInfluence, decisionInfluence, influence}
-use Rattle.worlds.specs.Active.{flags, active, blocksEdge}
-use Rattle.worlds.specs.World.{about, baseSet, baseSets, clique, loose, looseComponent, looseComponents, spread, chainStep, preceded, keptCut, keptCuts, overlappingCut, overlappingCuts, blockedBy, blockedCut, appliedCuts, discretionSeed, overlapSeed, marksOf, marked, cutMembers, appliedTo, restSets, firstBlock, firstState, move, attach, lastState, barredBy, excludedBy, afterMarks, worldOf}
-use Rattle.worlds.specs.View.{roleOf, edgeCitations, leads, cutCitations, attachmentCitations, barCitations, statusCitations, citations, view}
-use Rattle.worlds.specs.Events.{littleBytes, event, listed, frozenEvents, appliedEvents, blockedEvents, leastOfMerged, overlapEvents, attachmentEvents, barEvents, statusEvents, discretionEvents, eventsOf}
-use Rattle.report.specs.Line.{lineBytes, firstKind, holding, lineOver, lineIn}
-use Rattle.report.specs.EventList.{insert, rising, defaultEvents}
-use Rattle.report.specs.Operations.{told, check, mismatched, headingFault, tooMany, counted, bound, opened, written, influences, allWorlds, linesOver, eventsOver, linesOf, answerReady, answer, showFrom, show}
+use Rattle.records.specs.paper.Sets.{has, one, union, meet, minus, disjoint, meets, subset, setOf, size, lowest, membersFrom, members, lexLess, risingLess, absorb, pass, passes, closeOf, numbers, below, anyBelow, unionBelow, foldBelow, allOf, anyOf, unionOf}
+use Rattle.records.specs.paper.Fields.{byteAt, bytesAt, repeat, little, fieldAt, fieldsAt, recordAt, readFrom, firstFault}
+use Rattle.records.specs.code.Check.{checkedOf}
+use Rattle.records.specs.paper.Plan.{planFormats, nodeOf, electionOf, decisionsOf, addToPlan, planCounts, isBoolean, rises, factsRise, decidedOnce, unresolvedIn, unresolved, judgePlan, planRecords, eachFrom, getFact, nodeSound, edgeSound, electionSound, cutSound, attachmentSound, namingFaults, crosses, crossingsDecided, sameElection, electionFaults, planFaults, checkedPlan}
+use Rattle.records.specs.paper.Case.{caseFormats, observationsOf, addToCase, caseCounts, judgeCase, caseRecords, relationSound, caseNamingFaults, readCase, caseHeading}
+use Rattle.expressions.specs.paper.Rules.{rulePersons, edge, cut, attachment, bar, status, pair, span, ruleSets, chained}
+use Rattle.expressions.specs.paper.Nodes.{value, valuesFrom, values, uses, usesFrom, nodeUses}
+use Rattle.expressions.specs.paper.Influence.{openIn, openBelow, openDecisions, openDecision, decisionTouch, edgeUses, cutUses, attachmentUses, barUses, statusUses, usersOf, constraintUses, boundFacts, touched, touch, touches, decisionTouches, joins, circle, touchesCircle}
+use Rattle.expressions.specs.paper.Bindings.{evidenceOf, valuesSeen, weighed, elections, defaultOf, boundBoolean, inScope, boundRelation, bindingOf, bindings, tookDefault, observedInBooleans, observedInRelations, unknownIn, electionsIn, scoped, bindingBy, bindingsBy, tookDefaultBy, familyFaults, booleanFault, booleanFaults, bindable}
+use Rattle.expressions.specs.paper.Variables.{booleanCount, slots, waysOf, worldCount, set, valuations, admissible, worlds, factInfluence, decisionInfluence, influence}
+use Rattle.worlds.specs.paper.Active.{flags, active, blocksEdge}
+use Rattle.worlds.specs.paper.World.{about, baseSet, baseSets, clique, loose, looseComponent, looseComponents, spread, chainStep, preceded, keptCut, keptCuts, overlappingCut, overlappingCuts, blockedBy, blockedCut, appliedCuts, discretionSeed, overlapSeed, marksOf, marked, cutMembers, appliedTo, restSets, firstBlock, firstState, move, attach, lastState, barredBy, excludedBy, afterMarks, worldOf}
+use Rattle.worlds.specs.paper.View.{roleOf, edgeCitations, leads, cutCitations, attachmentCitations, barCitations, statusCitations, citations, view}
+use Rattle.worlds.specs.paper.Events.{littleBytes, event, listed, frozenEvents, appliedEvents, blockedEvents, leastOfMerged, overlapEvents, attachmentEvents, barEvents, statusEvents, discretionEvents, eventsOf}
+use Rattle.report.specs.paper.Line.{lineBytes, firstKind, holding, lineOver, lineIn}
+use Rattle.report.specs.paper.EventList.{insert, rising, defaultEvents}
+use Rattle.report.specs.paper.Operations.{told, check, mismatched, headingFault, tooMany, counted, bound, opened, written, influences, allWorlds, linesOver, eventsOver, linesOf, answerReady, answer, showFrom, show}
 
 -- ---- records as bytes
 

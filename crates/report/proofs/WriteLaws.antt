@@ -13,19 +13,19 @@ use lib.Bits.{bitAnd}
 use lib.Pow.{pow-pos}
 use borrow.Author.Tests.{eq-eqb, eqb-false}
 use borrow.Rule.Slice.PartMut.{putMid, same-len-mid}
-use Rattle.records.specs.Sets.{has, one, only, size, lowest, members, anyOf, unionOf, unionBelow}
-use Rattle.records.specs.Sound.{All}
+use Rattle.records.specs.paper.Sets.{has, one, only, size, lowest, members, anyOf, unionOf, unionBelow}
+use Rattle.records.specs.promises.Sound.{All}
 use Rattle.records.proofs.SetLaws.{one-lt, union-lt}
 use Rattle.records.proofs.MemberLaws.{members-length}
 use Rattle.expressions.proofs.ListLaws.{flat-append}
-use Rattle.expressions.specs.Variables.{Influence}
-use Rattle.worlds.specs.Events.{littleBytes}
-use Rattle.worlds.specs.View.{View}
-use Rattle.worlds.specs.Tables.{row}
+use Rattle.expressions.specs.paper.Variables.{Influence}
+use Rattle.worlds.specs.paper.Events.{littleBytes}
+use Rattle.worlds.specs.paper.View.{View}
+use Rattle.worlds.specs.code.Tables.{row}
 use Rattle.worlds.proofs.OverLaws.{has-members, members-next, members-none}
-use Rattle.report.specs.Line.{Line, lineBytes, lineBy, lineOver, firstKind, holding}
-use Rattle.report.specs.Summed.{stands, rolesAgree}
-use Rattle.report.specs.Written.{LineBy}
+use Rattle.report.specs.paper.Line.{Line, lineBytes, lineBy, lineOver, firstKind, holding}
+use Rattle.report.specs.code.Summed.{stands, rolesAgree}
+use Rattle.report.specs.code.Written.{LineBy}
 
 -- ---- byte by byte
 

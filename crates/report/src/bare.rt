@@ -5,8 +5,8 @@ use crate::run::Wanted;
 use records::sets::size;
 ghost use Prim.Native.Nat.{_*_, _≤_};
 ghost use lib.ListN.{length};
-ghost use Rattle.records.specs.Sets.{size as ones};
-ghost use Rattle.report.specs.Bare.{Worldless};
+ghost use Rattle.records.specs.paper.Sets.{size as ones};
+ghost use Rattle.report.specs.code.Bare.{Worldless};
 
 // A line with nothing but its kind for each person of the roster; to show, there is no world.
 pub fn without_worlds(lines: &mut [u8], roster: u64, kind: u8, wanted: Wanted) -> Answer

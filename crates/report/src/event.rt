@@ -3,7 +3,7 @@ ghost use mathlib.Core.Path.{_≡_};
 ghost use mathlib.Core.List.{_++_};
 ghost use Prim.Native.Nat.{_≤_};
 ghost use lib.ListN.{length, drop};
-ghost use Rattle.worlds.specs.Events.{event};
+ghost use Rattle.worlds.specs.paper.Events.{event};
 
 pub struct Event {
     pub kind: u8,

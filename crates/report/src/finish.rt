@@ -18,9 +18,9 @@ use records::sets::size;
 use worlds::tables::Noted;
 ghost use Prim.Native.Nat.{_+_, _*_, _≤_};
 ghost use lib.ListN.{length, take, drop};
-ghost use Rattle.records.specs.Sets.{size as ones};
-ghost use Rattle.report.specs.Written.{LinesBy};
-ghost use Rattle.report.specs.Finish.{Ends, Finishes};
+ghost use Rattle.records.specs.paper.Sets.{size as ones};
+ghost use Rattle.report.specs.code.Written.{LinesBy};
+ghost use Rattle.report.specs.code.Finish.{Ends, Finishes};
 
 // What the lines of open persons need: the sets of influence, `facts` of them of facts; none of them for a shown world.
 pub struct Opens {

@@ -25,8 +25,8 @@ use worlds::tables::Noted;
 ghost use mathlib.Core.Path.{_≡_};
 ghost use Prim.Native.Nat.{_+_, _*_, _≤_};
 ghost use lib.ListN.{length};
-ghost use Rattle.records.specs.Decoded.{planOf, caseOf};
-ghost use Rattle.report.specs.EventsWritten.{countOf, Shifted, RuleEvents, EventsWritten, AllWritten};
+ghost use Rattle.records.specs.code.Decoded.{planOf, caseOf};
+ghost use Rattle.report.specs.code.EventsWritten.{countOf, Shifted, RuleEvents, EventsWritten, AllWritten};
 
 // The first n bytes moved up; what stood between is free.
 fn shift_up(events: &mut [u8], n: usize, by: usize)

@@ -9,11 +9,11 @@ use records::sets::subset;
 ghost use mathlib.Core.Path.{_≡_};
 ghost use mathlib.Core.List.{map};
 ghost use lib.ListN.{take};
-ghost use Rattle.records.specs.Sets.{unionOf};
-ghost use Rattle.records.specs.Sound.{All};
-ghost use Rattle.expressions.specs.Coded.{statusesOf, PersonFits};
-ghost use Rattle.expressions.specs.Listed.{statusHolds};
-ghost use Rattle.report.specs.Opening.{itself, RulePersons, HeadingFault};
+ghost use Rattle.records.specs.paper.Sets.{unionOf};
+ghost use Rattle.records.specs.promises.Sound.{All};
+ghost use Rattle.expressions.specs.code.Coded.{statusesOf, PersonFits};
+ghost use Rattle.expressions.specs.code.Listed.{statusHolds};
+ghost use Rattle.report.specs.code.Opening.{itself, RulePersons, HeadingFault};
 
 // All who are in one of these sets.
 fn united(sets: &[u64]) -> u64

@@ -15,17 +15,17 @@ use worlds::over::others;
 ghost use mathlib.Core.Path.{_≡_};
 ghost use Prim.Native.Nat.{_+_, _*_, _≤_};
 ghost use lib.ListN.{length};
-ghost use Rattle.records.specs.Sets.{size};
-ghost use Rattle.records.specs.Plan.{Plan as Paper};
-ghost use Rattle.records.specs.Decoded.{planOf, caseOf, electionOf};
-ghost use Rattle.expressions.specs.Coded.{edgesOf, cutsOf, attachmentsOf, statusesOf};
-ghost use Rattle.expressions.specs.Evident.{ReadCase};
-ghost use Rattle.expressions.specs.Rules.{edgeCount, cutCount, attachmentCount, barCount, statusCount, factCount};
-ghost use Rattle.worlds.specs.Events.{electionActor, electionEvidence};
-ghost use Rattle.expressions.specs.Bindings.{defaultOf};
-ghost use Rattle.report.specs.EventList.{numberOf, electionCitation};
-ghost use Rattle.report.specs.Happened.{frozenOver, appliedOver, attachmentOver, barOver, statusOver, defaultOver};
-ghost use Rattle.report.specs.EventBytes.{Writes, Below};
+ghost use Rattle.records.specs.paper.Sets.{size};
+ghost use Rattle.records.specs.paper.Plan.{Plan as Paper};
+ghost use Rattle.records.specs.code.Decoded.{planOf, caseOf, electionOf};
+ghost use Rattle.expressions.specs.code.Coded.{edgesOf, cutsOf, attachmentsOf, statusesOf};
+ghost use Rattle.expressions.specs.code.Evident.{ReadCase};
+ghost use Rattle.expressions.specs.paper.Rules.{edgeCount, cutCount, attachmentCount, barCount, statusCount, factCount};
+ghost use Rattle.worlds.specs.paper.Events.{electionActor, electionEvidence};
+ghost use Rattle.expressions.specs.paper.Bindings.{defaultOf};
+ghost use Rattle.report.specs.paper.EventList.{numberOf, electionCitation};
+ghost use Rattle.report.specs.code.Happened.{frozenOver, appliedOver, attachmentOver, barOver, statusOver, defaultOver};
+ghost use Rattle.report.specs.code.EventBytes.{Writes, Below};
 
 // 1 frozen: rule, left, right.
 pub fn write_frozen(events: &mut [u8], at: usize, edges: Edges, frozen: u64) -> usize

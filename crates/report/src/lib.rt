@@ -22,7 +22,7 @@ pub mod sums;
 pub mod two;
 pub mod walk;
 
-// What an operation answers; `specs/Operations.antt` gives document 01's numbers for each.
+// What an operation answers; `specs/paper/Operations.antt` gives document 01's numbers for each.
 pub enum Answer {
     // a plan without fault
     Accepted,

@@ -17,9 +17,9 @@ use worlds::over::others;
 ghost use mathlib.Core.Path.{_≡_};
 ghost use Prim.Native.Nat.{_*_, _≤_, _<_, _%_};
 ghost use lib.ListN.{length};
-ghost use Rattle.records.specs.Sets.{size};
-ghost use Rattle.report.specs.Line.{holding as holdingOf};
-ghost use Rattle.report.specs.Written.{LineBy, LinesBy};
+ghost use Rattle.records.specs.paper.Sets.{size};
+ghost use Rattle.report.specs.paper.Line.{holding as holdingOf};
+ghost use Rattle.report.specs.code.Written.{LineBy, LinesBy};
 
 // The numbers of the sets that hold a person.
 fn holding(sets: &[u64], p: u8) -> u64

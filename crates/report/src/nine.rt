@@ -7,9 +7,9 @@ ghost use mathlib.Core.Path.{_≡_};
 ghost use mathlib.Core.List.{_++_, map};
 ghost use Prim.Native.Nat.{ℕ, _+_, _*_, _<_, _≤_};
 ghost use lib.ListN.{length, take, drop};
-ghost use Rattle.worlds.specs.Over.{entry};
-ghost use Rattle.report.specs.EventBytes.{chunks};
-ghost use Rattle.report.specs.Nine.{order, Inserted, stands, PartListed, PartsListed};
+ghost use Rattle.worlds.specs.code.Over.{entry};
+ghost use Rattle.report.specs.code.EventBytes.{chunks};
+ghost use Rattle.report.specs.code.Nine.{order, Inserted, stands, PartListed, PartsListed};
 
 // How many are listed; `full` where one did not fit.
 pub struct Listing {

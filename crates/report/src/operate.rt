@@ -11,16 +11,16 @@ use expressions::bindings::bind_facts;
 use expressions::reach::reach_of;
 use expressions::variables::count_worlds;
 use records::case::Case;
-use records::check::decode_plan;
+use records::case::reading::read_case;
 use records::checked::Checked;
 use records::plan::Plan;
-use records::read_case::read_case;
+use records::plan::checks::decode_plan;
 ghost use mathlib.Core.Path.{_≡_};
 ghost use lib.ListN.{length, replicate};
-ghost use Rattle.records.specs.Sound.{Sound, SoundCase};
-ghost use Rattle.records.specs.Decoded.{planOf, caseOf};
-ghost use Rattle.report.specs.Operations.{opened};
-ghost use Rattle.report.specs.Operate.{headed, Operates, Opening};
+ghost use Rattle.records.specs.promises.Sound.{Sound, SoundCase};
+ghost use Rattle.records.specs.code.Decoded.{planOf, caseOf};
+ghost use Rattle.report.specs.paper.Operations.{opened};
+ghost use Rattle.report.specs.code.Operate.{headed, Operates, Opening};
 
 // The refusals 8 to 12, a roster that is not complete, then the refusals 5, 10 and 11, and the worlds.
 fn operate_case(

@@ -2,11 +2,11 @@
 use crate::Answer;
 use crate::operate::operate;
 use crate::run::Wanted;
-use records::check::check as checked;
 use records::checked::Checked;
+use records::plan::checks::check as checked;
 ghost use mathlib.Core.Path.{_≡_};
 ghost use lib.ListN.{length};
-ghost use Rattle.report.specs.Operations.{check as checkOf, answer as answerOf, show as showOf};
+ghost use Rattle.report.specs.paper.Operations.{check as checkOf, answer as answerOf, show as showOf};
 
 // CHECK A PLAN
 pub fn check(plan: &[u8]) -> Answer

@@ -11,15 +11,15 @@ use worlds::over::others;
 ghost use mathlib.Core.Path.{_≡_};
 ghost use Prim.Native.Nat.{ℕ, _+_, _*_, _≤_};
 ghost use lib.ListN.{length};
-ghost use Rattle.records.specs.Sets.{size as many};
-ghost use Rattle.records.specs.Plan.{Plan as Paper};
-ghost use Rattle.records.specs.Decoded.{caseOf};
-ghost use Rattle.expressions.specs.Coded.{cutsOf};
-ghost use Rattle.expressions.specs.Evident.{ReadCase};
-ghost use Rattle.expressions.specs.Rules.{edgeCount, cutCount};
-ghost use Rattle.worlds.specs.Over.{entry};
-ghost use Rattle.report.specs.Happened.{blockedOver, overlapOver};
-ghost use Rattle.report.specs.EventBytes.{Writes, Below, sizes, PairsWritten};
+ghost use Rattle.records.specs.paper.Sets.{size as many};
+ghost use Rattle.records.specs.paper.Plan.{Plan as Paper};
+ghost use Rattle.records.specs.code.Decoded.{caseOf};
+ghost use Rattle.expressions.specs.code.Coded.{cutsOf};
+ghost use Rattle.expressions.specs.code.Evident.{ReadCase};
+ghost use Rattle.expressions.specs.paper.Rules.{edgeCount, cutCount};
+ghost use Rattle.worlds.specs.code.Over.{entry};
+ghost use Rattle.report.specs.code.Happened.{blockedOver, overlapOver};
+ghost use Rattle.report.specs.code.EventBytes.{Writes, Below, sizes, PairsWritten};
 
 // Events of one kind and one first number, for each second number of a set.
 fn write_pairs(events: &mut [u8], at: usize, first: Event, seconds: u64) -> usize

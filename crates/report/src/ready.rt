@@ -18,7 +18,7 @@ use records::case::Case;
 use records::plan::Plan;
 use worlds::make::common_of;
 use worlds::make::lay_tables;
-ghost use Rattle.report.specs.Ready.{Concerns, IsReady, AnswersReady};
+ghost use Rattle.report.specs.code.Ready.{Concerns, IsReady, AnswersReady};
 
 // What open persons' lines and events 8 need; nothing of it for a shown world.
 fn concerns(influence: Influence, facts: usize, defaults: u64, all: bool) -> Opens

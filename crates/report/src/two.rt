@@ -2,7 +2,7 @@
 use crate::Answer;
 use crate::operations::answer;
 ghost use mathlib.Core.Path.{_≡_};
-ghost use Rattle.report.specs.Private.{PrivateLines};
+ghost use Rattle.report.specs.promises.Private.{PrivateLines};
 
 pub struct Two {
     pub first: Answer,

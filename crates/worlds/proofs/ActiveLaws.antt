@@ -9,24 +9,24 @@ use lib.ListN.{length, getD, take}
 use lib.Seq.{getD-take, length-take-le}
 use lib.Dec.{ltb}
 use borrow.Author.Tests.{ltb-true, lt-ltb}
-use Rattle.records.specs.Sets.{has, union, minus, meets, below, anyOf}
-use Rattle.records.specs.Plan.{Plan}
-use Rattle.records.specs.Sound.{All, Sound, SoundNodes, SoundEdge, SoundCut, SoundAttachment, SoundBar, SoundStatus}
+use Rattle.records.specs.paper.Sets.{has, union, minus, meets, below, anyOf}
+use Rattle.records.specs.paper.Plan.{Plan}
+use Rattle.records.specs.promises.Sound.{All, Sound, SoundNodes, SoundEdge, SoundCut, SoundAttachment, SoundBar, SoundStatus}
 use Rattle.records.proofs.SetLaws.{has-union, has-minus, has-none, lt-or-le, meeting}
 use Rattle.records.proofs.LoopLaws.{getD-below, getD-past, all-at}
 use Rattle.records.proofs.BelowLaws.{flag-set}
-use Rattle.expressions.specs.Rules.{edgeCount, cutCount, attachmentCount, barCount, statusCount, edge, cut, attachment, bar, status}
-use Rattle.expressions.specs.Nodes.{on, values, nodeUses}
-use Rattle.expressions.specs.Coded.{Holds}
-use Rattle.expressions.specs.Influence.{usesAt, edgeUses, cutUses, attachmentUses, barUses, statusUses}
-use Rattle.expressions.specs.Variables.{Values}
+use Rattle.expressions.specs.paper.Rules.{edgeCount, cutCount, attachmentCount, barCount, statusCount, edge, cut, attachment, bar, status}
+use Rattle.expressions.specs.paper.Nodes.{on, values, nodeUses}
+use Rattle.expressions.specs.code.Coded.{Holds}
+use Rattle.expressions.specs.paper.Influence.{usesAt, edgeUses, cutUses, attachmentUses, barUses, statusUses}
+use Rattle.expressions.specs.paper.Variables.{Values}
 use Rattle.expressions.proofs.ListLaws.{below-at}
 use Rattle.expressions.proofs.Follow.{On, node-follows}
-use Rattle.worlds.specs.Active.{active, flags}
-use Rattle.worlds.specs.Over.{entry}
-use Rattle.worlds.specs.Tables.{row, Tells}
-use Rattle.worlds.specs.Valued.{NodesStand, OpenNodes, Valued, bitsAt, Chosen, ValuedWords, ReadWorld, Steady}
-use Rattle.worlds.specs.Conditions.{Split, Known, ActiveBy}
+use Rattle.worlds.specs.paper.Active.{active, flags}
+use Rattle.worlds.specs.code.Over.{entry}
+use Rattle.worlds.specs.code.Tables.{row, Tells}
+use Rattle.worlds.specs.code.Valued.{NodesStand, OpenNodes, Valued, bitsAt, Chosen, ValuedWords, ReadWorld, Steady}
+use Rattle.worlds.specs.code.Conditions.{Split, Known, ActiveBy}
 use Rattle.worlds.specs.declared.tables.Active.{Active}
 use Rattle.worlds.proofs.ValueLaws.{any-near}
 use Rattle.worlds.proofs.WordLaws.{on-bits}

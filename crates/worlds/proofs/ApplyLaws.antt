@@ -6,19 +6,19 @@ use mathlib.Core.Logic.{_⊎_, inl, inr}
 use Prim.Native.Nat.{ℕ, _^_, _<_}
 use lib.Dec.{eqb, ltb}
 use borrow.Author.Tests.{ltb-true, lt-ltb, eqb-true, eqb-false, eq-eqb, ne-eqb, not-true}
-use Rattle.records.specs.Sets.{has, one, disjoint, meets, union, minus, only, members, anyBelow}
-use Rattle.records.specs.Plan.{Plan}
+use Rattle.records.specs.paper.Sets.{has, one, disjoint, meets, union, minus, only, members, anyBelow}
+use Rattle.records.specs.paper.Plan.{Plan}
 use Rattle.records.proofs.SetLaws.{has-none, has-minus, has-one, in-union-l, in-union-r, member, meeting, disjoint-false, and-parts}
 use Rattle.records.proofs.LoopLaws.{getD-below}
 use Rattle.records.proofs.BelowLaws.{flag-set, of-only, in-only}
 use Rattle.records.proofs.Local.{which, clash}
-use Rattle.expressions.specs.Rules.{edgeCount, cutCount, edge, cut, pair}
-use Rattle.expressions.specs.Nodes.{on}
-use Rattle.expressions.specs.Variables.{Influence}
-use Rattle.worlds.specs.Active as paper
-use Rattle.worlds.specs.World.{about, sameMembers, standing, overlappingCut, overlappingCuts, blockedBy, blockedCut, appliedCuts}
-use Rattle.worlds.specs.Tables.{row, crosses, Stands, Tells}
-use Rattle.worlds.specs.Cuts.{blockers, blockedTwins}
+use Rattle.expressions.specs.paper.Rules.{edgeCount, cutCount, edge, cut, pair}
+use Rattle.expressions.specs.paper.Nodes.{on}
+use Rattle.expressions.specs.paper.Variables.{Influence}
+use Rattle.worlds.specs.paper.Active as paper
+use Rattle.worlds.specs.paper.World.{about, sameMembers, standing, overlappingCut, overlappingCuts, blockedBy, blockedCut, appliedCuts}
+use Rattle.worlds.specs.code.Tables.{row, crosses, Stands, Tells}
+use Rattle.worlds.specs.code.Cuts.{blockers, blockedTwins}
 use Rattle.worlds.specs.declared.tables.Common.{Common}
 use Rattle.worlds.specs.declared.tables.Active.{Active}
 use Rattle.worlds.proofs.FindLaws.{same-answer, not-so, any-in, any-find, union-any, few-low}

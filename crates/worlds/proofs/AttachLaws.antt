@@ -11,21 +11,21 @@ use lib.ListN.{length, set}
 use lib.Seq.{getD-set-same, getD-set-other}
 use lib.Dec.{eqb, ltb}
 use borrow.Author.Tests.{eqb-true, eqb-false, eq-eqb, ne-eqb, lt-ltb, le-ltb}
-use Rattle.records.specs.Sets.{odd, has, one, union, meet, minus, disjoint, meets, subset, lowest, when, members, membersFrom, allOf, unionOf, foldBelow}
-use Rattle.records.specs.Plan.{Plan}
+use Rattle.records.specs.paper.Sets.{odd, has, one, union, meet, minus, disjoint, meets, subset, lowest, when, members, membersFrom, allOf, unionOf, foldBelow}
+use Rattle.records.specs.paper.Plan.{Plan}
 use Rattle.records.proofs.SetLaws.{Within, within-refl, thru, ext, empty, in-meet, of-meet, within-subset, one-lt, trailing-member, apart, meeting, has-zero, has-suc, has-none, has-one, has-union, has-minus, antisym, in-union-l, in-union-r, of-union, in-minus, of-minus, subset-true, and-parts, lt-or-le}
 use Rattle.records.proofs.Closing.{in-one}
 use Rattle.records.proofs.BelowLaws.{fold-keeps}
 use Rattle.records.proofs.MemberLaws.{members-same}
-use Rattle.expressions.specs.Rules.{attachmentCount, attachment, rulePersons}
-use Rattle.expressions.specs.Nodes.{on}
-use Rattle.expressions.specs.Variables.{Influence}
+use Rattle.expressions.specs.paper.Rules.{attachmentCount, attachment, rulePersons}
+use Rattle.expressions.specs.paper.Nodes.{on}
+use Rattle.expressions.specs.paper.Variables.{Influence}
 use Rattle.expressions.proofs.UnionLaws.{none-union, union-none, union-go}
-use Rattle.worlds.specs.Active.{Active}
-use Rattle.worlds.specs.World.{State, Marks, marked, blockOf, keptCuts, firstState, move, attach, lastState, afterMarks, worldOf}
-use Rattle.worlds.specs.Over.{entry}
-use Rattle.worlds.specs.Tables.{row, Stands, Tells}
-use Rattle.worlds.specs.Blocks.{Parted, MovedTo, startOf}
+use Rattle.worlds.specs.paper.Active.{Active}
+use Rattle.worlds.specs.paper.World.{State, Marks, marked, blockOf, keptCuts, firstState, move, attach, lastState, afterMarks, worldOf}
+use Rattle.worlds.specs.code.Over.{entry}
+use Rattle.worlds.specs.code.Tables.{row, Stands, Tells}
+use Rattle.worlds.specs.code.Blocks.{Parted, MovedTo, startOf}
 use Rattle.worlds.specs.declared.tables.Common.{Common}
 use Rattle.worlds.specs.declared.tables.Active as masks
 use Rattle.worlds.proofs.OverLaws.{members-none, member-has, union-has, has-union-of}

@@ -9,7 +9,7 @@ use native.Mathlib.Omega.{arith}
 use lib.ListN.{length, getD}
 use lib.Dec.{eqb, ltb}
 use borrow.Author.Tests.{ltb-true, lt-ltb, eqb-true}
-use Rattle.records.specs.Sets.{has, one, union, meet, meets, subset, only, lowest, members, anyBelow, unionBelow, unionOf}
+use Rattle.records.specs.paper.Sets.{has, one, union, meet, meets, subset, only, lowest, members, anyBelow, unionBelow, unionOf}
 use Rattle.records.proofs.SetLaws.{has-none, has-one, antisym, ext, has-union, in-meet, of-meet, in-union-l, in-union-r, of-union, and-parts, subset-true, within-subset}
 use Rattle.records.proofs.Closing.{in-one}
 use Rattle.records.proofs.BelowLaws.{any-false, union-find, in-below, of-only, in-only}

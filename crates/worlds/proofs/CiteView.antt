@@ -10,26 +10,26 @@ use lib.ListN.{getD}
 use lib.Dec.{eqb}
 use lib.Bits.{bitAnd}
 use borrow.Author.Tests.{eqb-true, ne-eqb}
-use Rattle.records.specs.Sets.{has, one, union, meet, minus, meets, subset, only, lowest, members, unionOf, unionBelow}
-use Rattle.records.specs.Plan.{Plan}
-use Rattle.records.specs.Sound.{SoundEdge, SoundAttachment}
+use Rattle.records.specs.paper.Sets.{has, one, union, meet, minus, meets, subset, only, lowest, members, unionOf, unionBelow}
+use Rattle.records.specs.paper.Plan.{Plan}
+use Rattle.records.specs.promises.Sound.{SoundEdge, SoundAttachment}
 use Rattle.records.proofs.SetLaws.{has-none, has-one, empty, of-meet, in-minus, of-minus, in-union-l, in-union-r, of-union, union-lt, one-lt}
 use Rattle.records.proofs.Closing.{in-one}
 use Rattle.records.proofs.LoopLaws.{all-at}
 use Rattle.records.proofs.BelowLaws.{flag-set}
 use Rattle.records.proofs.Local.{which}
 use Rattle.expressions.proofs.UnionLaws.{none-union, union-none, union-assoc}
-use Rattle.expressions.specs.Rules.{edgeCount, cutCount, attachmentCount, barCount, statusCount, edge, attachment, bar, status, pair}
-use Rattle.expressions.specs.Nodes.{on}
-use Rattle.expressions.specs.Variables.{Influence}
-use Rattle.worlds.specs.Active as paper
-use Rattle.worlds.specs.World.{World, worldOf, afterMarks, marked, marksOf, blockOf, keptCuts, overlappingCuts, standing, blockedCut, appliedCuts}
-use Rattle.worlds.specs.View.{view, edgeCitations, attachmentCitations, barCitations, statusCitations, citations}
-use Rattle.worlds.specs.Over.{entry}
-use Rattle.worlds.specs.Tables.{row, Stands}
-use Rattle.worlds.specs.Settled.{SettledAs}
-use Rattle.worlds.specs.Blocks.{Parted}
-use Rattle.worlds.specs.Citing.{CitesIn, far, through, ownOf, CitedFor}
+use Rattle.expressions.specs.paper.Rules.{edgeCount, cutCount, attachmentCount, barCount, statusCount, edge, attachment, bar, status, pair}
+use Rattle.expressions.specs.paper.Nodes.{on}
+use Rattle.expressions.specs.paper.Variables.{Influence}
+use Rattle.worlds.specs.paper.Active as paper
+use Rattle.worlds.specs.paper.World.{World, worldOf, afterMarks, marked, marksOf, blockOf, keptCuts, overlappingCuts, standing, blockedCut, appliedCuts}
+use Rattle.worlds.specs.paper.View.{view, edgeCitations, attachmentCitations, barCitations, statusCitations, citations}
+use Rattle.worlds.specs.code.Over.{entry}
+use Rattle.worlds.specs.code.Tables.{row, Stands}
+use Rattle.worlds.specs.code.Settled.{SettledAs}
+use Rattle.worlds.specs.code.Blocks.{Parted}
+use Rattle.worlds.specs.code.Citing.{CitesIn, far, through, ownOf, CitedFor}
 use Rattle.worlds.specs.declared.tables.Common.{Common}
 use Rattle.worlds.specs.declared.tables.Settled.{Settled}
 use Rattle.worlds.proofs.FirstBlocks.{Blocks}

@@ -6,19 +6,19 @@ use mathlib.Core.Logic.{_⊎_, inl, inr}
 use Prim.Native.Nat.{ℕ, _<_}
 use lib.Dec.{ltb}
 use borrow.Author.Tests.{lt-ltb, eqb-true, eq-eqb}
-use Rattle.records.specs.Sets.{has, meets, union, meet, anyBelow, lexLess, risingLess, members}
-use Rattle.records.specs.Plan.{Plan}
+use Rattle.records.specs.paper.Sets.{has, meets, union, meet, anyBelow, lexLess, risingLess, members}
+use Rattle.records.specs.paper.Plan.{Plan}
 use Rattle.records.proofs.SetLaws.{has-union, of-meet, in-meet, and-parts}
 use Rattle.records.proofs.Local.{which, clash}
-use Rattle.expressions.specs.Rules.{cutCount, cut}
-use Rattle.expressions.specs.Nodes.{on}
-use Rattle.expressions.specs.Variables.{Influence}
-use Rattle.worlds.specs.Active as paper
-use Rattle.worlds.specs.World.{sameMembers, standing, overlappingCuts, blockedBy}
-use Rattle.worlds.specs.Over.{entry}
-use Rattle.worlds.specs.Tables.{row, sharing, Stands, Tells}
-use Rattle.worlds.specs.Cuts.{blockers, Noted}
-use Rattle.worlds.specs.Settled.{Added}
+use Rattle.expressions.specs.paper.Rules.{cutCount, cut}
+use Rattle.expressions.specs.paper.Nodes.{on}
+use Rattle.expressions.specs.paper.Variables.{Influence}
+use Rattle.worlds.specs.paper.Active as paper
+use Rattle.worlds.specs.paper.World.{sameMembers, standing, overlappingCuts, blockedBy}
+use Rattle.worlds.specs.code.Over.{entry}
+use Rattle.worlds.specs.code.Tables.{row, sharing, Stands, Tells}
+use Rattle.worlds.specs.code.Cuts.{blockers, Noted}
+use Rattle.worlds.specs.code.Settled.{Added}
 use Rattle.worlds.specs.declared.tables.Common.{Common}
 use Rattle.worlds.specs.declared.tables.Active.{Active}
 use Rattle.worlds.proofs.FindLaws.{same-answer, meets-any}

@@ -7,19 +7,19 @@ use Prim.Native.Nat.{ℕ, _^_, _≤_, _<_}
 use native.Mathlib.Omega.{arith}
 use lib.Dec.{eqb, ltb}
 use borrow.Author.Tests.{ltb-true, lt-ltb}
-use Rattle.records.specs.Sets.{has, meets, union, meet, minus, members, below, anyBelow, unionOf}
-use Rattle.records.specs.Plan.{Plan}
+use Rattle.records.specs.paper.Sets.{has, meets, union, meet, minus, members, below, anyBelow, unionOf}
+use Rattle.records.specs.paper.Plan.{Plan}
 use Rattle.records.proofs.SetLaws.{has-union, has-meet, has-minus, has-one, and-parts, lt-or-le}
 use Rattle.records.proofs.LoopLaws.{getD-below, getD-past}
-use Rattle.expressions.specs.Rules.{edgeCount, cutCount, edge, cut}
-use Rattle.expressions.specs.Nodes.{on}
-use Rattle.expressions.specs.Influence.{decisionCount, openDecision}
-use Rattle.expressions.specs.Variables.{Influence}
+use Rattle.expressions.specs.paper.Rules.{edgeCount, cutCount, edge, cut}
+use Rattle.expressions.specs.paper.Nodes.{on}
+use Rattle.expressions.specs.paper.Influence.{decisionCount, openDecision}
+use Rattle.expressions.specs.paper.Variables.{Influence}
 use Rattle.expressions.proofs.OpenLaws.{open-few}
-use Rattle.worlds.specs.Active as paper
-use Rattle.worlds.specs.World.{about, precedes, sameMembers, keptCut, keptCuts, overlappingCut, overlappingCuts, blockedBy}
-use Rattle.worlds.specs.Tables.{row, sharing, crosses, Stands, Tells}
-use Rattle.worlds.specs.Cuts.{blockers}
+use Rattle.worlds.specs.paper.Active as paper
+use Rattle.worlds.specs.paper.World.{about, precedes, sameMembers, keptCut, keptCuts, overlappingCut, overlappingCuts, blockedBy}
+use Rattle.worlds.specs.code.Tables.{row, sharing, crosses, Stands, Tells}
+use Rattle.worlds.specs.code.Cuts.{blockers}
 use Rattle.worlds.specs.declared.tables.Common.{Common}
 use Rattle.worlds.specs.declared.tables.Active.{Active}
 use Rattle.worlds.proofs.FindLaws.{not-so, meets-any, union-any, few-low}

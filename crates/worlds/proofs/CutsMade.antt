@@ -5,20 +5,20 @@ use mathlib.Core.List.{List}
 use mathlib.Core.Logic.{⊎-elim}
 use Prim.Native.Nat.{ℕ, _^_, _<_}
 use native.Mathlib.Omega.{arith}
-use Rattle.records.specs.Sets.{has, one, meets, meet, minus, only, members, unionBelow, unionOf}
-use Rattle.records.specs.Plan.{Plan}
+use Rattle.records.specs.paper.Sets.{has, one, meets, meet, minus, only, members, unionBelow, unionOf}
+use Rattle.records.specs.paper.Plan.{Plan}
 use Rattle.records.proofs.SetLaws.{Within, has-minus, has-high, antisym, lt-or-le}
 use Rattle.records.proofs.BelowLaws.{union-find, in-below, of-only, in-only, flag-set}
 use Rattle.records.proofs.Local.{clash}
-use Rattle.expressions.specs.Rules.{cutCount, cut}
-use Rattle.expressions.specs.Nodes.{on}
-use Rattle.expressions.specs.Variables.{Influence}
-use Rattle.worlds.specs.Active as paper
-use Rattle.worlds.specs.World.{keptCut, keptCuts, overlappingCuts, standing, spread, overlapSeed, marksOf, afterMarks, worldOf}
-use Rattle.worlds.specs.Events.{leastOfMerged}
-use Rattle.worlds.specs.Tables.{row, Stands}
-use Rattle.worlds.specs.Cuts.{blockers, blockedTwins, Noted}
-use Rattle.worlds.specs.Settled.{blocks, clashes, CutsSettled}
+use Rattle.expressions.specs.paper.Rules.{cutCount, cut}
+use Rattle.expressions.specs.paper.Nodes.{on}
+use Rattle.expressions.specs.paper.Variables.{Influence}
+use Rattle.worlds.specs.paper.Active as paper
+use Rattle.worlds.specs.paper.World.{keptCut, keptCuts, overlappingCuts, standing, spread, overlapSeed, marksOf, afterMarks, worldOf}
+use Rattle.worlds.specs.paper.Events.{leastOfMerged}
+use Rattle.worlds.specs.code.Tables.{row, Stands}
+use Rattle.worlds.specs.code.Cuts.{blockers, blockedTwins, Noted}
+use Rattle.worlds.specs.code.Settled.{blocks, clashes, CutsSettled}
 use Rattle.worlds.specs.declared.tables.Common.{Common}
 use Rattle.worlds.specs.declared.tables.Active.{Active}
 use Rattle.worlds.specs.declared.cuts.CutsDone.{CutsDone}

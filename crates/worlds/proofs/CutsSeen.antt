@@ -4,20 +4,20 @@ use mathlib.Core.Bool.{Bool, true, false, _&&_, _||_, not, Bool·beq, and-false}
 use mathlib.Core.List.{List}
 use Prim.Native.Nat.{ℕ, _<_}
 use lib.Dec.{eqb}
-use Rattle.records.specs.Sets.{has, one, meets, below, anyBelow, anyOf, unionOf}
-use Rattle.records.specs.Plan.{Plan}
+use Rattle.records.specs.paper.Sets.{has, one, meets, below, anyBelow, anyOf, unionOf}
+use Rattle.records.specs.paper.Plan.{Plan}
 use Rattle.records.proofs.SetLaws.{Within}
 use Rattle.records.proofs.Local.{Inside, Side, inside, outside, Flag, ins, meets-out, any-same, any-none}
-use Rattle.expressions.specs.Rules.{edgeCount, cutCount, attachmentCount, barCount, statusCount, edge, cut, attachment, bar, status, pair, span}
-use Rattle.expressions.specs.Nodes.{on, values}
-use Rattle.expressions.specs.Influence.{Frame, touch, usesAt, edgeUses, cutUses, attachmentUses, barUses, statusUses, says, decisionCount, openDecision}
-use Rattle.expressions.specs.Variables.{Values}
+use Rattle.expressions.specs.paper.Rules.{edgeCount, cutCount, attachmentCount, barCount, statusCount, edge, cut, attachment, bar, status, pair, span}
+use Rattle.expressions.specs.paper.Nodes.{on, values}
+use Rattle.expressions.specs.paper.Influence.{Frame, touch, usesAt, edgeUses, cutUses, attachmentUses, barUses, statusUses, says, decisionCount, openDecision}
+use Rattle.expressions.specs.paper.Variables.{Values}
 use Rattle.expressions.proofs.ListLaws.{below-at}
 use Rattle.expressions.proofs.Follow.{On, on-left, on-right, any-follows, node-follows}
 use Rattle.expressions.proofs.Circles.{Uncrossed, edge-side, cut-side, touch-edge, touch-cut, touch-attachment, touch-bar, touch-status}
 use Rattle.expressions.proofs.Similar.{Similar}
-use Rattle.worlds.specs.Active.{Active, flags, active, blocksEdge}
-use Rattle.worlds.specs.World.{about, keptCut, keptCuts, precedes, sameMembers, overlappingCut, overlappingCuts, blockedBy, blockedCut, appliedCuts}
+use Rattle.worlds.specs.paper.Active.{Active, flags, active, blocksEdge}
+use Rattle.worlds.specs.paper.World.{about, keptCut, keptCuts, precedes, sameMembers, overlappingCut, overlappingCuts, blockedBy, blockedCut, appliedCuts}
 
 -- two worlds that say the same of the rules in the circle
 pub record Same (C : ℕ → Bool) (P : Plan) (a b : Active) : Type 0 where

@@ -8,8 +8,8 @@ use native.Mathlib.Omega.{arith}
 use lib.Dec.{eqb, ltb}
 use lib.ListN.{getD}
 use borrow.Author.Tests.{eqb-true, eq-eqb, ltb-true, lt-ltb, not-true}
-use Rattle.records.specs.Sets.{has, one, union, meet, only, subset, size, numbers, below, unionBelow, allOf, anyOf, unionOf, members, closeOf}
-use Rattle.records.specs.Plan.{Plan}
+use Rattle.records.specs.paper.Sets.{has, one, union, meet, only, subset, size, numbers, below, unionBelow, allOf, anyOf, unionOf, members, closeOf}
+use Rattle.records.specs.paper.Plan.{Plan}
 use Rattle.records.proofs.SetLaws.{Within, has-none, has-meet, has-high, antisym, in-union-l, subset-true, and-parts, lt-or-le}
 use Rattle.records.proofs.Closing.{Takes, Closed, close-within, close-least, in-one, one-within}
 use Rattle.records.proofs.BelowLaws.{union-find, in-below, of-only, closed-below}
@@ -17,15 +17,15 @@ use Rattle.records.proofs.LoopLaws.{getD-below}
 use Rattle.records.proofs.Local.{which, clash}
 use Rattle.expressions.proofs.ListLaws.{below-last}
 use Rattle.expressions.proofs.UnionLaws.{union-append, union-none}
-use Rattle.expressions.specs.Rules.{edgeCount, edge, pair, chained, rulePersons}
-use Rattle.expressions.specs.Nodes.{on}
-use Rattle.expressions.specs.Variables.{Influence}
-use Rattle.worlds.specs.Active as paper
-use Rattle.worlds.specs.World.{baseSet, baseSets, clique, loose, looseComponent, looseComponents, spread, discretionSeed, marksOf}
-use Rattle.worlds.specs.Over.{entry}
-use Rattle.worlds.specs.Discretion.{near, cliqueBy, looseBy, LooseParts}
-use Rattle.worlds.specs.Tables.{Stands, Tells}
-use Rattle.worlds.specs.Settled.{PartsAre}
+use Rattle.expressions.specs.paper.Rules.{edgeCount, edge, pair, chained, rulePersons}
+use Rattle.expressions.specs.paper.Nodes.{on}
+use Rattle.expressions.specs.paper.Variables.{Influence}
+use Rattle.worlds.specs.paper.Active as paper
+use Rattle.worlds.specs.paper.World.{baseSet, baseSets, clique, loose, looseComponent, looseComponents, spread, discretionSeed, marksOf}
+use Rattle.worlds.specs.code.Over.{entry}
+use Rattle.worlds.specs.code.Discretion.{near, cliqueBy, looseBy, LooseParts}
+use Rattle.worlds.specs.code.Tables.{Stands, Tells}
+use Rattle.worlds.specs.code.Settled.{PartsAre}
 use Rattle.worlds.specs.declared.tables.Common.{Common}
 use Rattle.worlds.specs.declared.tables.Active.{Active}
 use Rattle.worlds.proofs.OverLaws.{has-members, union-has, has-union-of}

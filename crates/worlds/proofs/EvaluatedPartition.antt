@@ -5,16 +5,16 @@ use mathlib.Core.Logic.{_⊎_, inl, inr, ⊎-elim}
 use mathlib.Core.List.{List}
 use Prim.Native.Nat.{ℕ}
 use native.Mathlib.Omega.{arith}
-use Rattle.records.specs.Sets.{has}
-use Rattle.records.specs.Plan.{Plan}
-use Rattle.expressions.specs.Variables.{Influence}
-use Rattle.worlds.specs.Active as paper
-use Rattle.worlds.specs.World.{marked, blockOf, worldOf}
-use Rattle.worlds.specs.View.{View}
-use Rattle.worlds.specs.Over.{entry}
-use Rattle.worlds.specs.Tables.{Stands, Tells}
-use Rattle.worlds.specs.Settled.{SettledAs}
-use Rattle.worlds.specs.Blocks.{Seen}
+use Rattle.records.specs.paper.Sets.{has}
+use Rattle.records.specs.paper.Plan.{Plan}
+use Rattle.expressions.specs.paper.Variables.{Influence}
+use Rattle.worlds.specs.paper.Active as paper
+use Rattle.worlds.specs.paper.World.{marked, blockOf, worldOf}
+use Rattle.worlds.specs.paper.View.{View}
+use Rattle.worlds.specs.code.Over.{entry}
+use Rattle.worlds.specs.code.Tables.{Stands, Tells}
+use Rattle.worlds.specs.code.Settled.{SettledAs}
+use Rattle.worlds.specs.code.Blocks.{Seen}
 use Rattle.worlds.specs.declared.tables.Common.{Common}
 use Rattle.worlds.specs.declared.tables.Active.{Active}
 use Rattle.worlds.specs.declared.tables.Settled.{Settled}

@@ -5,16 +5,16 @@ use mathlib.Core.List.{List}
 use Prim.Native.Nat.{ℕ, _<_, _^_}
 use lib.ListN.{getD}
 use borrow.Author.Tests.{eqb-true, not-true, not-false}
-use Rattle.records.specs.Sets.{has, one, minus, only, meets, subset, closeOf, below, anyBelow}
-use Rattle.records.specs.Plan.{Plan}
+use Rattle.records.specs.paper.Sets.{has, one, minus, only, meets, subset, closeOf, below, anyBelow}
+use Rattle.records.specs.paper.Plan.{Plan}
 use Rattle.records.proofs.SetLaws.{Within, has-none, has-minus, has-high, antisym, thru, in-minus, of-minus, empty, subset-true, meeting, and-parts}
 use Rattle.records.proofs.Closing.{Closed, close-closed, close-within, close-least, close-sym, in-one, one-within}
 use Rattle.records.proofs.LoopLaws.{getD-below}
 use Rattle.records.proofs.BelowLaws.{any-false, union-find, in-below, of-only, in-only, flag-set, getD-below-all, closed-below}
-use Rattle.expressions.specs.Rules.{edgeCount, cutCount, cut, pair}
-use Rattle.expressions.specs.Nodes.{on}
-use Rattle.worlds.specs.Active.{Active}
-use Rattle.worlds.specs.World.{State, blockOf, about, sameMembers, standing, overlappingCut, overlappingCuts, blockedCut, appliedCuts, cutMembers, appliedTo, restSets, firstBlock, firstState}
+use Rattle.expressions.specs.paper.Rules.{edgeCount, cutCount, cut, pair}
+use Rattle.expressions.specs.paper.Nodes.{on}
+use Rattle.worlds.specs.paper.Active.{Active}
+use Rattle.worlds.specs.paper.World.{State, blockOf, about, sameMembers, standing, overlappingCut, overlappingCuts, blockedCut, appliedCuts, cutMembers, appliedTo, restSets, firstBlock, firstState}
 
 -- ---- a person's component
 

@@ -16,14 +16,14 @@ use mir.Val.{Val}
 use base.Fml.{Fml}
 use denote.Shadow.{shadow}
 use denote.Array.{each, inArray}
-use Rattle.records.specs.Sets.{has, one, union, anyOf, below}
-use Rattle.records.specs.Sound.{All}
+use Rattle.records.specs.paper.Sets.{has, one, union, anyOf, below}
+use Rattle.records.specs.promises.Sound.{All}
 use Rattle.records.proofs.SetLaws.{has-one, has-union, lt-or-le}
 use Rattle.records.proofs.LoopLaws.{getD-below, length-below, all-at}
 use Rattle.records.proofs.Listing
 use Rattle.expressions.proofs.ListLaws.{any-last}
-use Rattle.worlds.specs.Tables.{row}
-use Rattle.worlds.specs.Laid.{Laid, Row, Same}
+use Rattle.worlds.specs.code.Tables.{row}
+use Rattle.worlds.specs.code.Laid.{Laid, Row, Same}
 
 -- ---- an array of arrays, by what is told of its elements on entry
 

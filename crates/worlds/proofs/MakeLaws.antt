@@ -10,30 +10,30 @@ use lib.Pow.{pow-pos}
 use lib.ListN.{length, getD, set, take, replicate}
 use lib.Dec.{eqb, ltb}
 use borrow.Author.Tests.{eqb-true, eqb-false, lt-ltb, le-ltb, ltb-true}
-use Rattle.records.specs.Sets.{has, one, union, minus, disjoint, meets, subset, risingLess, only, setOf, members, absorb, pass, passes, closeOf, unionBelow, foldBelow, anyOf, unionOf}
+use Rattle.records.specs.paper.Sets.{has, one, union, minus, disjoint, meets, subset, risingLess, only, setOf, members, absorb, pass, passes, closeOf, unionBelow, foldBelow, anyOf, unionOf}
 use Rattle.records.proofs.SetLaws.{has-none, has-union, has-one, has-minus, has-high, has-not, disjoint-true, disjoint-false, of-union, in-union-l, in-union-r, union-lt, one-lt, antisym, lt-or-le}
 use Rattle.records.proofs.Closing.{passes-next, in-one}
 use Rattle.records.proofs.BelowLaws.{union-find, in-below, of-only, in-only}
 use Rattle.records.proofs.LoopLaws.{all-at}
 use Rattle.records.proofs.Every.{all-then}
-use Rattle.records.specs.Plan.{Plan, Cut, Heading}
-use Rattle.records.specs.Sound.{All, Sound, SoundEdge, SoundDecision, SoundCut, SoundAttachment, SoundBar, SoundStatus}
-use Rattle.records.specs.Decoded.{given, planOf}
+use Rattle.records.specs.paper.Plan.{Plan, Cut, Heading}
+use Rattle.records.specs.promises.Sound.{All, Sound, SoundEdge, SoundDecision, SoundCut, SoundAttachment, SoundBar, SoundStatus}
+use Rattle.records.specs.code.Decoded.{given, planOf}
 use Rattle.records.specs.declared.plan.Plan.{Plan as Coded}
-use Rattle.expressions.specs.Rules.{edgeCount, cutCount, edge, cut, pair, chained, ruleSets, rulePersons}
-use Rattle.expressions.specs.Influence.{openDecisions}
-use Rattle.expressions.specs.Undecided.{Named, opensOf}
-use Rattle.expressions.specs.Variables.{Influence}
-use Rattle.expressions.specs.Coded.{edgesOf, cutsOf, attachmentsOf, barsOf, statusesOf}
+use Rattle.expressions.specs.paper.Rules.{edgeCount, cutCount, edge, cut, pair, chained, ruleSets, rulePersons}
+use Rattle.expressions.specs.paper.Influence.{openDecisions}
+use Rattle.expressions.specs.code.Undecided.{Named, opensOf}
+use Rattle.expressions.specs.paper.Variables.{Influence}
+use Rattle.expressions.specs.code.Coded.{edgesOf, cutsOf, attachmentsOf, barsOf, statusesOf}
 use Rattle.expressions.specs.declared.decisions.Undecided.{Undecided}
 use Rattle.expressions.proofs.ListLaws.{filled-at}
 use Rattle.expressions.proofs.OpenLaws.{all-named}
-use Rattle.worlds.specs.Over.{entry}
-use Rattle.worlds.specs.World.{chainStep, preceded, precedes, sameMembers, spread}
-use Rattle.worlds.specs.Tables.{row, sharing, crosses, Stands}
-use Rattle.worlds.specs.Laid.{EdgeFits, CutFits, AttachmentFits, BarFits, StatusFits, OpenFits, EdgesLaid, CutsLaid, AttachmentsLaid, BarsLaid, StatusesLaid, DecisionsLaid}
-use Rattle.worlds.specs.Related.{PrecedesFit, chainBy, Preceding, Chained, RelatedAt, CutsRelated}
-use Rattle.worlds.specs.Made.{Combination, SpreadLaid, CommonFor}
+use Rattle.worlds.specs.code.Over.{entry}
+use Rattle.worlds.specs.paper.World.{chainStep, preceded, precedes, sameMembers, spread}
+use Rattle.worlds.specs.code.Tables.{row, sharing, crosses, Stands}
+use Rattle.worlds.specs.code.Laid.{EdgeFits, CutFits, AttachmentFits, BarFits, StatusFits, OpenFits, EdgesLaid, CutsLaid, AttachmentsLaid, BarsLaid, StatusesLaid, DecisionsLaid}
+use Rattle.worlds.specs.code.Related.{PrecedesFit, chainBy, Preceding, Chained, RelatedAt, CutsRelated}
+use Rattle.worlds.specs.code.Made.{Combination, SpreadLaid, CommonFor}
 use Rattle.worlds.specs.declared.tables.Common.{Common}
 use Rattle.worlds.proofs.OverLaws.{union-has, has-union-of}
 use Rattle.worlds.proofs.ClassLaws.{gathered}

@@ -7,10 +7,10 @@ use lib.ListN.{length, set}
 use lib.Seq.{getD-set-same, getD-set-other}
 use lib.Dec.{eqb}
 use borrow.Author.Tests.{eqb-true, eqb-false, eq-eqb, ne-eqb}
-use Rattle.records.specs.Sets.{has, union, only, lowest, members, unionOf}
+use Rattle.records.specs.paper.Sets.{has, union, only, lowest, members, unionOf}
 use Rattle.records.proofs.SetLaws.{has-none}
 use Rattle.expressions.proofs.UnionLaws.{union-none, union-first}
-use Rattle.worlds.specs.Over.{entry}
+use Rattle.worlds.specs.code.Over.{entry}
 use Rattle.worlds.proofs.OverLaws.{union-twice}
 
 -- a table with more at each number of a set

@@ -5,15 +5,15 @@ use mathlib.Core.Logic.{_⊎_, inl, inr, ⊎-elim}
 use Prim.Native.Nat.{ℕ, _≤_, _<_, _^_}
 use lib.ListN.{List·getD-eq-default}
 use lib.Dec.{eqb}
-use Rattle.records.specs.Sets.{has, one, union, minus, disjoint, subset, unionBelow}
-use Rattle.records.specs.Plan.{Plan, Cut, Attachment}
+use Rattle.records.specs.paper.Sets.{has, one, union, minus, disjoint, subset, unionBelow}
+use Rattle.records.specs.paper.Plan.{Plan, Cut, Attachment}
 use Rattle.records.proofs.SetLaws.{Within, has-none, has-high, thru, in-union-l, in-union-r, of-union, in-minus, of-minus, empty, subset-true, disjoint-false, lt-or-le}
 use Rattle.records.proofs.BelowLaws.{in-below, getD-below-all, fold-keeps}
-use Rattle.expressions.specs.Rules.{edgeCount, cutCount, attachmentCount, barCount, statusCount, cut, attachment, bar, status, pair, span, rulePersons}
-use Rattle.expressions.specs.Nodes.{on}
-use Rattle.expressions.specs.Variables.{Influence}
-use Rattle.worlds.specs.Active.{Active}
-use Rattle.worlds.specs.World.{State, Marks, marked, blockOf, keptCuts, firstState, move, attach, lastState, marksOf, afterMarks, worldOf}
+use Rattle.expressions.specs.paper.Rules.{edgeCount, cutCount, attachmentCount, barCount, statusCount, cut, attachment, bar, status, pair, span, rulePersons}
+use Rattle.expressions.specs.paper.Nodes.{on}
+use Rattle.expressions.specs.paper.Variables.{Influence}
+use Rattle.worlds.specs.paper.Active.{Active}
+use Rattle.worlds.specs.paper.World.{State, Marks, marked, blockOf, keptCuts, firstState, move, attach, lastState, marksOf, afterMarks, worldOf}
 use Rattle.worlds.proofs.FirstBlocks.{Blocks, out-of-blocks, applied, first-blocks}
 
 pub not-set : (b : Bool) → (b ≡ true → ⊥) → b ≡ false

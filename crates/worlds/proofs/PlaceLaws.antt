@@ -10,23 +10,23 @@ use lib.Bits.{bitAnd, xor-lt, and-le-l}
 use lib.Dec.{eqb}
 use lib.ListN.{getD}
 use borrow.Author.Tests.{eqb-true, eq-eqb}
-use Rattle.records.specs.Sets.{has, one, union, meet, minus, only, subset, members, numbers, below, closeOf, allOf, anyOf, unionOf}
-use Rattle.records.specs.Plan.{Plan}
+use Rattle.records.specs.paper.Sets.{has, one, union, meet, minus, only, subset, members, numbers, below, closeOf, allOf, anyOf, unionOf}
+use Rattle.records.specs.paper.Plan.{Plan}
 use Rattle.records.proofs.SetLaws.{Within, has-none, has-union, has-meet, has-minus, antisym, in-meet, of-meet, in-minus, of-minus, within-subset, and-parts}
 use Rattle.records.proofs.Closing.{Takes, Closed, close-same}
 use Rattle.records.proofs.BelowLaws.{of-only, closed-below}
-use Rattle.expressions.specs.Rules.{edgeCount, cut, pair}
-use Rattle.expressions.specs.Nodes.{on}
-use Rattle.expressions.specs.Variables.{Influence}
-use Rattle.worlds.specs.Active.{Active}
-use Rattle.worlds.specs.World as paper
-use Rattle.worlds.specs.World.{blockOf, marked, marksOf, cutMembers, restSets, keptCuts, worldOf, afterMarks}
-use Rattle.worlds.specs.View.{View, roleOf, citations, view}
-use Rattle.worlds.specs.Over.{entry, Marked}
-use Rattle.worlds.specs.Classes.{ClassesBy, Joins, joinable}
-use Rattle.worlds.specs.Tables.{Stands, Tells}
-use Rattle.worlds.specs.Settled.{SettledAs}
-use Rattle.worlds.specs.Blocks.{CutInto, Blanked, Frozen, Cut, Attached, Placing, startOf, SeenAt, Seen}
+use Rattle.expressions.specs.paper.Rules.{edgeCount, cut, pair}
+use Rattle.expressions.specs.paper.Nodes.{on}
+use Rattle.expressions.specs.paper.Variables.{Influence}
+use Rattle.worlds.specs.paper.Active.{Active}
+use Rattle.worlds.specs.paper.World as paper
+use Rattle.worlds.specs.paper.World.{blockOf, marked, marksOf, cutMembers, restSets, keptCuts, worldOf, afterMarks}
+use Rattle.worlds.specs.paper.View.{View, roleOf, citations, view}
+use Rattle.worlds.specs.code.Over.{entry, Marked}
+use Rattle.worlds.specs.code.Classes.{ClassesBy, Joins, joinable}
+use Rattle.worlds.specs.code.Tables.{Stands, Tells}
+use Rattle.worlds.specs.code.Settled.{SettledAs}
+use Rattle.worlds.specs.code.Blocks.{CutInto, Blanked, Frozen, Cut, Attached, Placing, startOf, SeenAt, Seen}
 use Rattle.worlds.specs.declared.tables.Common.{Common}
 use Rattle.worlds.specs.declared.tables.Active as told
 use Rattle.worlds.specs.declared.tables.Settled.{Settled}

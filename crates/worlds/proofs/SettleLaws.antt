@@ -7,21 +7,21 @@ use native.Mathlib.Omega.{arith}
 use lib.ListN.{length, getD, set, length-set}
 use lib.Seq.{getD-set-same, getD-set-other}
 use lib.Dec.{eqb}
-use Rattle.records.specs.Sets.{has, one, union, meet, minus, disjoint, meets, subset, only, members, unionBelow, unionOf}
-use Rattle.records.specs.Plan.{Plan}
-use Rattle.records.specs.Sound.{SoundBar}
+use Rattle.records.specs.paper.Sets.{has, one, union, meet, minus, disjoint, meets, subset, only, members, unionBelow, unionOf}
+use Rattle.records.specs.paper.Plan.{Plan}
+use Rattle.records.specs.promises.Sound.{SoundBar}
 use Rattle.records.proofs.SetLaws.{and-not, and-parts, antisym}
 use Rattle.records.proofs.BelowLaws.{union-find, in-below, of-only, in-only}
 use Rattle.records.proofs.LoopLaws.{all-at}
-use Rattle.expressions.specs.Rules.{barCount, statusCount, bar, status}
-use Rattle.expressions.specs.Nodes.{on}
-use Rattle.expressions.specs.Variables.{Influence}
-use Rattle.worlds.specs.Active as paper
-use Rattle.worlds.specs.World.{World, worldOf, afterMarks, marked, barHolds, barredBy, excludedBy}
-use Rattle.worlds.specs.Over.{entry}
-use Rattle.worlds.specs.Tables.{row, Stands, Tells}
-use Rattle.worlds.specs.Discretion.{Renewed, LooseParts}
-use Rattle.worlds.specs.Settled.{blocks, clashes, Added, CutsAre, CutsSettled, PartsAre, SettledAs, Settles}
+use Rattle.expressions.specs.paper.Rules.{barCount, statusCount, bar, status}
+use Rattle.expressions.specs.paper.Nodes.{on}
+use Rattle.expressions.specs.paper.Variables.{Influence}
+use Rattle.worlds.specs.paper.Active as paper
+use Rattle.worlds.specs.paper.World.{World, worldOf, afterMarks, marked, barHolds, barredBy, excludedBy}
+use Rattle.worlds.specs.code.Over.{entry}
+use Rattle.worlds.specs.code.Tables.{row, Stands, Tells}
+use Rattle.worlds.specs.code.Discretion.{Renewed, LooseParts}
+use Rattle.worlds.specs.code.Settled.{blocks, clashes, Added, CutsAre, CutsSettled, PartsAre, SettledAs, Settles}
 use Rattle.worlds.specs.declared.tables.Common.{Common}
 use Rattle.worlds.specs.declared.tables.Active.{Active}
 use Rattle.worlds.specs.declared.tables.Settled.{Settled}

@@ -7,17 +7,17 @@ use Prim.Native.Nat.{ℕ, _<_, _≤_}
 use lib.ListN.{getD}
 use lib.Dec.{eqb}
 use borrow.Author.Tests.{not-true}
-use Rattle.records.specs.Sets.{has, one, union, minus, subset, only, below, closeOf}
-use Rattle.records.specs.Plan.{Plan}
-use Rattle.records.specs.Sound.{All}
+use Rattle.records.specs.paper.Sets.{has, one, union, minus, subset, only, below, closeOf}
+use Rattle.records.specs.paper.Plan.{Plan}
+use Rattle.records.specs.promises.Sound.{All}
 use Rattle.records.proofs.SetLaws.{lt-or-le}
 use Rattle.records.proofs.LoopLaws.{getD-below, getD-past}
 use Rattle.records.proofs.Local.{clash, Inside, Outside, outer, Agree, Twins, Side, inside, outside, Flag, Weak, weak, weak-only, ins, in-zero, in-only, in-union, in-less, in-cond, in-not, in-left, in-right, at-single, out-not, agree-refl, agree-sym, agree-union, agree-minus, agree-twin, agree-frame, minus-near, minus-far, subset-near, twin-only, twins-below, below-all, below-two, union-in, union-same, union-agree, fold-two, single-side}
-use Rattle.expressions.specs.Rules.{edgeCount, cutCount, attachmentCount, barCount, statusCount, cut, attachment, status, pair, span}
-use Rattle.expressions.specs.Nodes.{on}
+use Rattle.expressions.specs.paper.Rules.{edgeCount, cutCount, attachmentCount, barCount, statusCount, cut, attachment, status, pair, span}
+use Rattle.expressions.specs.paper.Nodes.{on}
 use Rattle.expressions.proofs.Circles.{Uncrossed, edge-side, cut-side, span-side, bar-side}
-use Rattle.worlds.specs.Active.{Active}
-use Rattle.worlds.specs.World.{cutMembers, appliedTo, restSets, firstBlock, State, blockOf, firstState, move, attach, lastState, barredBy, excludedBy}
+use Rattle.worlds.specs.paper.Active.{Active}
+use Rattle.worlds.specs.paper.World.{cutMembers, appliedTo, restSets, firstBlock, State, blockOf, firstState, move, attach, lastState, barredBy, excludedBy}
 use Rattle.worlds.proofs.CutsSeen.{Same}
 use Rattle.worlds.proofs.MarksSeen.{component-in, component-out, component-same}
 

@@ -5,15 +5,15 @@ use mathlib.Core.Bool.{Bool, true, false, _&&_, _||_, cond, and-false}
 use mathlib.Core.List.{List}
 use mathlib.Core.Logic.{_⊎_, inl, inr}
 use Prim.Native.Nat.{ℕ}
-use Rattle.records.specs.Sets.{has, one, union, meets, only}
-use Rattle.records.specs.Plan.{Plan}
+use Rattle.records.specs.paper.Sets.{has, one, union, meets, only}
+use Rattle.records.specs.paper.Plan.{Plan}
 use Rattle.records.proofs.Local.{which, Inside, Outside, Agree, Side, inside, outside, Flag, ins, in-not, in-left, in-right, at-single, out-not, agree-union, agree-minus, agree-meet, meets-near, meets-out, union-same}
-use Rattle.expressions.specs.Rules.{edgeCount, cutCount, barCount, statusCount, edge, cut, bar, status, pair}
-use Rattle.expressions.specs.Nodes.{on}
+use Rattle.expressions.specs.paper.Rules.{edgeCount, cutCount, barCount, statusCount, edge, cut, bar, status, pair}
+use Rattle.expressions.specs.paper.Nodes.{on}
 use Rattle.expressions.proofs.Circles.{Uncrossed, edge-side, cut-side}
-use Rattle.worlds.specs.Active.{Active}
-use Rattle.worlds.specs.World.{World, Marks, marked, blockOf, about, afterMarks, keptCuts, overlappingCuts, appliedCuts, lastState}
-use Rattle.worlds.specs.View.{View, roleOf, edgeCitations, leads, cutCitations, attachmentCitations, barCitations, statusCitations, citations, view}
+use Rattle.worlds.specs.paper.Active.{Active}
+use Rattle.worlds.specs.paper.World.{World, Marks, marked, blockOf, about, afterMarks, keptCuts, overlappingCuts, appliedCuts, lastState}
+use Rattle.worlds.specs.paper.View.{View, roleOf, edgeCitations, leads, cutCitations, attachmentCitations, barCitations, statusCitations, citations, view}
 use Rattle.worlds.proofs.CutsSeen.{Same, about-near, about-none, applied-same}
 use Rattle.worlds.proofs.MarksSeen.{MarksAgree}
 use Rattle.worlds.proofs.StateSeen.{Alike, last-alike, barred-agree, excluded-agree}

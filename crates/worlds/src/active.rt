@@ -10,10 +10,10 @@ ghost use mathlib.Core.Bool.{_&&_, not};
 ghost use mathlib.Core.List.{[]};
 ghost use Prim.Native.Nat.{ℕ};
 ghost use lib.ListN.{getD, take};
-ghost use Rattle.records.specs.Sets.{has, anyOf};
-ghost use Rattle.expressions.specs.Nodes.{on};
-ghost use Rattle.worlds.specs.Over.{entry};
-ghost use Rattle.worlds.specs.Conditions.{ActiveBy};
+ghost use Rattle.records.specs.paper.Sets.{has, anyOf};
+ghost use Rattle.expressions.specs.paper.Nodes.{on};
+ghost use Rattle.worlds.specs.code.Over.{entry};
+ghost use Rattle.worlds.specs.code.Conditions.{ActiveBy};
 
 // The condition nodes of rules, a row for each kind; last how many defeaters an edge has.
 pub type Conditions = [[u8; 64]; 6];

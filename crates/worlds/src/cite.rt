@@ -23,10 +23,10 @@ ghost use mathlib.Core.Path.{_≡_};
 ghost use mathlib.Core.Bool.{_&&_, cond};
 ghost use lib.Dec.{eqb};
 ghost use Prim.Native.Nat.{ℕ, _<_};
-ghost use Rattle.records.specs.Sets.{has, union, meet, meets, subset as inside, only, lowest, unionOf, members};
-ghost use Rattle.worlds.specs.Over.{entry};
-ghost use Rattle.worlds.specs.Tables.{row};
-ghost use Rattle.worlds.specs.Citing.{CitesIn, through, ownOf, CitedFor, Cites};
+ghost use Rattle.records.specs.paper.Sets.{has, union, meet, meets, subset as inside, only, lowest, unionOf, members};
+ghost use Rattle.worlds.specs.code.Over.{entry};
+ghost use Rattle.worlds.specs.code.Tables.{row};
+ghost use Rattle.worlds.specs.code.Citing.{CitesIn, through, ownOf, CitedFor, Cites};
 
 // Adds citations to the blocks of these persons.
 fn cite_at(blocks: &[u64; 64], persons: u64, what: u64, cited: &mut [u64; 64])

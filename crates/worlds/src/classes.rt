@@ -10,9 +10,9 @@ ghost use mathlib.Core.Path.{_≡_};
 ghost use Prim.Native.Nat.{ℕ, _<_};
 ghost use lib.ListN.{getD};
 ghost use mathlib.Core.List.{[], _∷_, map};
-ghost use Rattle.records.specs.Sets.{one, closeOf, members};
-ghost use Rattle.worlds.specs.Over.{entry};
-ghost use Rattle.worlds.specs.Classes.{Alone, Joins, joinable};
+ghost use Rattle.records.specs.paper.Sets.{one, closeOf, members};
+ghost use Rattle.worlds.specs.code.Over.{entry};
+ghost use Rattle.worlds.specs.code.Classes.{Alone, Joins, joinable};
 
 // Each person of a set alone.
 pub fn alone(classes: &mut [u64; 64], persons: u64)

@@ -17,11 +17,11 @@ ghost use mathlib.Core.Path.{_≡_};
 ghost use mathlib.Core.List.{[]};
 ghost use Prim.Native.Nat.{ℕ, _<_};
 ghost use lib.ListN.{length, getD};
-ghost use Rattle.records.specs.Decoded.{planOf};
-ghost use Rattle.worlds.specs.Laid.{Laid};
-ghost use Rattle.worlds.specs.Conditions.{Conditioned, EdgeConditions, ConditionsOf};
-ghost use Rattle.expressions.specs.Rules.{cutCount, attachmentCount, barCount, statusCount, cut, attachment, bar, status};
-ghost use Rattle.expressions.specs.Coded.{cutsOf, attachmentsOf, barsOf, statusesOf};
+ghost use Rattle.records.specs.code.Decoded.{planOf};
+ghost use Rattle.worlds.specs.code.Laid.{Laid};
+ghost use Rattle.worlds.specs.code.Conditions.{Conditioned, EdgeConditions, ConditionsOf};
+ghost use Rattle.expressions.specs.paper.Rules.{cutCount, attachmentCount, barCount, statusCount, cut, attachment, bar, status};
+ghost use Rattle.expressions.specs.code.Coded.{cutsOf, attachmentsOf, barsOf, statusesOf};
 
 // A reference to the table does not tell the proof how long it is. The compiler drops the call with its copy.
 fn whole_conditions(conditions: Conditions)

@@ -26,10 +26,10 @@ ghost use Prim.Native.Nat.{ℕ, _<_};
 ghost use mathlib.Core.List.{[]};
 ghost use lib.ListN.{length, getD};
 ghost use mathlib.Core.Bool.{_&&_, not};
-ghost use Rattle.records.specs.Sets.{has, meet, union, minus as without, unionOf, meets, members};
-ghost use Rattle.worlds.specs.Tables.{row};
-ghost use Rattle.worlds.specs.Cuts.{blockers, blockedTwins, Noted};
-ghost use Rattle.worlds.specs.Settled.{CutsSettled};
+ghost use Rattle.records.specs.paper.Sets.{has, meet, union, minus as without, unionOf, meets, members};
+ghost use Rattle.worlds.specs.code.Tables.{row};
+ghost use Rattle.worlds.specs.code.Cuts.{blockers, blockedTwins, Noted};
+ghost use Rattle.worlds.specs.code.Settled.{CutsSettled};
 
 // Step 3: the active cuts that no active cut drops; drops are decided together.
 pub fn kept(t: &Tables, active: u64) -> u64

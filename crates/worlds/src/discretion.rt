@@ -9,9 +9,9 @@ use records::sets::minus;
 use records::sets::subset;
 ghost use mathlib.Core.Path.{_≡_};
 ghost use Prim.Native.Nat.{ℕ, _<_};
-ghost use Rattle.records.specs.Sets.{has, one, union, only, unionOf, members};
-ghost use Rattle.worlds.specs.Over.{entry};
-ghost use Rattle.worlds.specs.Discretion.{near, cliqueBy, looseBy, Component, HeadsBy, Renewed, LooseParts};
+ghost use Rattle.records.specs.paper.Sets.{has, one, union, only, unionOf, members};
+ghost use Rattle.worlds.specs.code.Over.{entry};
+ghost use Rattle.worlds.specs.code.Discretion.{near, cliqueBy, looseBy, Component, HeadsBy, Renewed, LooseParts};
 
 // At each person all to whom one of these edges leads, with the person.
 fn neighbours(pairs: &[u64; 64], edges: u64) -> [u64; 64]

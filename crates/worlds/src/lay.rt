@@ -29,12 +29,12 @@ ghost use mathlib.Core.Path.{_≡_};
 ghost use mathlib.Core.List.{[]};
 ghost use Prim.Native.Nat.{ℕ, _<_, _≤_};
 ghost use lib.ListN.{length, getD};
-ghost use Rattle.records.specs.Sets.{has};
-ghost use Rattle.records.specs.Sound.{All};
-ghost use Rattle.records.specs.Decoded.{decisionsOf};
-ghost use Rattle.expressions.specs.Coded.{edgesOf, cutsOf, attachmentsOf, barsOf, statusesOf};
-ghost use Rattle.expressions.specs.Undecided.{decides, opensOf};
-ghost use Rattle.worlds.specs.Laid.{Laid, EdgesLaid, CutsLaid, AttachmentsLaid, BarsLaid, StatusesLaid, DecisionsLaid, EdgeFits, CutFits, AttachmentFits, BarFits, StatusFits, OpenFits};
+ghost use Rattle.records.specs.paper.Sets.{has};
+ghost use Rattle.records.specs.promises.Sound.{All};
+ghost use Rattle.records.specs.code.Decoded.{decisionsOf};
+ghost use Rattle.expressions.specs.code.Coded.{edgesOf, cutsOf, attachmentsOf, barsOf, statusesOf};
+ghost use Rattle.expressions.specs.code.Undecided.{decides, opensOf};
+ghost use Rattle.worlds.specs.code.Laid.{Laid, EdgesLaid, CutsLaid, AttachmentsLaid, BarsLaid, StatusesLaid, DecisionsLaid, EdgeFits, CutFits, AttachmentFits, BarFits, StatusFits, OpenFits};
 
 // A reference to the tables does not tell the proof how long they are. The compiler drops the call with its copy.
 pub fn whole_tables(t: Tables)

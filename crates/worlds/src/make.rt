@@ -28,10 +28,10 @@ use records::sets::minus;
 ghost use mathlib.Core.Path.{_≡_};
 ghost use Prim.Native.Nat.{ℕ, _≤_};
 ghost use lib.Dec.{ltb};
-ghost use Rattle.records.specs.Sets.{has};
-ghost use Rattle.records.specs.Sound.{Sound};
-ghost use Rattle.records.specs.Decoded.{planOf};
-ghost use Rattle.worlds.specs.Made.{Combination, SpreadLaid, CommonFor, Ready, Made};
+ghost use Rattle.records.specs.paper.Sets.{has};
+ghost use Rattle.records.specs.promises.Sound.{Sound};
+ghost use Rattle.records.specs.code.Decoded.{planOf};
+ghost use Rattle.worlds.specs.code.Made.{Combination, SpreadLaid, CommonFor, Ready, Made};
 
 // The numbers below n.
 pub fn numbers_below(n: usize) -> u64

@@ -5,8 +5,8 @@ ghost use mathlib.Core.Bool.{_&&_, cond};
 ghost use mathlib.Core.List.{_∷_};
 ghost use Prim.Native.Nat.{ℕ, _<_};
 ghost use lib.ListN.{getD, length};
-ghost use Rattle.records.specs.Sets.{has, union, meets, members, unionOf, lowest};
-ghost use Rattle.worlds.specs.Over.{entry, Marked, Given};
+ghost use Rattle.records.specs.paper.Sets.{has, union, meets, members, unionOf, lowest};
+ghost use Rattle.worlds.specs.code.Over.{entry, Marked, Given};
 
 // The lowest number of a set that is not empty.
 pub fn low(set: u64) -> usize

@@ -25,12 +25,12 @@ ghost use mathlib.Core.Path.{_≡_};
 ghost use mathlib.Core.Bool.{_&&_};
 ghost use Prim.Native.Nat.{ℕ, _<_};
 ghost use lib.Dec.{eqb};
-ghost use Rattle.records.specs.Sets.{has, setOf, risingLess};
-ghost use Rattle.records.specs.Sound.{All};
-ghost use Rattle.records.specs.Decoded.{numbersOf};
-ghost use Rattle.expressions.specs.Coded.{cutsOf};
-ghost use Rattle.worlds.specs.Over.{entry};
-ghost use Rattle.worlds.specs.Related.{chainBy, Preceding, Chained, CutRelated, CutsRelated, PrecedesFit};
+ghost use Rattle.records.specs.paper.Sets.{has, setOf, risingLess};
+ghost use Rattle.records.specs.promises.Sound.{All};
+ghost use Rattle.records.specs.code.Decoded.{numbersOf};
+ghost use Rattle.expressions.specs.code.Coded.{cutsOf};
+ghost use Rattle.worlds.specs.code.Over.{entry};
+ghost use Rattle.worlds.specs.code.Related.{chainBy, Preceding, Chained, CutRelated, CutsRelated, PrecedesFit};
 
 // Of these cuts those with just these members.
 fn equal_cuts(members: &[u64; 64], cuts: u64, set: u64) -> u64

@@ -19,7 +19,7 @@ use crate::tables::Tables;
 use records::sets::minus;
 ghost use mathlib.Core.List.{[]};
 ghost use lib.ListN.{getD};
-ghost use Rattle.worlds.specs.Settled.{Settles};
+ghost use Rattle.worlds.specs.code.Settled.{Settles};
 
 // All that a world says by sets: marks, cuts, attachments, bars, statuses. The notes take its components at discretion, and what blocks and
 // clashes is added to them.

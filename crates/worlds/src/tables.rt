@@ -1,4 +1,4 @@
-// What the worlds of a case share: made once, then lent. specs/Tables.antt says what each row stands for.
+// What the worlds of a case share: made once, then lent. specs/code/Tables.antt says what each row stands for.
 
 // A row for each kind of set, with an entry for each rule, cut, decision or person by number.
 pub type Tables = [[u64; 64]; 21];

@@ -20,8 +20,8 @@ use records::sets::minus;
 use records::sets::subset;
 ghost use mathlib.Core.Path.{_≡_};
 ghost use Prim.Native.Nat.{ℕ, _<_};
-ghost use Rattle.worlds.specs.Over.{entry, Marked};
-ghost use Rattle.worlds.specs.Blocks.{CutInto, Regrouped, MovedTo, Frozen, Cut, Attached, Blanked, Seen};
+ghost use Rattle.worlds.specs.code.Over.{entry, Marked};
+ghost use Rattle.worlds.specs.code.Blocks.{CutInto, Regrouped, MovedTo, Frozen, Cut, Attached, Blanked, Seen};
 
 // At each person the block and the role (0 none, 1 member, 2 excluded, 3 barred), or the kind of the mark (3 overlap, 4 discretion).
 pub struct World {

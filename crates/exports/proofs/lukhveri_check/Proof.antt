@@ -1,7 +1,7 @@
 -- `lukhveri_check`: the seven numbers of the check.
 use mathlib.Core.Path.{ap, _∙_}
 use borrow.Author.Needs.{needs}
-use Rattle.report.specs.Operations.{told}
+use Rattle.report.specs.paper.Operations.{told}
 use Rattle.report.specs.declared.Answer.{Answer}
 use Rattle.exports.specs.Handed.{numbers}
 use Rattle.exports.proofs.lukhveri_check.Statement.{statement}

@@ -2,7 +2,7 @@
 use mathlib.Core.Path.{ap, _∙_}
 use Prim.Native.Nat.{ℕ}
 use borrow.Author.Needs.{needs}
-use Rattle.expressions.specs.Codes.{boundOf}
+use Rattle.expressions.specs.code.Codes.{boundOf}
 use Rattle.probes.specs.Entries.{codeOf, bound}
 use Rattle.probes.proofs.lukhveri_binding.Statement.{statement}
 use Rattle.probes.proofs.lukhveri_binding.Tie as tie

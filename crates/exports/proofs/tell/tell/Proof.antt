@@ -1,7 +1,7 @@
 -- `tell`: the seven numbers, by the four kinds of answer.
 use mathlib.Core.Path.{_≡_, sym, ap}
 use borrow.Author.Needs.{needs}
-use Rattle.report.specs.Operations.{told}
+use Rattle.report.specs.paper.Operations.{told}
 use Rattle.report.specs.declared.Answer.{Answer}
 use Rattle.exports.specs.Handed.{numbers}
 use Rattle.exports.proofs.tell.tell.Statement.{statement}

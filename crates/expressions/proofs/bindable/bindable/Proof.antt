@@ -1,8 +1,8 @@
 use Rattle.expressions.proofs.FaultLaws.{booleansChecked, bindable-first, bindable-rest}
 use Rattle.records.proofs.ListLaws.{length-front}
 use Rattle.records.proofs.CheckLaws.{refused-stands, accepted-passes}
-use Rattle.records.specs.Decoded.{caseOf, familyOf}
-use Rattle.records.specs.Case.{familiesAt}
+use Rattle.records.specs.code.Decoded.{caseOf, familyOf}
+use Rattle.records.specs.paper.Case.{familiesAt}
 use lib.ListN.{length, length-map, length-take}
 use native.Mathlib.Omega.{arith}
 use mathlib.Core.Path.{_≡_, sym, ap₂, _∙_}

@@ -7,13 +7,13 @@ use lib.Dec.{eqb}
 use lib.ListN.{length, getD, take, length-map, length-set}
 use lib.Seq.{length-take-le}
 use borrow.Author.Needs.{needs}
-use Rattle.records.specs.Sets.{anyOf}
-use Rattle.records.specs.Check.{checkedOf}
-use Rattle.records.specs.Fields.{fault}
+use Rattle.records.specs.paper.Sets.{anyOf}
+use Rattle.records.specs.code.Check.{checkedOf}
+use Rattle.records.specs.paper.Fields.{fault}
 use Rattle.records.specs.declared.case.Boolean.{Boolean}
 use mathlib.Core.Bool.{false}
 use mathlib.Core.List.{[]}
-use Rattle.records.specs.Decoded.{booleanOf}
+use Rattle.records.specs.code.Decoded.{booleanOf}
 use Rattle.expressions.proofs.FaultLaws.{sameFact, booleanJudge, from, faults-end, booleans-whole, passed, boolean-clash, boolean-twice, boolean-on, any-numbers, numbers-next}
 use Rattle.expressions.proofs.bindable.boolean_faults.Statement.{statement}
 use Rattle.expressions.proofs.bindable.boolean_faults.Tie as tie

@@ -8,12 +8,12 @@ use lib.Dec.{eqb}
 use lib.ListN.{length, getD, take, length-map, length-set}
 use lib.Seq.{length-take-le}
 use borrow.Author.Needs.{needs}
-use Rattle.records.specs.Sets.{anyOf}
-use Rattle.records.specs.Check.{checkedOf}
-use Rattle.records.specs.Fields.{fault}
+use Rattle.records.specs.paper.Sets.{anyOf}
+use Rattle.records.specs.code.Check.{checkedOf}
+use Rattle.records.specs.paper.Fields.{fault}
 use Rattle.records.specs.declared.case.Family.{Family}
 use mathlib.Core.Bool.{false}
-use Rattle.records.specs.Decoded.{familyOf}
+use Rattle.records.specs.code.Decoded.{familyOf}
 use Rattle.expressions.proofs.FaultLaws.{sameFamily, familyJudge, from, faults-end, faults-on, faults-stop, families-whole, passed, any-numbers, numbers-next}
 use Rattle.expressions.proofs.bindable.family_faults.Statement.{statement}
 use Rattle.expressions.proofs.bindable.family_faults.Tie as tie

@@ -7,9 +7,9 @@ use native.Mathlib.Omega.{arith}
 use mathlib.Core.List.{map}
 use lib.ListN.{length, getD, take, length-map, length-set}
 use borrow.Author.Needs.{needs}
-use Rattle.records.specs.Sets.{has, one, union, only, unionBelow}
-use Rattle.records.specs.Decoded.{planOf, caseOf, familyOf}
-use Rattle.expressions.specs.Told.{Tells, bindingFrom, defaultFrom}
+use Rattle.records.specs.paper.Sets.{has, one, union, only, unionBelow}
+use Rattle.records.specs.code.Decoded.{planOf, caseOf, familyOf}
+use Rattle.expressions.specs.code.Told.{Tells, bindingFrom, defaultFrom}
 use Rattle.expressions.proofs.UnionLaws.{joined-if, left-if}
 use Rattle.expressions.proofs.MaskLaws.{built, built-next}
 use Rattle.expressions.proofs.FactLaws.{Filled, filled-none, filled-next}

@@ -3,8 +3,8 @@ use mathlib.Core.Path.{ap, _∙_}
 use Prim.Native.Nat.{ℕ}
 use borrow.Author.Tests.{not-true, not-false}
 use borrow.Author.Needs.{needs}
-use Rattle.expressions.specs.Codes.{boundOf}
-use Rattle.expressions.specs.Told.{bindingFrom, relationBy}
+use Rattle.expressions.specs.code.Codes.{boundOf}
+use Rattle.expressions.specs.code.Told.{bindingFrom, relationBy}
 use Rattle.expressions.proofs.bindings.binding.Statement.{statement}
 use Rattle.expressions.proofs.bindings.binding.Tie as tie
 

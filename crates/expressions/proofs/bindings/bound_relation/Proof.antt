@@ -1,8 +1,8 @@
 -- `bindings::bound_relation`: Unknown without a family in scope, else what was seen, else what silence means. Assumes nothing.
 use borrow.Author.Tests.{eq-eqb, ne-eqb}
 use borrow.Author.Needs.{needs}
-use Rattle.expressions.specs.Codes.{boundOf}
-use Rattle.expressions.specs.Told.{relationBy}
+use Rattle.expressions.specs.code.Codes.{boundOf}
+use Rattle.expressions.specs.code.Told.{relationBy}
 use Rattle.expressions.proofs.bindings.bound_relation.Statement.{statement}
 use Rattle.expressions.proofs.bindings.bound_relation.Tie as tie
 

@@ -1,8 +1,8 @@
 -- `expressions::bindings::by_default` meets its contract: a case for each policy. Assumes nothing.
 use borrow.Author.Tests.{eq-eqb, ne-eqb, not-true, not-false}
-use Rattle.expressions.specs.Codes.{boundOf}
-use Rattle.expressions.specs.Bindings.{defaultOf}
-use Rattle.records.specs.Decoded.{electionOf}
+use Rattle.expressions.specs.code.Codes.{boundOf}
+use Rattle.expressions.specs.paper.Bindings.{defaultOf}
+use Rattle.records.specs.code.Decoded.{electionOf}
 use Rattle.expressions.proofs.bindings.by_default.Statement.{statement}
 use Rattle.expressions.proofs.bindings.by_default.Tie as tie
 

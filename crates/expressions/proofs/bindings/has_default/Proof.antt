@@ -5,8 +5,8 @@ use mathlib.Core.Path.{_≡_, refl}
 use lib.ListN.{length}
 use lib.Dec.{eqb}
 use borrow.Author.Tests.{eq-eqb, ne-eqb, not-true, not-false}
-use Rattle.expressions.specs.Bindings.{defaultOf}
-use Rattle.records.specs.Decoded.{electionOf}
+use Rattle.expressions.specs.paper.Bindings.{defaultOf}
+use Rattle.records.specs.code.Decoded.{electionOf}
 use Rattle.expressions.proofs.bindings.has_default.Statement.{statement}
 use Rattle.expressions.proofs.bindings.has_default.Tie as tie
 

@@ -3,8 +3,8 @@ use mathlib.Core.List.{[], _∷_}
 use mathlib.Core.Path.{sym, ap}
 use native.Mathlib.Omega.{arith}
 use lib.Seq.{getD-take}
-use Rattle.records.specs.Case.{CaseHeading, caseHeading}
-use Rattle.records.specs.Decoded.{caseOf, caseHeadingOf}
+use Rattle.records.specs.paper.Case.{CaseHeading, caseHeading}
+use Rattle.records.specs.code.Decoded.{caseOf, caseHeadingOf}
 use Rattle.expressions.proofs.bindings.scope_of.Statement.{statement}
 use Rattle.expressions.proofs.bindings.scope_of.Tie as tie
 

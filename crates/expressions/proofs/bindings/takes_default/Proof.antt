@@ -1,7 +1,7 @@
 -- `bindings::takes_default`: a case for each test. Assumes nothing.
 use borrow.Author.Tests.{not-true, not-false}
 use borrow.Author.Needs.{needs}
-use Rattle.expressions.specs.Told.{defaultFrom}
+use Rattle.expressions.specs.code.Told.{defaultFrom}
 use Rattle.expressions.proofs.bindings.takes_default.Statement.{statement}
 use Rattle.expressions.proofs.bindings.takes_default.Tie as tie
 

@@ -7,7 +7,7 @@ use native.Mathlib.Omega.{arith}
 use lib.ListN.{length, take, length-map, length-set}
 use lib.Seq.{take-all}
 use borrow.Author.Needs.{needs}
-use Rattle.expressions.specs.Joined.{joinsOf}
+use Rattle.expressions.specs.code.Joined.{joinsOf}
 use Rattle.expressions.proofs.ListLaws.{store-next}
 use Rattle.expressions.proofs.circle.append.Statement.{statement}
 use Rattle.expressions.proofs.circle.append.Tie as tie

@@ -4,8 +4,8 @@ use native.Mathlib.Omega.{arith}
 use lib.ListN.{length, length-map}
 use lib.Seq.{length-take-le}
 use borrow.Author.Needs.{needs}
-use Rattle.records.specs.Sets.{closeOf}
-use Rattle.expressions.specs.Joined.{joinsOf}
+use Rattle.records.specs.paper.Sets.{closeOf}
+use Rattle.expressions.specs.code.Joined.{joinsOf}
 use Rattle.expressions.proofs.ListLaws.{used-take}
 use Rattle.expressions.proofs.circle.circle_of.Statement.{statement}
 use Rattle.expressions.proofs.circle.circle_of.Tie as tie

@@ -2,12 +2,12 @@
 use mathlib.Core.Path.{sym, ap, _∙_, subst}
 use mathlib.Core.List.{map}
 use native.Mathlib.Omega.{arith}
-use Rattle.records.specs.Decoded.{planOf}
-use Rattle.records.specs.Sound.{All}
-use Rattle.expressions.specs.Rules.{cutCount, edgeCount}
-use Rattle.expressions.specs.Influence.{openDecisions}
-use Rattle.expressions.specs.Coded.{Holds, cutsOf, edgesOf}
-use Rattle.expressions.specs.Undecided.{Named, openTouch}
+use Rattle.records.specs.code.Decoded.{planOf}
+use Rattle.records.specs.promises.Sound.{All}
+use Rattle.expressions.specs.paper.Rules.{cutCount, edgeCount}
+use Rattle.expressions.specs.paper.Influence.{openDecisions}
+use Rattle.expressions.specs.code.Coded.{Holds, cutsOf, edgesOf}
+use Rattle.expressions.specs.code.Undecided.{Named, openTouch}
 use Rattle.expressions.proofs.FitLaws.{edges-fit}
 use Rattle.expressions.proofs.OpenLaws.{opens-number, open-few, all-named, open-touches}
 use Rattle.expressions.proofs.decisions.decision_touches.Statement.{statement}

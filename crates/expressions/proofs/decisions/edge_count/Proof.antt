@@ -3,8 +3,8 @@ use mathlib.Core.Path.{_≡_, sym, _∙_}
 use lib.ListN.{length, length-map}
 use borrow.Author.Needs.{needs}
 use Rattle.records.proofs.plan.Edge.{the-type}
-use Rattle.records.specs.Decoded.{edgeOf}
-use Rattle.expressions.specs.Coded.{edgesOf}
+use Rattle.records.specs.code.Decoded.{edgeOf}
+use Rattle.expressions.specs.code.Coded.{edgesOf}
 use Rattle.expressions.proofs.ListLaws.{made-length}
 use Rattle.expressions.proofs.decisions.edge_count.Statement.{statement}
 use Rattle.expressions.proofs.decisions.edge_count.Tie as tie

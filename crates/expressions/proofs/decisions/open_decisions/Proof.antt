@@ -3,10 +3,10 @@ use Prim.Native.Nat.{ℕ, _≤_}
 use mathlib.Core.Path.{sym, ap, _∙_, subst}
 use lib.ListN.{length}
 use borrow.Author.Needs.{needs}
-use Rattle.records.specs.Decoded.{planOf}
-use Rattle.expressions.specs.Influence.{openDecisions}
-use Rattle.expressions.specs.Coded.{cutsOf, edgesOf}
-use Rattle.expressions.specs.Undecided.{openAll}
+use Rattle.records.specs.code.Decoded.{planOf}
+use Rattle.expressions.specs.paper.Influence.{openDecisions}
+use Rattle.expressions.specs.code.Coded.{cutsOf, edgesOf}
+use Rattle.expressions.specs.code.Undecided.{openAll}
 use Rattle.expressions.proofs.OpenLaws.{open-all, all-few}
 use Rattle.expressions.proofs.decisions.open_decisions.Statement.{statement}
 use Rattle.expressions.proofs.decisions.open_decisions.Tie as tie

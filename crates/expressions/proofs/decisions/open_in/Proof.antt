@@ -1,7 +1,7 @@
 -- `decisions::open_in`: after e edges the list has the open decisions on them behind it. Assumes nothing.
 use Prim.Native.Nat.{ℕ, _+_, _≤_, _<_, _-_}
 use lib.ListN.{length, set, length-map, length-set}
-use Rattle.records.specs.Sets.{below}
+use Rattle.records.specs.paper.Sets.{below}
 use Rattle.expressions.specs.declared.decisions.Undecided.{Undecided}
 use Rattle.expressions.proofs.DecisionLaws.{open-next}
 use mathlib.Core.Path.{_≡_, sym, ap, _∙_}
@@ -10,9 +10,9 @@ use mathlib.Core.List.{List, _++_, append-nil, append-assoc, _∷_, []}
 use mathlib.Core.Bool.{true, false}
 use native.Mathlib.Omega.{arith}
 use borrow.Author.Needs.{needs}
-use Rattle.records.specs.Decoded.{decisionsOf}
-use Rattle.expressions.specs.Influence.{Open}
-use Rattle.expressions.specs.Undecided.{decides, opensOf, openAt, openOf, pairOf}
+use Rattle.records.specs.code.Decoded.{decisionsOf}
+use Rattle.expressions.specs.paper.Influence.{Open}
+use Rattle.expressions.specs.code.Undecided.{decides, opensOf, openAt, openOf, pairOf}
 use Rattle.expressions.proofs.OpenLaws.{open-yes, open-no, room}
 use Rattle.expressions.proofs.decisions.open_in.Statement.{statement}
 use Rattle.expressions.proofs.decisions.open_in.Tie as tie

@@ -7,12 +7,12 @@ use native.Mathlib.Omega.{arith}
 use lib.ListN.{length, getD, length-map}
 use borrow.Author.Needs.{needs}
 use Rattle.records.proofs.plan.Cut.{the-type}
-use Rattle.records.specs.Sets.{below, numbers}
-use Rattle.records.specs.Plan.{Cut}
-use Rattle.records.specs.Decoded.{cutOf, decisionsOf}
-use Rattle.expressions.specs.Influence.{Open}
-use Rattle.expressions.specs.Coded.{cutsOf}
-use Rattle.expressions.specs.Undecided.{opensOf, openOf, openAll}
+use Rattle.records.specs.paper.Sets.{below, numbers}
+use Rattle.records.specs.paper.Plan.{Cut}
+use Rattle.records.specs.code.Decoded.{cutOf, decisionsOf}
+use Rattle.expressions.specs.paper.Influence.{Open}
+use Rattle.expressions.specs.code.Coded.{cutsOf}
+use Rattle.expressions.specs.code.Undecided.{opensOf, openOf, openAll}
 use Rattle.expressions.proofs.ListLaws.{made-at, made-length}
 use Rattle.expressions.proofs.OpenLaws.{all-next, room-all}
 use Rattle.expressions.proofs.decisions.open_over.Statement.{statement}

@@ -9,8 +9,8 @@ use lib.ListN.{length, getD, length-map, List·getD-eq-default}
 use lib.Dec.{eqb}
 use borrow.Author.Count.{below-none, below-more}
 use borrow.Author.Needs.{needs}
-use Rattle.records.specs.Plan.{Decision}
-use Rattle.records.specs.Decoded.{decisionsOf}
+use Rattle.records.specs.paper.Plan.{Decision}
+use Rattle.records.specs.code.Decoded.{decisionsOf}
 use Rattle.records.proofs.SetLaws.{lt-or-le}
 use Rattle.expressions.proofs.DecisionLaws.{any-hit, any-miss, other-edge, other-verdict, this-one}
 use Rattle.expressions.proofs.decisions.says.Statement.{statement}

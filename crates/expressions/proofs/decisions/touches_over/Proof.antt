@@ -6,16 +6,16 @@ use mathlib.Core.Bool.{false}
 use mathlib.Core.List.{[]}
 use lib.ListN.{length, getD, length-map, length-set}
 use borrow.Author.Needs.{needs}
-use Rattle.records.specs.Sets.{union, below, numbers}
-use Rattle.records.specs.Decoded.{edgeOf}
+use Rattle.records.specs.paper.Sets.{union, below, numbers}
+use Rattle.records.specs.code.Decoded.{edgeOf}
 use Rattle.records.specs.declared.plan.Cut.{Cut}
 use Rattle.records.specs.declared.plan.Edge.{Edge}
 use Rattle.records.proofs.plan.Cut.{the-type as cut-type}
 use Rattle.records.proofs.plan.Edge.{the-type as edge-type}
-use Rattle.expressions.specs.Influence.{Open}
-use Rattle.expressions.specs.Coded.{Holds, EndsFit, cutsOf, edgesOf}
-use Rattle.expressions.specs.Listed.{endsOf}
-use Rattle.expressions.specs.Undecided.{openAt, opensOf, openTouch}
+use Rattle.expressions.specs.paper.Influence.{Open}
+use Rattle.expressions.specs.code.Coded.{Holds, EndsFit, cutsOf, edgesOf}
+use Rattle.expressions.specs.code.Listed.{endsOf}
+use Rattle.expressions.specs.code.Undecided.{openAt, opensOf, openTouch}
 use Rattle.expressions.proofs.ListLaws.{holds-none, fill-next, below-map, made-each}
 use Rattle.expressions.proofs.DecisionLaws.{cut-in, edge-in, touch-at}
 use Rattle.expressions.proofs.decisions.touches_over.Statement.{statement}

@@ -3,9 +3,9 @@ use mathlib.Core.Path.{sym, ap, _∙_}
 use mathlib.Core.List.{List, _++_, map}
 use lib.ListN.{take}
 use borrow.Author.Needs.{needs}
-use Rattle.records.specs.Plan as paper
-use Rattle.records.specs.Decoded.{electionOf, noElection}
-use Rattle.expressions.specs.Bindings.{electionsIn}
+use Rattle.records.specs.paper.Plan as paper
+use Rattle.records.specs.code.Decoded.{electionOf, noElection}
+use Rattle.expressions.specs.paper.Bindings.{electionsIn}
 use mathlib.Core.List.{append-nil}
 use Rattle.expressions.proofs.ListLaws.{filled-at}
 use Rattle.expressions.proofs.ElectionLaws.{elections-of, first-of-both}

@@ -8,7 +8,7 @@ use lib.ListN.{length, getD, length-map, length-set}
 use borrow.Author.Tests.{ltb-true, ltb-false}
 use borrow.Author.Needs.{needs}
 use Rattle.records.specs.declared.plan.Cut.{Cut}
-use Rattle.records.specs.Decoded.{electionOf, noElection}
+use Rattle.records.specs.code.Decoded.{electionOf, noElection}
 use Rattle.expressions.proofs.ElectionLaws.{electedOver, over-end, over-other, over-not, over-stored}
 use Rattle.expressions.proofs.elections.elect_by_cuts.Statement.{statement}
 use Rattle.expressions.proofs.elections.elect_by_cuts.Tie as tie

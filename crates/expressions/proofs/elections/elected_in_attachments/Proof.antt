@@ -6,7 +6,7 @@ use lib.ListN.{length, length-map}
 use borrow.Author.Tests.{eqb-true, eqb-false}
 use borrow.Author.Needs.{needs}
 use Rattle.expressions.proofs.ElectionLaws.{electedFrom, elected-end, elected-here, elected-other, elected-not}
-use Rattle.records.specs.Decoded.{electionOf}
+use Rattle.records.specs.code.Decoded.{electionOf}
 use Rattle.expressions.proofs.elections.elected_in_attachments.Statement.{statement}
 use Rattle.expressions.proofs.elections.elected_in_attachments.Tie as tie
 

@@ -4,10 +4,10 @@ use mathlib.Core.List.{List, map}
 use mathlib.Core.Path.{sym, ap, _∙_}
 use lib.ListN.{take}
 use borrow.Author.Needs.{needs}
-use Rattle.expressions.specs.Bindings.{electionsIn}
+use Rattle.expressions.specs.paper.Bindings.{electionsIn}
 use Rattle.records.specs.declared.plan.Plan.{Plan}
-use Rattle.records.specs.Decoded.{electionOf}
-use Rattle.records.specs.Plan as paper
+use Rattle.records.specs.code.Decoded.{electionOf}
+use Rattle.records.specs.paper.Plan as paper
 use Rattle.expressions.proofs.ElectionLaws.{elections-of, first-of-cuts, first-of-attachments}
 use Rattle.expressions.proofs.elections.election_on.Statement.{statement}
 use Rattle.expressions.proofs.elections.election_on.Tie as tie

@@ -3,10 +3,10 @@ use Prim.Native.Nat.{ℕ}
 use mathlib.Core.Path.{ap, _∙_}
 use Rattle.expressions.proofs.UnionLaws.{none-union}
 use Rattle.expressions.proofs.EvidenceLaws.{evidence-parts, evident-booleans, evident-relations}
-use Rattle.expressions.specs.Evident.{evidenceMark}
-use Rattle.expressions.specs.Bindings.{observedInRelations, saidUnknown}
-use Rattle.records.specs.Decoded.{caseOf}
-use Rattle.records.specs.Sets.{union, unionOf, setOf}
+use Rattle.expressions.specs.code.Evident.{evidenceMark}
+use Rattle.expressions.specs.paper.Bindings.{observedInRelations, saidUnknown}
+use Rattle.records.specs.code.Decoded.{caseOf}
+use Rattle.records.specs.paper.Sets.{union, unionOf, setOf}
 use Rattle.expressions.proofs.evidence.evidence_of.Statement.{statement}
 use Rattle.expressions.proofs.evidence.evidence_of.Tie as tie
 

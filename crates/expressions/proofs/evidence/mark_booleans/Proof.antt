@@ -9,9 +9,9 @@ use Rattle.expressions.proofs.UnionLaws.{union-first, union-end, union-
 use Rattle.expressions.proofs.EvidenceLaws.{booleanMark, boolean-marks, boolean-mark-at, boolean-mark-off, observations-evident}
 use Rattle.expressions.proofs.ListLaws.{made-each}
 use Rattle.expressions.proofs.Rests.{made-next, made-none}
-use Rattle.expressions.specs.Evident.{EvidentBoolean}
-use Rattle.records.specs.Decoded.{booleanOf}
-use Rattle.records.specs.Sets.{union, unionOf}
+use Rattle.expressions.specs.code.Evident.{EvidentBoolean}
+use Rattle.records.specs.code.Decoded.{booleanOf}
+use Rattle.records.specs.paper.Sets.{union, unionOf}
 use Rattle.expressions.proofs.evidence.mark_booleans.Statement.{statement}
 use Rattle.expressions.proofs.evidence.mark_booleans.Tie as tie
 

@@ -9,9 +9,9 @@ use Rattle.expressions.proofs.UnionLaws.{union-first, union-end, union-
 use Rattle.expressions.proofs.EvidenceLaws.{relationMark, relation-marks, relation-mark-at, relation-mark-off}
 use Rattle.expressions.proofs.ListLaws.{made-each}
 use Rattle.expressions.proofs.Rests.{made-next, made-none}
-use Rattle.expressions.specs.Evident.{EvidentRelation}
-use Rattle.records.specs.Decoded.{relationOf}
-use Rattle.records.specs.Sets.{union, unionOf}
+use Rattle.expressions.specs.code.Evident.{EvidentRelation}
+use Rattle.records.specs.code.Decoded.{relationOf}
+use Rattle.records.specs.paper.Sets.{union, unionOf}
 use Rattle.expressions.proofs.evidence.mark_relations.Statement.{statement}
 use Rattle.expressions.proofs.evidence.mark_relations.Tie as tie
 

@@ -4,7 +4,7 @@ use native.Mathlib.Omega.{arith}
 use lib.ListN.{length, length-map}
 use lib.Seq.{length-take-le}
 use borrow.Author.Needs.{needs}
-use Rattle.expressions.specs.Influences.{setsOf}
+use Rattle.expressions.specs.code.Influences.{setsOf}
 use Rattle.expressions.proofs.InfluenceLaws.{influence-made}
 use Rattle.expressions.proofs.influence.influence_of.Statement.{statement}
 use Rattle.expressions.proofs.influence.influence_of.Tie as tie

@@ -5,9 +5,9 @@ use mathlib.Core.List.{_∷_}
 use lib.ListN.{length, drop, length-map}
 use borrow.Author.Needs.{needs}
 use borrow.Author.Tests.{not-true, not-false}
-use Rattle.records.specs.Sets.{allOf}
-use Rattle.records.specs.Decoded.{numbersOf}
-use Rattle.expressions.specs.Nodes.{on}
+use Rattle.records.specs.paper.Sets.{allOf}
+use Rattle.records.specs.code.Decoded.{numbersOf}
+use Rattle.expressions.specs.paper.Nodes.{on}
 use Rattle.expressions.proofs.ListLaws.{used-next, used-end, all-go, all-stop}
 use Rattle.expressions.proofs.nodes.all_hold.Statement.{statement}
 use Rattle.expressions.proofs.nodes.all_hold.Tie as tie

@@ -4,9 +4,9 @@ use mathlib.Core.Path.{_≡_, refl, sym, ap, _∙_}
 use mathlib.Core.List.{_∷_}
 use lib.ListN.{length, drop, length-map}
 use borrow.Author.Needs.{needs}
-use Rattle.records.specs.Sets.{anyOf}
-use Rattle.records.specs.Decoded.{numbersOf}
-use Rattle.expressions.specs.Nodes.{on}
+use Rattle.records.specs.paper.Sets.{anyOf}
+use Rattle.records.specs.code.Decoded.{numbersOf}
+use Rattle.expressions.specs.paper.Nodes.{on}
 use Rattle.expressions.proofs.ListLaws.{used-next, used-end, any-go, any-stop}
 use Rattle.expressions.proofs.nodes.any_holds.Statement.{statement}
 use Rattle.expressions.proofs.nodes.any_holds.Tie as tie

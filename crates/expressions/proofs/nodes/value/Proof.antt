@@ -3,8 +3,8 @@ use Prim.Native.Nat.{ℕ}
 use mathlib.Core.Path.{sym, ap, _∙_}
 use mathlib.Core.Bool.{not}
 use borrow.Author.Needs.{needs}
-use Rattle.records.specs.Decoded.{numbersOf, nodeOf, nodeBy}
-use Rattle.expressions.specs.Nodes.{on, value}
+use Rattle.records.specs.code.Decoded.{numbersOf, nodeOf, nodeBy}
+use Rattle.expressions.specs.paper.Nodes.{on, value}
 use Rattle.expressions.proofs.NodeLaws.{by-sort, negated}
 use Rattle.expressions.proofs.nodes.value.Statement.{statement}
 use Rattle.expressions.proofs.nodes.value.Tie as tie

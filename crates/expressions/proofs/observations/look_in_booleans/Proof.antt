@@ -9,12 +9,12 @@ use lib.Dec.{eqb}
 use lib.ListN.{length, getD, take, drop, length-map, length-set}
 use borrow.Author.Tests.{ne-eqb}
 use borrow.Author.Needs.{needs}
-use Rattle.records.specs.Decoded.{booleanOf, observationsOf}
+use Rattle.records.specs.code.Decoded.{booleanOf, observationsOf}
 use Rattle.records.specs.declared.case.Boolean.{Boolean}
 use Rattle.expressions.specs.declared.observations.Seen.{Seen}
 use Rattle.expressions.specs.declared.observations.Sights.{Sights}
-use Rattle.expressions.specs.Bindings.{observedInBooleans}
-use Rattle.expressions.specs.Seen.{nothing, lookAll}
+use Rattle.expressions.specs.paper.Bindings.{observedInBooleans}
+use Rattle.expressions.specs.code.Seen.{nothing, lookAll}
 use Rattle.expressions.proofs.ListLaws.{changed-at}
 use Rattle.expressions.proofs.SeenLaws.{booleans-next, booleans-none}
 use Rattle.expressions.proofs.observations.look_in_booleans.Statement.{statement}

@@ -9,12 +9,12 @@ use lib.Dec.{eqb}
 use lib.ListN.{length, getD, take, drop, length-map, length-set}
 use borrow.Author.Tests.{ne-eqb}
 use borrow.Author.Needs.{needs}
-use Rattle.records.specs.Decoded.{relationOf}
+use Rattle.records.specs.code.Decoded.{relationOf}
 use Rattle.records.specs.declared.case.Relation.{Relation}
 use Rattle.expressions.specs.declared.observations.Seen.{Seen}
 use Rattle.expressions.specs.declared.observations.Sights.{Sights}
-use Rattle.expressions.specs.Bindings.{observedInRelations}
-use Rattle.expressions.specs.Seen.{nothing, lookAt, lookAll}
+use Rattle.expressions.specs.paper.Bindings.{observedInRelations}
+use Rattle.expressions.specs.code.Seen.{nothing, lookAt, lookAll}
 use Rattle.expressions.proofs.ListLaws.{changed-at}
 use Rattle.expressions.proofs.SeenLaws.{relations-next, relations-none}
 use Rattle.expressions.proofs.observations.look_in_relations.Statement.{statement}

@@ -5,8 +5,8 @@ use mathlib.Core.Bool.{Bool, _||_, or-false}
 use mathlib.Core.List.{map}
 use lib.ListN.{length, take, drop, length-map}
 use borrow.Author.Needs.{needs}
-use Rattle.records.specs.Sets.{has}
-use Rattle.records.specs.Decoded.{booleanOf}
+use Rattle.records.specs.paper.Sets.{has}
+use Rattle.records.specs.code.Decoded.{booleanOf}
 use Rattle.records.proofs.SetLaws.{has-none}
 use Rattle.expressions.proofs.SeenLaws.{said, said-next, said-none}
 use Rattle.expressions.proofs.observations.said_unknown.Statement.{statement}

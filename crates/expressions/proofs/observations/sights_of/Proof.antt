@@ -3,10 +3,10 @@ use mathlib.Core.Path.{sym, ap, _∙_}
 use mathlib.Core.List.{map}
 use lib.ListN.{take}
 use borrow.Author.Needs.{needs}
-use Rattle.records.specs.Decoded.{booleanOf, relationOf}
+use Rattle.records.specs.code.Decoded.{booleanOf, relationOf}
 use Rattle.expressions.specs.declared.observations.Seen.{Seen}
-use Rattle.expressions.specs.Bindings.{observedInBooleans, observedInRelations}
-use Rattle.expressions.specs.Seen.{nothing, lookAll}
+use Rattle.expressions.specs.paper.Bindings.{observedInBooleans, observedInRelations}
+use Rattle.expressions.specs.code.Seen.{nothing, lookAll}
 use Rattle.expressions.proofs.ListLaws.{filled-at}
 use Rattle.expressions.proofs.SeenLaws.{look-append}
 use Rattle.expressions.proofs.observations.sights_of.Statement.{statement}

@@ -5,7 +5,7 @@ use native.Mathlib.Omega.{arith}
 use lib.Dec.{eqb}
 use borrow.Author.Tests.{not-true, not-false, ne-eqb}
 use borrow.Author.Needs.{needs}
-use Rattle.records.specs.Sets.{has}
+use Rattle.records.specs.paper.Sets.{has}
 use Rattle.records.proofs.SetLaws.{has-union, has-one}
 use Rattle.expressions.proofs.observations.with_fact.Statement.{statement}
 use Rattle.expressions.proofs.observations.with_fact.Tie as tie

@@ -3,8 +3,8 @@ use mathlib.Core.Path.{_≡_, sym, _∙_}
 use lib.ListN.{length, length-map}
 use borrow.Author.Needs.{needs}
 use Rattle.records.proofs.plan.Fact.{the-type}
-use Rattle.records.specs.Decoded.{factOf}
-use Rattle.expressions.specs.Coded.{factsOf}
+use Rattle.records.specs.code.Decoded.{factOf}
+use Rattle.expressions.specs.code.Coded.{factsOf}
 use Rattle.expressions.proofs.ListLaws.{made-length}
 use Rattle.expressions.proofs.reach.fact_count.Statement.{statement}
 use Rattle.expressions.proofs.reach.fact_count.Tie as tie

@@ -5,12 +5,12 @@ use mathlib.Core.List.{List}
 use native.Mathlib.Omega.{arith}
 use lib.Seq.{length-take-le}
 use borrow.Author.Needs.{needs}
-use Rattle.records.specs.Sets.{union, unionOf}
-use Rattle.records.specs.Decoded.{planOf}
-use Rattle.expressions.specs.Nodes.{nodeUses}
-use Rattle.expressions.specs.Influence.{usesAt, constraintUses, boundFacts, openDecisions, decisionTouches}
-use Rattle.expressions.specs.Coded.{nodesOf, factsOf, frameBy}
-use Rattle.expressions.specs.Listed.{usedAt, ruleUses}
+use Rattle.records.specs.paper.Sets.{union, unionOf}
+use Rattle.records.specs.code.Decoded.{planOf}
+use Rattle.expressions.specs.paper.Nodes.{nodeUses}
+use Rattle.expressions.specs.paper.Influence.{usesAt, constraintUses, boundFacts, openDecisions, decisionTouches}
+use Rattle.expressions.specs.code.Coded.{nodesOf, factsOf, frameBy}
+use Rattle.expressions.specs.code.Listed.{usedAt, ruleUses}
 use Rattle.expressions.proofs.FitLaws.{nodes-fit, facts-fit}
 use Rattle.expressions.proofs.OpenLaws.{opens-number, open-few}
 use Rattle.expressions.proofs.TouchLaws.{bound-list, touches-from}

@@ -7,10 +7,10 @@ use native.Mathlib.Nat.{add-zero}
 use lib.ListN.{length, take, length-map}
 use borrow.Author.Needs.{needs}
 use Rattle.records.proofs.plan.Attachment.{the-type}
-use Rattle.records.specs.Plan.{Attachment}
-use Rattle.records.specs.Decoded.{attachmentOf}
-use Rattle.expressions.specs.Coded.{attachmentsOf, AnchorFits}
-use Rattle.expressions.specs.Listed.{lists, usedAt, spanOf, attachmentUsed, Added}
+use Rattle.records.specs.paper.Plan.{Attachment}
+use Rattle.records.specs.code.Decoded.{attachmentOf}
+use Rattle.expressions.specs.code.Coded.{attachmentsOf, AnchorFits}
+use Rattle.expressions.specs.code.Listed.{lists, usedAt, spanOf, attachmentUsed, Added}
 use Rattle.expressions.proofs.ListLaws.{made-next, made-each, made-all}
 use Rattle.expressions.proofs.RuleLaws.{added-none, added-next}
 use Rattle.expressions.proofs.rules.add_attachments.Statement.{statement}

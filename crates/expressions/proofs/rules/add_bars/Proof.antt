@@ -7,10 +7,10 @@ use native.Mathlib.Nat.{add-zero}
 use lib.ListN.{length, take, length-map}
 use borrow.Author.Needs.{needs}
 use Rattle.records.proofs.plan.Bar.{the-type}
-use Rattle.records.specs.Plan.{Bar}
-use Rattle.records.specs.Decoded.{barOf}
-use Rattle.expressions.specs.Coded.{barsOf}
-use Rattle.expressions.specs.Listed.{lists, usedAt, barHolds, barUsed, Added}
+use Rattle.records.specs.paper.Plan.{Bar}
+use Rattle.records.specs.code.Decoded.{barOf}
+use Rattle.expressions.specs.code.Coded.{barsOf}
+use Rattle.expressions.specs.code.Listed.{lists, usedAt, barHolds, barUsed, Added}
 use Rattle.expressions.proofs.ListLaws.{made-next, made-all}
 use Rattle.expressions.proofs.RuleLaws.{added-none, added-next}
 use Rattle.expressions.proofs.rules.add_bars.Statement.{statement}

@@ -7,10 +7,10 @@ use native.Mathlib.Nat.{add-zero}
 use lib.ListN.{length, take, length-map}
 use borrow.Author.Needs.{needs}
 use Rattle.records.proofs.plan.Cut.{the-type}
-use Rattle.records.specs.Plan.{Cut}
-use Rattle.records.specs.Decoded.{cutOf}
-use Rattle.expressions.specs.Coded.{cutsOf}
-use Rattle.expressions.specs.Listed.{lists, usedAt, cutHolds, cutUsed, Added}
+use Rattle.records.specs.paper.Plan.{Cut}
+use Rattle.records.specs.code.Decoded.{cutOf}
+use Rattle.expressions.specs.code.Coded.{cutsOf}
+use Rattle.expressions.specs.code.Listed.{lists, usedAt, cutHolds, cutUsed, Added}
 use Rattle.expressions.proofs.ListLaws.{made-next, made-all}
 use Rattle.expressions.proofs.RuleLaws.{added-none, added-next}
 use Rattle.expressions.proofs.rules.add_cuts.Statement.{statement}

@@ -7,10 +7,10 @@ use native.Mathlib.Nat.{add-zero}
 use lib.ListN.{length, take, length-map}
 use borrow.Author.Needs.{needs}
 use Rattle.records.proofs.plan.Edge.{the-type}
-use Rattle.records.specs.Plan.{Edge}
-use Rattle.records.specs.Decoded.{edgeOf}
-use Rattle.expressions.specs.Coded.{edgesOf, EndsFit}
-use Rattle.expressions.specs.Listed.{lists, usedAt, endsOf, edgeUsed, Added}
+use Rattle.records.specs.paper.Plan.{Edge}
+use Rattle.records.specs.code.Decoded.{edgeOf}
+use Rattle.expressions.specs.code.Coded.{edgesOf, EndsFit}
+use Rattle.expressions.specs.code.Listed.{lists, usedAt, endsOf, edgeUsed, Added}
 use Rattle.expressions.proofs.ListLaws.{made-next, made-each, made-all}
 use Rattle.expressions.proofs.RuleLaws.{added-none, added-next}
 use Rattle.expressions.proofs.rules.add_edges.Statement.{statement}

@@ -7,10 +7,10 @@ use native.Mathlib.Nat.{add-zero}
 use lib.ListN.{length, take, length-map}
 use borrow.Author.Needs.{needs}
 use Rattle.records.proofs.plan.Status.{the-type}
-use Rattle.records.specs.Plan.{Status}
-use Rattle.records.specs.Decoded.{statusOf}
-use Rattle.expressions.specs.Coded.{statusesOf, PersonFits}
-use Rattle.expressions.specs.Listed.{lists, usedAt, statusHolds, statusUsed, Added}
+use Rattle.records.specs.paper.Plan.{Status}
+use Rattle.records.specs.code.Decoded.{statusOf}
+use Rattle.expressions.specs.code.Coded.{statusesOf, PersonFits}
+use Rattle.expressions.specs.code.Listed.{lists, usedAt, statusHolds, statusUsed, Added}
 use Rattle.expressions.proofs.ListLaws.{made-next, made-each, made-all}
 use Rattle.expressions.proofs.RuleLaws.{added-none, added-next}
 use Rattle.expressions.proofs.rules.add_statuses.Statement.{statement}

@@ -3,9 +3,9 @@ use Prim.Native.Nat.{ℕ}
 use mathlib.Core.Path.{ap, _∙_}
 use mathlib.Core.List.{List, _++_, map}
 use native.Mathlib.Omega.{arith}
-use Rattle.records.specs.Decoded.{planOf}
-use Rattle.expressions.specs.Coded.{statusesOf}
-use Rattle.expressions.specs.Listed.{usedAt, ruleUses, rulePersons, statusUsed, statusHolds}
+use Rattle.records.specs.code.Decoded.{planOf}
+use Rattle.expressions.specs.code.Coded.{statusesOf}
+use Rattle.expressions.specs.code.Listed.{usedAt, ruleUses, rulePersons, statusUsed, statusHolds}
 use Rattle.expressions.proofs.FitLaws.{statuses-fit}
 use Rattle.expressions.proofs.rules.all_rules.Statement.{statement}
 use Rattle.expressions.proofs.rules.all_rules.Tie as tie

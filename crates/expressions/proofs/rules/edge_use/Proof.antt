@@ -1,9 +1,9 @@
 -- `rules::edge_use`: the facts of the condition and of the defeaters. Assumes nothing.
 use mathlib.Core.Path.{ap₂, ap, _∙_}
 use borrow.Author.Needs.{needs}
-use Rattle.records.specs.Sets.{union}
-use Rattle.records.specs.Decoded.{edgeOf}
-use Rattle.expressions.specs.Listed.{usedAt, edgeUsed}
+use Rattle.records.specs.paper.Sets.{union}
+use Rattle.records.specs.code.Decoded.{edgeOf}
+use Rattle.expressions.specs.code.Listed.{usedAt, edgeUsed}
 use Rattle.expressions.proofs.rules.edge_use.Statement.{statement}
 use Rattle.expressions.proofs.rules.edge_use.Tie as tie
 

@@ -1,9 +1,9 @@
 -- `rules::ends`: the union of two persons. Assumes nothing.
 use mathlib.Core.Path.{ap₂, _∙_}
 use borrow.Author.Needs.{needs}
-use Rattle.records.specs.Sets.{union}
-use Rattle.records.specs.Decoded.{edgeOf}
-use Rattle.expressions.specs.Listed.{endsOf}
+use Rattle.records.specs.paper.Sets.{union}
+use Rattle.records.specs.code.Decoded.{edgeOf}
+use Rattle.expressions.specs.code.Listed.{endsOf}
 use Rattle.expressions.proofs.rules.ends.Statement.{statement}
 use Rattle.expressions.proofs.rules.ends.Tie as tie
 

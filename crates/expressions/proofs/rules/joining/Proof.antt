@@ -2,9 +2,9 @@
 use mathlib.Core.Path.{sym, _∙_}
 use native.Mathlib.Omega.{arith}
 use borrow.Author.Needs.{needs}
-use Rattle.records.specs.Decoded.{planOf}
-use Rattle.expressions.specs.Coded.{edgesOf, cutsOf, attachmentsOf, barsOf}
-use Rattle.expressions.specs.Listed.{joiningUses}
+use Rattle.records.specs.code.Decoded.{planOf}
+use Rattle.expressions.specs.code.Coded.{edgesOf, cutsOf, attachmentsOf, barsOf}
+use Rattle.expressions.specs.code.Listed.{joiningUses}
 use Rattle.expressions.proofs.FitLaws.{edges-fit, attachments-fit}
 use Rattle.expressions.proofs.RuleLaws.{added-then, rule-sets}
 use Rattle.expressions.proofs.rules.joining.Statement.{statement}

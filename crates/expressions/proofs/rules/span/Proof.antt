@@ -1,9 +1,9 @@
 -- `rules::span`: the members, and the anchor as a person. Assumes nothing.
 use mathlib.Core.Path.{ap, _∙_}
 use borrow.Author.Needs.{needs}
-use Rattle.records.specs.Sets.{union}
-use Rattle.records.specs.Decoded.{attachmentOf}
-use Rattle.expressions.specs.Listed.{spanOf}
+use Rattle.records.specs.paper.Sets.{union}
+use Rattle.records.specs.code.Decoded.{attachmentOf}
+use Rattle.expressions.specs.code.Listed.{spanOf}
 use Rattle.expressions.proofs.rules.span.Statement.{statement}
 use Rattle.expressions.proofs.rules.span.Tie as tie
 

@@ -2,9 +2,9 @@
 use mathlib.Core.Path.{_≡_, sym, ap, _∙_}
 use lib.ListN.{length, length-map}
 use borrow.Author.Needs.{needs}
-use Rattle.records.specs.Sets.{unionOf}
-use Rattle.records.specs.Decoded.{numbersOf}
-use Rattle.expressions.specs.Listed.{usedAt}
+use Rattle.records.specs.paper.Sets.{unionOf}
+use Rattle.records.specs.code.Decoded.{numbersOf}
+use Rattle.expressions.specs.code.Listed.{usedAt}
 use Rattle.expressions.proofs.ListLaws.{used-take}
 use Rattle.expressions.proofs.touch.constraint_uses.Statement.{statement}
 use Rattle.expressions.proofs.touch.constraint_uses.Tie as tie

@@ -8,11 +8,11 @@ use native.Mathlib.Omega.{arith}
 use lib.ListN.{length, getD, length-map, length-set}
 use borrow.Author.Needs.{needs}
 use Rattle.records.proofs.plan.Fact.{the-type}
-use Rattle.records.specs.Sets.{has, only, below, numbers}
-use Rattle.records.specs.Plan.{Fact}
-use Rattle.records.specs.Decoded.{factOf}
-use Rattle.expressions.specs.Coded.{Holds, TupleFits, factsOf}
-use Rattle.expressions.specs.Listed.{touchedBy, touchBy, touchesBy}
+use Rattle.records.specs.paper.Sets.{has, only, below, numbers}
+use Rattle.records.specs.paper.Plan.{Fact}
+use Rattle.records.specs.code.Decoded.{factOf}
+use Rattle.expressions.specs.code.Coded.{Holds, TupleFits, factsOf}
+use Rattle.expressions.specs.code.Listed.{touchedBy, touchBy, touchesBy}
 use Rattle.expressions.proofs.ListLaws.{made-length, made-at, made-each, holds-none, fill-next}
 use Rattle.expressions.proofs.touch.touches.Statement.{statement}
 use Rattle.expressions.proofs.touch.touches.Tie as tie

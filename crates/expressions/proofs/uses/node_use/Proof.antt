@@ -3,9 +3,9 @@ use Prim.Native.Nat.{ℕ}
 use mathlib.Core.Path.{sym, ap, _∙_, subst}
 use lib.ListN.{getD}
 use borrow.Author.Needs.{needs}
-use Rattle.records.specs.Decoded.{numbersOf, nodeOf, nodeBy}
-use Rattle.expressions.specs.Nodes.{uses}
-use Rattle.expressions.specs.Coded.{FactFits}
+use Rattle.records.specs.code.Decoded.{numbersOf, nodeOf, nodeBy}
+use Rattle.expressions.specs.paper.Nodes.{uses}
+use Rattle.expressions.specs.code.Coded.{FactFits}
 use Rattle.expressions.proofs.NodeLaws.{by-sort, negated}
 use Rattle.expressions.proofs.uses.node_use.Statement.{statement}
 use Rattle.expressions.proofs.uses.node_use.Tie as tie

@@ -5,11 +5,11 @@ use mathlib.Core.List.{List, []}
 use native.Mathlib.Omega.{arith}
 use lib.ListN.{length, take, set, length-map, length-set}
 use borrow.Author.Needs.{needs}
-use Rattle.records.specs.Plan.{Node}
+use Rattle.records.specs.paper.Plan.{Node}
 use Rattle.records.proofs.plan.Node.{the-type}
-use Rattle.records.specs.Decoded.{nodeOf}
-use Rattle.expressions.specs.Nodes.{usesFrom}
-use Rattle.expressions.specs.Coded.{Holds, FactFits, nodesOf}
+use Rattle.records.specs.code.Decoded.{nodeOf}
+use Rattle.expressions.specs.paper.Nodes.{usesFrom}
+use Rattle.expressions.specs.code.Coded.{Holds, FactFits, nodesOf}
 use Rattle.expressions.proofs.ListLaws.{made-each, made-next, made-part, made-all, holds-none}
 use Rattle.expressions.proofs.NodeLaws.{uses-next}
 use Rattle.expressions.proofs.uses.node_uses.Statement.{statement}

@@ -3,7 +3,7 @@ use mathlib.Core.Path.{_≡_, ap}
 use native.Mathlib.Omega.{arith}
 use lib.ListN.{take, drop}
 use denote.Ref.{now}
-use Rattle.records.specs.Fields.{little}
+use Rattle.records.specs.paper.Fields.{little}
 use Rattle.report.proofs.NineLaws.{tab, tab-take}
 use borrow.Author.Needs.{needs}
 use Rattle.listing.proofs.fields.block_of.Statement.{statement}

@@ -1,7 +1,7 @@
 -- `bind::bind`: the plan and the case that were read are the accepted ones, or their refusal stands. Assumes nothing.
 use mathlib.Core.Path.{subst}
 use borrow.Author.Needs.{needs}
-use Rattle.records.specs.Fields.{Verdict}
+use Rattle.records.specs.paper.Fields.{Verdict}
 use Rattle.probes.specs.Entries.{Given}
 use Rattle.probes.specs.Binds.{Binds}
 use Rattle.probes.proofs.Entering.{plan-sound, plan-refused, case-refused, case-sound, both-read}

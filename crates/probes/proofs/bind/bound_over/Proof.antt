@@ -3,9 +3,9 @@ use mathlib.Core.Path.{_≡_, _∙_, subst}
 use Prim.Native.Nat.{ℕ}
 use lib.ListN.{getD}
 use borrow.Author.Needs.{needs}
-use Rattle.records.specs.Decoded.{planOf, caseOf}
-use Rattle.expressions.specs.Bindings.{bindings, bindingAt}
-use Rattle.expressions.specs.Codes.{boundOf}
+use Rattle.records.specs.code.Decoded.{planOf, caseOf}
+use Rattle.expressions.specs.paper.Bindings.{bindings, bindingAt}
+use Rattle.expressions.specs.code.Codes.{boundOf}
 use Rattle.expressions.specs.declared.variables.Count.{Count}
 use Rattle.probes.specs.Entries.{refusalBy}
 use Rattle.probes.specs.Binds.{Tells}

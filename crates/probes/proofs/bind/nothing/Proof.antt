@@ -1,8 +1,8 @@
 -- `bind::nothing`: zeros at every fact, no sets, no order, and the refusal. Assumes nothing.
 use mathlib.Core.Path.{refl, ap}
-use Rattle.expressions.specs.Codes.{boundOf}
-use Rattle.expressions.specs.Influences.{setsOf}
-use Rattle.expressions.specs.Slots.{slotsOf}
+use Rattle.expressions.specs.code.Codes.{boundOf}
+use Rattle.expressions.specs.code.Influences.{setsOf}
+use Rattle.expressions.specs.code.Slots.{slotsOf}
 use Rattle.probes.proofs.Entering.{zeros}
 use Rattle.probes.proofs.bind.nothing.Statement.{statement}
 use Rattle.probes.proofs.bind.nothing.Tie as tie

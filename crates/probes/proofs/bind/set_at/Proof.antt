@@ -3,7 +3,7 @@ use mathlib.Core.Path.{_≡_, sym, _∙_}
 use native.Mathlib.Omega.{arith}
 use borrow.Author.Needs.{needs}
 use lib.ListN.{length, length-map}
-use Rattle.expressions.specs.Influences.{setsOf}
+use Rattle.expressions.specs.code.Influences.{setsOf}
 use Rattle.probes.proofs.Entering.{taken-at, taken-past, taken-long}
 use Rattle.probes.proofs.bind.set_at.Statement.{statement}
 use Rattle.probes.proofs.bind.set_at.Tie as tie

@@ -2,7 +2,7 @@
 use mathlib.Core.Path.{sym, _∙_}
 use mathlib.Core.Bool.{true, false}
 use borrow.Author.Needs.{needs}
-use Rattle.records.specs.Decoded.{caseOf}
+use Rattle.records.specs.code.Decoded.{caseOf}
 use Rattle.probes.proofs.Entering.{passed-over, first-refused}
 use Rattle.probes.proofs.refusal.refusal_of.Statement.{statement}
 use Rattle.probes.proofs.refusal.refusal_of.Tie as tie

@@ -8,8 +8,8 @@ use native.Mathlib.Omega.{arith}
 use lib.ListN.{length, take, length-map, length-append}
 use borrow.Author.Needs.{needs}
 use Rattle.records.proofs.ListLaws.{take-min}
-use Rattle.expressions.specs.Codes.{boundOf}
-use Rattle.expressions.specs.Slots.{slotOf, slotsOf}
+use Rattle.expressions.specs.code.Codes.{boundOf}
+use Rattle.expressions.specs.code.Slots.{slotOf, slotsOf}
 use Rattle.probes.specs.Entries.{varying, variableCodes}
 use Rattle.probes.specs.Binds.{codesOf}
 use Rattle.probes.specs.declared.variables.Variables.{Variables}

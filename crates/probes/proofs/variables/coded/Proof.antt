@@ -6,9 +6,9 @@ use Prim.Native.Nat.{ℕ, _+_, _*_}
 use native.Mathlib.Omega.{arith}
 use lib.ListN.{getD}
 use borrow.Author.Needs.{needs}
-use Rattle.expressions.specs.Variables.{choices}
-use Rattle.expressions.specs.Codes.{boundOf}
-use Rattle.expressions.specs.Slots.{choiceCode}
+use Rattle.expressions.specs.paper.Variables.{choices}
+use Rattle.expressions.specs.code.Codes.{boundOf}
+use Rattle.expressions.specs.code.Slots.{choiceCode}
 use Rattle.probes.proofs.VariableLaws.{fact-code, decision-code}
 use Rattle.probes.proofs.variables.coded.Statement.{statement}
 use Rattle.probes.proofs.variables.coded.Tie as tie

@@ -1,7 +1,7 @@
 -- `variables::list_variables`: of what is bound, the variables. Assumes nothing.
 use mathlib.Core.Path.{_∙_}
 use borrow.Author.Needs.{needs}
-use Rattle.expressions.specs.Slots.{slotsOf}
+use Rattle.expressions.specs.code.Slots.{slotsOf}
 use Rattle.probes.specs.Entries.{given, variables}
 use Rattle.probes.proofs.VariableLaws.{variables-in}
 use Rattle.probes.proofs.variables.list_variables.Statement.{statement}

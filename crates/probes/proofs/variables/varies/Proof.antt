@@ -6,7 +6,7 @@ use native.Mathlib.Omega.{arith}
 use lib.Dec.{leb}
 use lib.ListN.{getD}
 use borrow.Author.Needs.{needs}
-use Rattle.expressions.specs.Codes.{boundOf}
+use Rattle.expressions.specs.code.Codes.{boundOf}
 use Rattle.probes.proofs.VariableLaws.{fact-varies, decision-varies}
 use Rattle.probes.proofs.variables.varies.Statement.{statement}
 use Rattle.probes.proofs.variables.varies.Tie as tie

@@ -1,6 +1,6 @@
 -- A byte in its range is read, else the answer is bad. Assumes nothing.
 use borrow.Author.Tests.{le-ltb, lt-ltb, le-leb, lt-leb}
-use Rattle.records.specs.Fields.{byteAt}
+use Rattle.records.specs.paper.Fields.{byteAt}
 use borrow.Author.Needs.{needs}
 use Rattle.records.proofs.fields.byte_at.Statement.{statement}
 use Rattle.records.proofs.fields.byte_at.Tie as tie

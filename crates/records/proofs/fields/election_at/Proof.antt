@@ -1,10 +1,10 @@
 -- The four bytes of an election, or none. Assumes nothing.
 use mathlib.Core.Path.{ap}
 use borrow.Author.Tests.{not-true, not-false}
-use Rattle.records.specs.Fields.{fieldAt, bytesAt}
-use Rattle.records.specs.Plan.{electionOf}
-use Rattle.records.specs.Decoded as decoded
-use Rattle.records.specs.Readers.{fieldRead}
+use Rattle.records.specs.paper.Fields.{fieldAt, bytesAt}
+use Rattle.records.specs.paper.Plan.{electionOf}
+use Rattle.records.specs.code.Decoded as decoded
+use Rattle.records.specs.code.Readers.{fieldRead}
 use Rattle.records.proofs.Reading.{seen}
 use borrow.Author.Needs.{needs}
 use Rattle.records.proofs.fields.election_at.Statement.{statement}

@@ -6,8 +6,8 @@ use native.Mathlib.Omega.{arith}
 use denote.Ref.{now}
 use lib.ListN.{length}
 use borrow.Author.Tests.{not-true, not-false}
-use Rattle.records.specs.Fields.{got, bytesAt, repeat, upTo}
-use Rattle.records.specs.Readers.{fieldRead, isGot, span}
+use Rattle.records.specs.paper.Fields.{got, bytesAt, repeat, upTo}
+use Rattle.records.specs.code.Readers.{fieldRead, isGot, span}
 use Rattle.records.proofs.Reading.{seen, list-bad, list-stands, list-stands-not}
 use borrow.Author.Needs.{needs}
 use Rattle.records.proofs.fields.list_at.Statement.{statement}

@@ -3,7 +3,7 @@ use mathlib.Core.List.{[], _∷_}
 use native.Mathlib.Omega.{arith}
 use denote.Ref.{now}
 use borrow.Author.Tests.{not-true, not-false}
-use Rattle.records.specs.Fields.{fieldAt, little, number}
+use Rattle.records.specs.paper.Fields.{fieldAt, little, number}
 use Rattle.records.proofs.Reading.{eight-free, bytes-short}
 use borrow.Author.Needs.{needs}
 use Rattle.records.proofs.fields.mask_at.Statement.{statement}

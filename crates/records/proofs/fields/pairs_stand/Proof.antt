@@ -5,8 +5,8 @@ use Prim.Native.Nat.{_-_, _≤_}
 use native.Mathlib.Nat.{sub-zero}
 use native.Mathlib.Omega.{arith}
 use denote.Ref.{now}
-use Rattle.records.specs.Fields.{bytesAt, repeat, upTo}
-use Rattle.records.specs.Readers.{fieldRead, isGot}
+use Rattle.records.specs.paper.Fields.{bytesAt, repeat, upTo}
+use Rattle.records.specs.code.Readers.{fieldRead, isGot}
 use Rattle.records.proofs.Reading.{seen, entries-none, entry-bad, pair-bad, pair-more}
 use borrow.Author.Needs.{needs}
 use Rattle.records.proofs.fields.pairs_stand.Statement.{statement}

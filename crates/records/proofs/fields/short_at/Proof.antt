@@ -4,8 +4,8 @@ use borrow.Author.Tests.{not-true, not-false}
 use Prim.Native.Nat.{ℕ}
 use lib.Dec.{leb}
 use borrow.Author.Tests.{le-leb, lt-leb}
-use Rattle.records.specs.Fields.{got, fieldAt, bytesAt, little}
-use Rattle.records.specs.Readers.{fieldRead}
+use Rattle.records.specs.paper.Fields.{got, fieldAt, bytesAt, little}
+use Rattle.records.specs.code.Readers.{fieldRead}
 use Rattle.records.proofs.Reading.{seen, word-is}
 use borrow.Author.Needs.{needs}
 use Rattle.records.proofs.fields.short_at.Statement.{statement}

@@ -1,5 +1,5 @@
 -- `sets::bit`: the shift of 1 is the power of two. Assumes nothing.
-use Rattle.records.specs.Sets.{one}
+use Rattle.records.specs.paper.Sets.{one}
 use Rattle.records.proofs.SetLaws.{shl-one}
 use borrow.Author.Needs.{needs}
 use Rattle.records.proofs.sets.bit.Statement.{statement}

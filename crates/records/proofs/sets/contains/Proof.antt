@@ -6,7 +6,7 @@ use native.Mathlib.Omega.{arith}
 use lib.Bits.{bitAnd}
 use lib.Dec.{eqb}
 use borrow.Author.Needs.{needs}
-use Rattle.records.specs.Sets.{one}
+use Rattle.records.specs.paper.Sets.{one}
 use Rattle.records.proofs.SetLaws.{has-test, has-high}
 use Rattle.records.proofs.sets.contains.Statement.{statement}
 use Rattle.records.proofs.sets.contains.Tie as tie

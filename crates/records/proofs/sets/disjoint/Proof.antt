@@ -1,6 +1,6 @@
 -- `sets::disjoint`: `a & b == 0`. Assumes nothing.
 use mathlib.Core.Path.{refl}
-use Rattle.records.specs.Sets.{disjoint, meet}
+use Rattle.records.specs.paper.Sets.{disjoint, meet}
 use Rattle.records.proofs.sets.disjoint.Statement.{statement}
 use Rattle.records.proofs.sets.disjoint.Tie as tie
 

@@ -1,6 +1,6 @@
 -- `sets::lowest`: the trailing zeros. Assumes nothing.
 use mathlib.Core.Path.{refl}
-use Rattle.records.specs.Sets.{lowest}
+use Rattle.records.specs.paper.Sets.{lowest}
 use Rattle.records.proofs.sets.lowest.Statement.{statement}
 use Rattle.records.proofs.sets.lowest.Tie as tie
 

@@ -4,7 +4,7 @@ use mathlib.Core.Path.{_≡_, refl, sym, ap, _∙_}
 use mathlib.Core.Logic.{⊎-elim}
 use borrow.Author.Needs.{needs}
 use lib.ListN.{length, drop, getD}
-use Rattle.records.specs.Sets.{pass, absorb}
+use Rattle.records.specs.paper.Sets.{pass, absorb}
 use Rattle.records.proofs.Closing.{absorb-zero, absorb-or, pass-step, pass-end}
 use Rattle.records.proofs.sets.pass.Statement.{statement}
 use Rattle.records.proofs.sets.pass.Tie as tie

@@ -2,7 +2,7 @@
 use mathlib.Core.Path.{ap}
 use Prim.Native.Nat.{ℕ}
 use lib.Dec.{eqb}
-use Rattle.records.specs.Sets.{subset}
+use Rattle.records.specs.paper.Sets.{subset}
 use Rattle.records.proofs.SetLaws.{and-not}
 use Rattle.records.proofs.sets.subset.Statement.{statement}
 use Rattle.records.proofs.sets.subset.Tie as tie

@@ -1,6 +1,6 @@
 -- `sets::union`: `a | b`. Assumes nothing.
 use mathlib.Core.Path.{refl}
-use Rattle.records.specs.Sets.{union}
+use Rattle.records.specs.paper.Sets.{union}
 use Rattle.records.proofs.sets.union.Statement.{statement}
 use Rattle.records.proofs.sets.union.Tie as tie
 

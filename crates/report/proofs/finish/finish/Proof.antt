@@ -8,12 +8,12 @@ use lib.ListN.{length, take, length-map}
 use lib.Seq.{length-take-le}
 use borrow.Author.Needs.{needs}
 use borrow.Author.Tests.{ltb-true, ltb-false}
-use Rattle.records.specs.Decoded.{planOf, cutOf}
+use Rattle.records.specs.code.Decoded.{planOf, cutOf}
 use Rattle.records.proofs.plan.Cut.{the-type}
-use Rattle.expressions.specs.Influences.{setsOf}
-use Rattle.expressions.specs.Rules.{cutCount}
+use Rattle.expressions.specs.code.Influences.{setsOf}
+use Rattle.expressions.specs.paper.Rules.{cutCount}
 use Rattle.expressions.proofs.ListLaws.{made-length}
-use Rattle.report.specs.EventsWritten.{countOf}
+use Rattle.report.specs.code.EventsWritten.{countOf}
 use Rattle.report.proofs.FinishLaws.{none, over, told, rule-events}
 use Rattle.report.proofs.finish.finish.Statement.{statement}
 use Rattle.report.proofs.finish.finish.Tie as tie

@@ -6,7 +6,7 @@ use native.Mathlib.Omega.{arith}
 use lib.ListN.{take, length-take, length-drop}
 use lib.Seq.{length-take-le}
 use borrow.Author.Needs.{needs}
-use Rattle.report.specs.Written.{LinesBy}
+use Rattle.report.specs.code.Written.{LinesBy}
 use Rattle.report.proofs.NineLaws.{rest-is}
 use Rattle.report.proofs.finish.write_open.Statement.{statement}
 use Rattle.report.proofs.finish.write_open.Tie as tie

@@ -2,9 +2,9 @@
 use mathlib.Core.Path.{_≡_, subst, sym}
 use Prim.Native.Nat.{ℕ, _≤_}
 use native.Mathlib.Omega.{arith}
-use Rattle.records.specs.Sets.{size}
+use Rattle.records.specs.paper.Sets.{size}
 use Rattle.records.proofs.SetLaws.{size-le}
-use Rattle.report.specs.EventsWritten.{countOf}
+use Rattle.report.specs.code.EventsWritten.{countOf}
 use borrow.Author.Needs.{needs}
 use Rattle.report.proofs.happened.count_events.Statement.{statement}
 use Rattle.report.proofs.happened.count_events.Tie as tie

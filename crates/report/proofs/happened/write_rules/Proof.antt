@@ -5,12 +5,12 @@ use Prim.Native.Nat.{ℕ}
 use native.Mathlib.Omega.{arith}
 use lib.ListN.{length, length-map}
 use borrow.Author.Needs.{needs}
-use Rattle.records.specs.Decoded.{planOf, cutOf}
+use Rattle.records.specs.code.Decoded.{planOf, cutOf}
 use Rattle.records.specs.declared.plan.Plan.{Plan}
 use Rattle.records.specs.declared.case.Case.{Case}
 use Rattle.records.proofs.plan.Cut.{the-type}
-use Rattle.expressions.specs.Coded.{edgesOf, cutsOf, attachmentsOf, statusesOf}
-use Rattle.expressions.specs.Rules.{cutCount}
+use Rattle.expressions.specs.code.Coded.{edgesOf, cutsOf, attachmentsOf, statusesOf}
+use Rattle.expressions.specs.paper.Rules.{cutCount}
 use Rattle.expressions.proofs.ListLaws.{made-length}
 use Rattle.report.proofs.HappenedLaws.{Frozen, frozen-room, frozen-next, Applied, applied-room, applied-next, Blocked, blocked-room, blocked-next, Clashed, clashed-room, clashed-next, Attached, attached-room, attached-next, Barred, barred-room, barred-next, Excluded, excluded-room, excluded-next, Defaulted, defaulted-room, defaulted-next, all-written}
 use Rattle.report.proofs.happened.write_rules.Statement.{statement}

@@ -3,10 +3,10 @@ use mathlib.Core.Path.{_≡_, sym, ap, ap₂, _∙_}
 use native.Mathlib.Omega.{arith}
 use lib.ListN.{length, length-map}
 use lib.Seq.{length-take-le}
-use Rattle.records.specs.Sets.{union, unionOf}
-use Rattle.expressions.specs.Listed.{statusHolds}
+use Rattle.records.specs.paper.Sets.{union, unionOf}
+use Rattle.expressions.specs.code.Listed.{statusHolds}
 use Rattle.expressions.proofs.ListLaws.{used-take}
-use Rattle.report.specs.Opening.{itself}
+use Rattle.report.specs.code.Opening.{itself}
 use Rattle.report.proofs.HeadingLaws.{persons-are}
 use Rattle.report.proofs.heading.rule_persons.Statement.{statement}
 use Rattle.report.proofs.heading.rule_persons.Tie as tie

@@ -4,10 +4,10 @@ use mathlib.Core.Path.{_≡_, refl, sym, _∙_}
 use lib.ListN.{length, drop, length-map}
 use borrow.Author.Needs.{needs}
 use Rattle.records.proofs.plan.Status.{the-type}
-use Rattle.records.specs.Sets.{union, unionOf}
-use Rattle.records.specs.Decoded.{statusOf}
-use Rattle.expressions.specs.Coded.{statusesOf, PersonFits}
-use Rattle.expressions.specs.Listed.{statusHolds}
+use Rattle.records.specs.paper.Sets.{union, unionOf}
+use Rattle.records.specs.code.Decoded.{statusOf}
+use Rattle.expressions.specs.code.Coded.{statusesOf, PersonFits}
+use Rattle.expressions.specs.code.Listed.{statusHolds}
 use Rattle.expressions.proofs.ListLaws.{made-each}
 use Rattle.expressions.proofs.UnionLaws.{none-union, union-first, union-end}
 use Rattle.report.proofs.HeadingLaws.{made-rest, made-end}

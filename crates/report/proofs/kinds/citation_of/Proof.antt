@@ -1,5 +1,5 @@
 -- `kinds::citation_of`: by whether there is an election.
-use Rattle.records.specs.Decoded.{electionOf}
+use Rattle.records.specs.code.Decoded.{electionOf}
 use borrow.Author.Needs.{needs}
 use Rattle.report.proofs.kinds.citation_of.Statement.{statement}
 use Rattle.report.proofs.kinds.citation_of.Tie as tie

@@ -6,9 +6,9 @@ use mathlib.Core.List.{[], _∷_}
 use Prim.Native.Nat.{ℕ}
 use lib.Dec.{eqb}
 use borrow.Author.Tests.{eqb-true}
-use Rattle.records.specs.Decoded.{electionOf}
-use Rattle.expressions.specs.Bindings.{defaultOf}
-use Rattle.report.specs.EventList.{numberOf}
+use Rattle.records.specs.code.Decoded.{electionOf}
+use Rattle.expressions.specs.paper.Bindings.{defaultOf}
+use Rattle.report.specs.paper.EventList.{numberOf}
 use Rattle.report.proofs.kinds.default_of.Statement.{statement}
 use Rattle.report.proofs.kinds.default_of.Tie as tie
 

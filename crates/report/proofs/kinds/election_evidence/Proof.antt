@@ -1,5 +1,5 @@
 -- `kinds::election_evidence`: by whether there is an election.
-use Rattle.records.specs.Decoded.{electionOf}
+use Rattle.records.specs.code.Decoded.{electionOf}
 use borrow.Author.Needs.{needs}
 use Rattle.report.proofs.kinds.election_evidence.Statement.{statement}
 use Rattle.report.proofs.kinds.election_evidence.Tie as tie

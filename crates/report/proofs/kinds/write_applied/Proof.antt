@@ -4,13 +4,13 @@ use Prim.Native.Nat.{ℕ}
 use native.Mathlib.Omega.{arith}
 use lib.ListN.{length-take, length-drop}
 use borrow.Author.Needs.{needs}
-use Rattle.records.specs.Plan.{Plan, Cut}
-use Rattle.records.specs.Decoded.{caseOf, cutOf}
-use Rattle.expressions.specs.Coded.{cutsOf}
-use Rattle.expressions.specs.Rules.{cutCount, cut}
-use Rattle.report.specs.EventBytes.{Below}
-use Rattle.worlds.specs.Events.{event, electionActor, electionEvidence}
-use Rattle.report.specs.Happened.{appliedOver}
+use Rattle.records.specs.paper.Plan.{Plan, Cut}
+use Rattle.records.specs.code.Decoded.{caseOf, cutOf}
+use Rattle.expressions.specs.code.Coded.{cutsOf}
+use Rattle.expressions.specs.paper.Rules.{cutCount, cut}
+use Rattle.report.specs.code.EventBytes.{Below}
+use Rattle.worlds.specs.paper.Events.{event, electionActor, electionEvidence}
+use Rattle.report.specs.code.Happened.{appliedOver}
 use Rattle.report.proofs.EventLaws.{Writing, writing-none, writing-room, writing-next, writing-end, writes-listed, cut-read, writing-has}
 use Rattle.report.proofs.kinds.write_applied.Statement.{statement}
 use Rattle.report.proofs.kinds.write_applied.Tie as tie

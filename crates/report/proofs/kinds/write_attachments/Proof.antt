@@ -3,13 +3,13 @@ use mathlib.Core.Path.{_≡_, ap, _∙_}
 use native.Mathlib.Omega.{arith}
 use lib.ListN.{length-take, length-drop}
 use borrow.Author.Needs.{needs}
-use Rattle.records.specs.Plan.{Plan, Attachment}
-use Rattle.records.specs.Decoded.{caseOf, attachmentOf}
-use Rattle.expressions.specs.Coded.{attachmentsOf}
-use Rattle.expressions.specs.Rules.{attachmentCount, attachment}
-use Rattle.report.specs.EventBytes.{Below}
-use Rattle.worlds.specs.Events.{event, electionEvidence}
-use Rattle.report.specs.Happened.{attachmentOver}
+use Rattle.records.specs.paper.Plan.{Plan, Attachment}
+use Rattle.records.specs.code.Decoded.{caseOf, attachmentOf}
+use Rattle.expressions.specs.code.Coded.{attachmentsOf}
+use Rattle.expressions.specs.paper.Rules.{attachmentCount, attachment}
+use Rattle.report.specs.code.EventBytes.{Below}
+use Rattle.worlds.specs.paper.Events.{event, electionEvidence}
+use Rattle.report.specs.code.Happened.{attachmentOver}
 use Rattle.report.proofs.EventLaws.{Writing, writing-none, writing-room, writing-next, writing-end, writes-listed, attachment-read, writing-has}
 use Rattle.report.proofs.kinds.write_attachments.Statement.{statement}
 use Rattle.report.proofs.kinds.write_attachments.Tie as tie

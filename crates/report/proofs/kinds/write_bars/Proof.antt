@@ -3,9 +3,9 @@ use mathlib.Core.Path.{refl}
 use native.Mathlib.Omega.{arith}
 use lib.ListN.{length-take, length-drop}
 use borrow.Author.Needs.{needs}
-use Rattle.records.specs.Plan.{Plan}
-use Rattle.worlds.specs.Events.{event}
-use Rattle.report.specs.Happened.{barOver}
+use Rattle.records.specs.paper.Plan.{Plan}
+use Rattle.worlds.specs.paper.Events.{event}
+use Rattle.report.specs.code.Happened.{barOver}
 use Rattle.report.proofs.EventLaws.{Writing, writing-none, writing-room, writing-next, writing-end, writes-listed}
 use Rattle.report.proofs.kinds.write_bars.Statement.{statement}
 use Rattle.report.proofs.kinds.write_bars.Tie as tie

@@ -2,13 +2,13 @@
 use native.Mathlib.Omega.{arith}
 use lib.ListN.{length-take, length-drop}
 use borrow.Author.Needs.{needs}
-use Rattle.records.specs.Decoded.{planOf}
-use Rattle.expressions.specs.Rules.{factCount}
-use Rattle.expressions.specs.Bindings.{elections, defaultOf}
-use Rattle.report.specs.EventList.{numberOf, electionCitation}
-use Rattle.report.specs.EventBytes.{Below}
-use Rattle.worlds.specs.Events.{event, electionActor}
-use Rattle.report.specs.Happened.{defaultOver}
+use Rattle.records.specs.code.Decoded.{planOf}
+use Rattle.expressions.specs.paper.Rules.{factCount}
+use Rattle.expressions.specs.paper.Bindings.{elections, defaultOf}
+use Rattle.report.specs.paper.EventList.{numberOf, electionCitation}
+use Rattle.report.specs.code.EventBytes.{Below}
+use Rattle.worlds.specs.paper.Events.{event, electionActor}
+use Rattle.report.specs.code.Happened.{defaultOver}
 use Rattle.report.proofs.EventLaws.{Writing, writing-none, writing-room, writing-next, writing-end, writes-listed, default-read}
 use Rattle.report.proofs.kinds.write_defaults.Statement.{statement}
 use Rattle.report.proofs.kinds.write_defaults.Tie as tie

@@ -3,13 +3,13 @@ use mathlib.Core.Path.{_≡_, ap}
 use native.Mathlib.Omega.{arith}
 use lib.ListN.{length-take, length-drop}
 use borrow.Author.Needs.{needs}
-use Rattle.records.specs.Plan.{Plan, Edge}
-use Rattle.records.specs.Decoded.{edgeOf}
-use Rattle.expressions.specs.Coded.{edgesOf}
-use Rattle.expressions.specs.Rules.{edgeCount, edge}
-use Rattle.report.specs.EventBytes.{Below}
-use Rattle.worlds.specs.Events.{event}
-use Rattle.report.specs.Happened.{frozenOver}
+use Rattle.records.specs.paper.Plan.{Plan, Edge}
+use Rattle.records.specs.code.Decoded.{edgeOf}
+use Rattle.expressions.specs.code.Coded.{edgesOf}
+use Rattle.expressions.specs.paper.Rules.{edgeCount, edge}
+use Rattle.report.specs.code.EventBytes.{Below}
+use Rattle.worlds.specs.paper.Events.{event}
+use Rattle.report.specs.code.Happened.{frozenOver}
 use Rattle.report.proofs.EventLaws.{Writing, writing-none, writing-room, writing-next, writing-end, writes-listed, edge-read, writing-has}
 use Rattle.report.proofs.kinds.write_frozen.Statement.{statement}
 use Rattle.report.proofs.kinds.write_frozen.Tie as tie

@@ -3,13 +3,13 @@ use mathlib.Core.Path.{_≡_, ap}
 use native.Mathlib.Omega.{arith}
 use lib.ListN.{length-take, length-drop}
 use borrow.Author.Needs.{needs}
-use Rattle.records.specs.Plan.{Plan, Status}
-use Rattle.records.specs.Decoded.{statusOf}
-use Rattle.expressions.specs.Coded.{statusesOf}
-use Rattle.expressions.specs.Rules.{statusCount, status}
-use Rattle.report.specs.EventBytes.{Below}
-use Rattle.worlds.specs.Events.{event}
-use Rattle.report.specs.Happened.{statusOver}
+use Rattle.records.specs.paper.Plan.{Plan, Status}
+use Rattle.records.specs.code.Decoded.{statusOf}
+use Rattle.expressions.specs.code.Coded.{statusesOf}
+use Rattle.expressions.specs.paper.Rules.{statusCount, status}
+use Rattle.report.specs.code.EventBytes.{Below}
+use Rattle.worlds.specs.paper.Events.{event}
+use Rattle.report.specs.code.Happened.{statusOver}
 use Rattle.report.proofs.EventLaws.{Writing, writing-none, writing-room, writing-next, writing-end, writes-listed, status-read, writing-has}
 use Rattle.report.proofs.kinds.write_statuses.Statement.{statement}
 use Rattle.report.proofs.kinds.write_statuses.Tie as tie

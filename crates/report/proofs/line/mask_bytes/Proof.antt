@@ -1,6 +1,6 @@
 -- `line::mask_bytes`: the code divides as the definition does.
 use mathlib.Core.Path.{refl}
-use Rattle.worlds.specs.Events.{littleBytes}
+use Rattle.worlds.specs.paper.Events.{littleBytes}
 use borrow.Author.Needs.{needs}
 use Rattle.report.proofs.line.mask_bytes.Statement.{statement}
 use Rattle.report.proofs.line.mask_bytes.Tie as tie

@@ -6,8 +6,8 @@ use native.Mathlib.Omega.{arith}
 use lib.ListN.{length, length-take, length-drop}
 use borrow.Author.Needs.{needs}
 use denote.Ref.{now}
-use Rattle.records.specs.Sets.{members}
-use Rattle.report.specs.Line.{lineBytes, bareLine}
+use Rattle.records.specs.paper.Sets.{members}
+use Rattle.report.specs.paper.Line.{lineBytes, bareLine}
 use Rattle.report.proofs.WriteLaws.{Filled, fill-none, fill-room, fill-next, fill-end, line-length}
 use Rattle.report.proofs.line.write_bare.Statement.{statement}
 use Rattle.report.proofs.line.write_bare.Tie as tie

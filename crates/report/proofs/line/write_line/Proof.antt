@@ -7,7 +7,7 @@ use lib.ListN.{length, take, drop}
 use lib.Seq.{take-all}
 use borrow.Author.Needs.{needs}
 use denote.Ref.{now}
-use Rattle.report.specs.Written.{lineFrom}
+use Rattle.report.specs.code.Written.{lineFrom}
 use Rattle.report.proofs.WriteLaws.{copied, copied-long, line-length}
 use Rattle.report.proofs.line.write_line.Statement.{statement}
 use Rattle.report.proofs.line.write_line.Tie as tie

@@ -7,10 +7,10 @@ use native.Mathlib.Omega.{arith}
 use lib.ListN.{length, length-take, length-drop}
 use borrow.Author.Needs.{needs}
 use denote.Ref.{now}
-use Rattle.records.specs.Sets.{has, members}
-use Rattle.worlds.specs.View.{View}
-use Rattle.report.specs.Line.{lineBytes, lineOver}
-use Rattle.report.specs.Written.{SumsOf, lineFrom}
+use Rattle.records.specs.paper.Sets.{has, members}
+use Rattle.worlds.specs.paper.View.{View}
+use Rattle.report.specs.paper.Line.{lineBytes, lineOver}
+use Rattle.report.specs.code.Written.{SumsOf, lineFrom}
 use Rattle.report.proofs.WriteLaws.{Filled, fill-none, fill-room, fill-has, fill-next, fill-end, line-length, holding-lt}
 use Rattle.report.proofs.lines.write_lines.Statement.{statement}
 use Rattle.report.proofs.lines.write_lines.Tie as tie

@@ -8,7 +8,7 @@ use mir.Syntax.{w8}
 use borrow.Kind.Array.{eInt, good-length}
 use borrow.Author.Needs.{needs}
 use borrow.Author.Tests.{lt-ltb, le-ltb}
-use Rattle.report.specs.Nine.{order}
+use Rattle.report.specs.code.Nine.{order}
 use Rattle.report.proofs.NineLaws.{order-step}
 use Rattle.report.proofs.nine.compare.Statement.{statement}
 use Rattle.report.proofs.nine.compare.Tie as tie

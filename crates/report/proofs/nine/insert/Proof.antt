@@ -9,7 +9,7 @@ use mir.Syntax.{w8}
 use borrow.Kind.Array.{eInt, good-length}
 use denote.Ref.{now}
 use borrow.Author.Needs.{needs}
-use Rattle.report.specs.Nine.{order}
+use Rattle.report.specs.code.Nine.{order}
 use Rattle.report.proofs.NineLaws.{rest-is, put-is, put-length, Carried, carried-first, carried-same, carried-less, carried-more, carried-last}
 use Rattle.report.proofs.nine.insert.Statement.{statement}
 use Rattle.report.proofs.nine.insert.Tie as tie

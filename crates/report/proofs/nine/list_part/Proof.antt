@@ -4,9 +4,9 @@ use mathlib.Core.List.{List}
 use Prim.Native.Nat.{ℕ}
 use native.Mathlib.Omega.{arith}
 use denote.Ref.{now}
-use Rattle.worlds.specs.Events.{event}
-use Rattle.report.specs.EventBytes.{chunks}
-use Rattle.report.specs.Nine.{stands}
+use Rattle.worlds.specs.paper.Events.{event}
+use Rattle.report.specs.code.EventBytes.{chunks}
+use Rattle.report.specs.code.Nine.{stands}
 use Rattle.report.proofs.EventLaws.{event-length}
 use Rattle.report.proofs.NineLaws.{nines-full, nines-kept, nines-more}
 use borrow.Author.Needs.{needs}

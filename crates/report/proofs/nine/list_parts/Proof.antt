@@ -2,8 +2,8 @@
 use mathlib.Core.Path.{ap}
 use native.Mathlib.Omega.{arith}
 use denote.Ref.{now}
-use Rattle.records.specs.Sets.{members, lowest}
-use Rattle.worlds.specs.Over.{entry}
+use Rattle.records.specs.paper.Sets.{members, lowest}
+use Rattle.worlds.specs.code.Over.{entry}
 use Rattle.worlds.proofs.OverLaws.{members-none}
 use Rattle.report.proofs.NineLaws.{Turns, turns-start, turns-next, turns-end}
 use Rattle.report.proofs.nine.list_parts.Statement.{statement}

@@ -8,9 +8,9 @@ use lib.ListN.{take, drop}
 use denote.Ref.{now}
 use borrow.Author.Needs.{needs}
 use borrow.Author.Tests.{eq-eqb, ne-eqb}
-use Rattle.records.specs.Sets.{anyOf}
-use Rattle.report.specs.EventBytes.{chunks}
-use Rattle.report.specs.Nine.{order, stands}
+use Rattle.records.specs.paper.Sets.{anyOf}
+use Rattle.report.specs.code.EventBytes.{chunks}
+use Rattle.report.specs.code.Nine.{order, stands}
 use Rattle.report.proofs.NineLaws.{rest-is, stands-step}
 use Rattle.report.proofs.nine.listed.Statement.{statement}
 use Rattle.report.proofs.nine.listed.Tie as tie

@@ -3,7 +3,7 @@ use mathlib.Core.Path.{ap, _∙_}
 use Prim.Native.Nat.{ℕ}
 use lib.ListN.{length}
 use denote.Ref.{now}
-use Rattle.report.specs.Operate.{headed}
+use Rattle.report.specs.code.Operate.{headed}
 use Rattle.report.proofs.OperateLaws.{plan-sound, plan-stops, case-sound, case-stops, case-headed, zeros-long, zeros-all, stops, goes-on, cleared}
 use borrow.Author.Needs.{needs}
 use Rattle.report.proofs.operate.operate.Statement.{statement}

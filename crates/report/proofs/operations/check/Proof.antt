@@ -1,7 +1,7 @@
 -- `operations::check`: what records' check answers, as an answer of the operations.
 use mathlib.Core.Path.{sym, ap, _∙_}
 use borrow.Author.Needs.{needs}
-use Rattle.report.specs.Operations.{answerTo, check}
+use Rattle.report.specs.paper.Operations.{answerTo, check}
 use Rattle.report.proofs.operations.check.Statement.{statement}
 use Rattle.report.proofs.operations.check.Tie as tie
 

@@ -4,8 +4,8 @@ use Prim.Native.Nat.{ℕ, _+_, _-_, _*_, _≤_}
 use native.Mathlib.Omega.{arith}
 use borrow.Author.Needs.{needs}
 use Rattle.records.proofs.SetLaws.{size-le}
-use Rattle.worlds.specs.Over.{entry}
-use Rattle.report.specs.EventBytes.{sizes}
+use Rattle.worlds.specs.code.Over.{entry}
+use Rattle.report.specs.code.EventBytes.{sizes}
 use Rattle.report.proofs.EventLaws.{sizes-more}
 use Rattle.report.proofs.pairs.count_pairs.Statement.{statement}
 use Rattle.report.proofs.pairs.count_pairs.Tie as tie

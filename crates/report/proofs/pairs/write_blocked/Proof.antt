@@ -4,13 +4,13 @@ use mathlib.Core.Logic.{⊎-elim}
 use Prim.Native.Nat.{ℕ, _≤_, _<_, _-_}
 use native.Mathlib.Omega.{arith}
 use borrow.Author.Needs.{needs}
-use Rattle.records.specs.Plan.{Plan, Cut}
-use Rattle.records.specs.Decoded.{caseOf, cutOf}
-use Rattle.expressions.specs.Coded.{cutsOf}
-use Rattle.expressions.specs.Rules.{cutCount, cut}
-use Rattle.worlds.specs.Over.{entry}
-use Rattle.worlds.specs.Events.{event, electionActor, electionEvidence}
-use Rattle.report.specs.Happened.{blockedOver}
+use Rattle.records.specs.paper.Plan.{Plan, Cut}
+use Rattle.records.specs.code.Decoded.{caseOf, cutOf}
+use Rattle.expressions.specs.code.Coded.{cutsOf}
+use Rattle.expressions.specs.paper.Rules.{cutCount, cut}
+use Rattle.worlds.specs.code.Over.{entry}
+use Rattle.worlds.specs.paper.Events.{event, electionActor, electionEvidence}
+use Rattle.report.specs.code.Happened.{blockedOver}
 use Rattle.report.proofs.EventLaws.{event-length, cut-read, Pairing, pairing-none, pairing-room, pairing-next, pairing-skip, pairing-end}
 use Rattle.report.proofs.pairs.write_blocked.Statement.{statement}
 use Rattle.report.proofs.pairs.write_blocked.Tie as tie

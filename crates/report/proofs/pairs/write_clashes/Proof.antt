@@ -3,9 +3,9 @@ use mathlib.Core.Path.{refl}
 use Prim.Native.Nat.{_≤_, _-_}
 use native.Mathlib.Omega.{arith}
 use borrow.Author.Needs.{needs}
-use Rattle.worlds.specs.Over.{entry}
-use Rattle.worlds.specs.Events.{event}
-use Rattle.report.specs.Happened.{overlapOver}
+use Rattle.worlds.specs.code.Over.{entry}
+use Rattle.worlds.specs.paper.Events.{event}
+use Rattle.report.specs.code.Happened.{overlapOver}
 use Rattle.report.proofs.EventLaws.{event-length, Pairing, pairing-none, pairing-room, pairing-next, pairing-end}
 use Rattle.report.proofs.pairs.write_clashes.Statement.{statement}
 use Rattle.report.proofs.pairs.write_clashes.Tie as tie

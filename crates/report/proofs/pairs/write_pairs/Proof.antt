@@ -3,7 +3,7 @@ use mathlib.Core.Path.{refl}
 use native.Mathlib.Omega.{arith}
 use lib.ListN.{length-take, length-drop}
 use borrow.Author.Needs.{needs}
-use Rattle.worlds.specs.Events.{event}
+use Rattle.worlds.specs.paper.Events.{event}
 use Rattle.report.proofs.EventLaws.{Writing, writing-none, writing-room, writing-next, writing-end}
 use Rattle.report.proofs.pairs.write_pairs.Statement.{statement}
 use Rattle.report.proofs.pairs.write_pairs.Tie as tie

@@ -3,13 +3,13 @@ use mathlib.Core.Path.{_≡_}
 use mathlib.Core.List.{_++_, map}
 use lib.ListN.{take}
 use borrow.Author.Needs.{needs}
-use Rattle.records.specs.Decoded.{planOf, caseOf}
-use Rattle.expressions.specs.Bindings.{bindings}
-use Rattle.expressions.specs.Influences.{setsOf}
-use Rattle.expressions.specs.Slots.{slotOf}
-use Rattle.expressions.specs.Variables.{Influence, slots}
-use Rattle.worlds.specs.Tables.{Stands}
-use Rattle.report.specs.Operations.{influences}
+use Rattle.records.specs.code.Decoded.{planOf, caseOf}
+use Rattle.expressions.specs.paper.Bindings.{bindings}
+use Rattle.expressions.specs.code.Influences.{setsOf}
+use Rattle.expressions.specs.code.Slots.{slotOf}
+use Rattle.expressions.specs.paper.Variables.{Influence, slots}
+use Rattle.worlds.specs.code.Tables.{Stands}
+use Rattle.report.specs.paper.Operations.{influences}
 use Rattle.report.proofs.ReadyLaws.{rows-clean, zeros-small, tables-ready, facts-few, decisions-few, booleans-fit, order-is, order-fits, sets-are, stands, ends, answers}
 use Rattle.report.proofs.ready.answer_ready.Statement.{statement}
 use Rattle.report.proofs.ready.answer_ready.Tie as tie

@@ -8,10 +8,10 @@ use native.Mathlib.Nat.{lt-trans}
 use native.Mathlib.Omega.{arith}
 use borrow.Author.Needs.{needs}
 use lib.ListN.{getD, take}
-use Rattle.records.specs.Sets.{has, union, anyOf}
+use Rattle.records.specs.paper.Sets.{has, union, anyOf}
 use Rattle.records.proofs.SetLaws.{has-none}
-use Rattle.expressions.specs.Nodes.{on}
-use Rattle.worlds.specs.Over.{entry}
+use Rattle.expressions.specs.paper.Nodes.{on}
+use Rattle.worlds.specs.code.Over.{entry}
 use Rattle.worlds.proofs.OverLaws.{turn-has, found-in, found-out}
 use Rattle.worlds.proofs.active.undefeated.Statement.{statement}
 use Rattle.worlds.proofs.active.undefeated.Tie as tie

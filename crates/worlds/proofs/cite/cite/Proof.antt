@@ -2,11 +2,11 @@
 use mathlib.Core.Path.{refl, sym, ap, _∙_}
 use mathlib.Core.Bool.{true≢false}
 use Prim.Native.Nat.{ℕ}
-use Rattle.records.specs.Sets.{has, union}
+use Rattle.records.specs.paper.Sets.{has, union}
 use Rattle.records.proofs.SetLaws.{has-none}
 use Rattle.expressions.proofs.ListLaws.{filled-at}
 use Rattle.expressions.proofs.UnionLaws.{none-union}
-use Rattle.worlds.specs.Citing.{ownOf}
+use Rattle.worlds.specs.code.Citing.{ownOf}
 use Rattle.worlds.proofs.CiteTurns.{kept}
 use Rattle.worlds.proofs.CiteView.{cites-view}
 use borrow.Author.Needs.{needs}

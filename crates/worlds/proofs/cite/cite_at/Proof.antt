@@ -8,9 +8,9 @@ use native.Mathlib.Omega.{arith}
 use lib.ListN.{length, length-set}
 use lib.Dec.{eqb}
 use borrow.Author.Tests.{eqb-true, eq-eqb, ne-eqb}
-use Rattle.records.specs.Sets.{union, minus, only}
-use Rattle.worlds.specs.Over.{entry}
-use Rattle.worlds.specs.Citing.{CitesIn}
+use Rattle.records.specs.paper.Sets.{union, minus, only}
+use Rattle.worlds.specs.code.Over.{entry}
+use Rattle.worlds.specs.code.Citing.{CitesIn}
 use Rattle.worlds.proofs.OverLaws.{turn-has}
 use Rattle.worlds.proofs.CiteLaws.{minus-le, filled, cites-none, cites-add, Unmet, unmet-next, unmet-none}
 use Rattle.worlds.proofs.cite.cite_at.Statement.{statement}

@@ -5,9 +5,9 @@ use mathlib.Core.Logic.{⊎-elim}
 use native.Mathlib.Omega.{arith}
 use borrow.Author.Needs.{needs}
 use lib.ListN.{length, length-set}
-use Rattle.records.specs.Sets.{has, union, meets, only, lowest}
-use Rattle.worlds.specs.Tables.{row}
-use Rattle.worlds.specs.Citing.{CitesIn}
+use Rattle.records.specs.paper.Sets.{has, union, meets, only, lowest}
+use Rattle.worlds.specs.code.Tables.{row}
+use Rattle.worlds.specs.code.Citing.{CitesIn}
 use Rattle.worlds.proofs.OverLaws.{and-meets, and-apart}
 use Rattle.worlds.proofs.CiteLaws.{stored, Left, left-all, left-next, left-none}
 use Rattle.worlds.proofs.CiteTurns.{anchor-cites, anchor-filled, anchor-added, anchor-apart, anchor-none}

@@ -3,9 +3,9 @@ use mathlib.Core.Path.{_≡_, sym, _∙_, subst}
 use mathlib.Core.Logic.{⊎-elim}
 use Prim.Native.Nat.{ℕ, _<_, _^_}
 use native.Mathlib.Omega.{arith}
-use Rattle.records.specs.Sets.{has, union, only, lowest}
-use Rattle.worlds.specs.Over.{entry}
-use Rattle.worlds.specs.Citing.{CitesIn, far, through}
+use Rattle.records.specs.paper.Sets.{has, union, only, lowest}
+use Rattle.worlds.specs.code.Over.{entry}
+use Rattle.worlds.specs.code.Citing.{CitesIn, far, through}
 use Rattle.worlds.proofs.CiteLaws.{Left, left-all, left-next, left-none}
 use Rattle.worlds.proofs.CiteTurns.{far-other, far-same, ends-cite, ends-added, ends-idle, ends-none}
 use Rattle.worlds.proofs.cite.cite_cuts.Statement.{statement}

@@ -5,9 +5,9 @@ use mathlib.Core.Logic.{⊎-elim}
 use native.Mathlib.Omega.{arith}
 use borrow.Author.Needs.{needs}
 use lib.ListN.{length, length-set}
-use Rattle.records.specs.Sets.{union, meets, subset, only}
-use Rattle.worlds.specs.Tables.{row}
-use Rattle.worlds.specs.Citing.{CitesIn}
+use Rattle.records.specs.paper.Sets.{union, meets, subset, only}
+use Rattle.worlds.specs.code.Tables.{row}
+use Rattle.worlds.specs.code.Citing.{CitesIn}
 use Rattle.worlds.proofs.CiteLaws.{stored, Left, left-all, left-next, left-none}
 use Rattle.worlds.proofs.CiteTurns.{edge-cites, edge-filled, edge-added, edge-apart, edge-none}
 use Rattle.worlds.proofs.cite.cite_edges.Statement.{statement}

@@ -2,9 +2,9 @@
 use mathlib.Core.Path.{sym, subst}
 use mathlib.Core.Logic.{⊎-elim}
 use native.Mathlib.Omega.{arith}
-use Rattle.records.specs.Sets.{meet, meets, only}
-use Rattle.worlds.specs.Over.{entry}
-use Rattle.worlds.specs.Citing.{CitesIn}
+use Rattle.records.specs.paper.Sets.{meet, meets, only}
+use Rattle.worlds.specs.code.Over.{entry}
+use Rattle.worlds.specs.code.Citing.{CitesIn}
 use Rattle.worlds.proofs.CiteLaws.{Left, left-all, left-next, left-none}
 use Rattle.worlds.proofs.CiteTurns.{named-none}
 use Rattle.worlds.proofs.cite.cite_named.Statement.{statement}

@@ -3,11 +3,11 @@ use mathlib.Core.Path.{_≡_, refl, sym, ap, _∙_}
 use Prim.Native.Nat.{ℕ}
 use native.Mathlib.Omega.{arith}
 use borrow.Author.Needs.{needs}
-use Rattle.records.specs.Sets.{has, union, only, members}
+use Rattle.records.specs.paper.Sets.{has, union, only, members}
 use Rattle.expressions.proofs.UnionLaws.{union-first, union-end}
-use Rattle.worlds.specs.Over.{entry}
-use Rattle.worlds.specs.Tables.{row}
-use Rattle.worlds.specs.Citing.{ownOf}
+use Rattle.worlds.specs.code.Over.{entry}
+use Rattle.worlds.specs.code.Tables.{row}
+use Rattle.worlds.specs.code.Citing.{ownOf}
 use Rattle.worlds.proofs.OverLaws.{members-none}
 use Rattle.worlds.proofs.CiteLaws.{added-if}
 use Rattle.worlds.proofs.cite.own_citations.Statement.{statement}

@@ -2,7 +2,7 @@
 use Prim.Native.Nat.{_-_, _≤_, _^_}
 use borrow.Author.Needs.{needs}
 use lib.ListN.{length, take}
-use Rattle.worlds.specs.Classes.{ClassesBy}
+use Rattle.worlds.specs.code.Classes.{ClassesBy}
 use Rattle.worlds.proofs.ClassLaws.{alone-classes, classes-next, classes-end}
 use Rattle.worlds.proofs.classes.classes_of.Statement.{statement}
 use Rattle.worlds.proofs.classes.classes_of.Tie as tie

@@ -4,14 +4,14 @@ use mathlib.Core.List.{List, []}
 use Prim.Native.Nat.{ℕ, _<_}
 use borrow.Author.Needs.{needs}
 use lib.ListN.{getD, take}
-use Rattle.records.specs.Sets.{anyOf}
-use Rattle.records.specs.Plan.{Plan}
-use Rattle.records.specs.Decoded.{planOf}
+use Rattle.records.specs.paper.Sets.{anyOf}
+use Rattle.records.specs.paper.Plan.{Plan}
+use Rattle.records.specs.code.Decoded.{planOf}
 use Rattle.records.specs.declared.plan.Edges.{Edges}
-use Rattle.expressions.specs.Coded.{edgesOf, cutsOf, attachmentsOf, barsOf, statusesOf}
-use Rattle.expressions.specs.Rules.{edgeCount, edge}
-use Rattle.worlds.specs.Tables.{row}
-use Rattle.worlds.specs.Conditions.{EdgeConditions}
+use Rattle.expressions.specs.code.Coded.{edgesOf, cutsOf, attachmentsOf, barsOf, statusesOf}
+use Rattle.expressions.specs.paper.Rules.{edgeCount, edge}
+use Rattle.worlds.specs.code.Tables.{row}
+use Rattle.worlds.specs.code.Conditions.{EdgeConditions}
 use Rattle.worlds.proofs.conditions.lay_conditions.Statement.{statement}
 use Rattle.worlds.proofs.conditions.lay_conditions.Tie as tie
 

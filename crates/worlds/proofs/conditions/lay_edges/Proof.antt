@@ -10,16 +10,16 @@ use borrow.Author.Tests.{ne-eqb}
 use lib.Dec.{eqb}
 use lib.ListN.{length, getD, take, set, length-map, length-set}
 use lib.Seq.{getD-set-same, getD-set-other}
-use Rattle.records.specs.Sets.{anyOf}
-use Rattle.records.specs.Plan.{Edge}
-use Rattle.records.specs.Decoded.{edgeOf, numbersOf}
+use Rattle.records.specs.paper.Sets.{anyOf}
+use Rattle.records.specs.paper.Plan.{Edge}
+use Rattle.records.specs.code.Decoded.{edgeOf, numbersOf}
 use Rattle.records.specs.declared.plan.Edge.{Edge as Coded}
 use Rattle.records.proofs.plan.Edge.{the-type}
-use Rattle.expressions.specs.Coded.{edgesOf}
-use Rattle.expressions.specs.Rules.{edge}
+use Rattle.expressions.specs.code.Coded.{edgesOf}
+use Rattle.expressions.specs.paper.Rules.{edge}
 use Rattle.expressions.proofs.ListLaws.{made-length, made-at}
-use Rattle.worlds.specs.Tables.{row}
-use Rattle.worlds.specs.Laid.{Laid, Same}
+use Rattle.worlds.specs.code.Tables.{row}
+use Rattle.worlds.specs.code.Laid.{Laid, Same}
 use Rattle.worlds.proofs.LayLaws.{laid-here, laid-beside, laid-other, Each, each-none, each-next, each-other, each-row, same-start, same-next}
 use Rattle.worlds.proofs.conditions.lay_edges.Statement.{statement}
 use Rattle.worlds.proofs.conditions.lay_edges.Tie as tie

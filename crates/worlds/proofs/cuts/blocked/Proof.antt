@@ -5,10 +5,10 @@ use Prim.Native.Nat.{ℕ, _<_, _^_}
 use native.Mathlib.Nat.{lt-trans}
 use native.Mathlib.Omega.{arith}
 use lib.ListN.{length, length-set}
-use Rattle.records.specs.Sets.{union, members}
+use Rattle.records.specs.paper.Sets.{union, members}
 use Rattle.expressions.proofs.UnionLaws.{none-union, union-end}
-use Rattle.worlds.specs.Tables.{row}
-use Rattle.worlds.specs.Cuts.{blockers, blockedTwins}
+use Rattle.worlds.specs.code.Tables.{row}
+use Rattle.worlds.specs.code.Cuts.{blockers, blockedTwins}
 use Rattle.worlds.proofs.OverLaws.{turn-has, members-none}
 use Rattle.worlds.proofs.NoteLaws.{noting, note-end, twinsIf, twins-in, twins-out, note-in, note-out}
 use Rattle.worlds.proofs.cuts.blocked.Statement.{statement}

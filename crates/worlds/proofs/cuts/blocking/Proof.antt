@@ -2,9 +2,9 @@
 use mathlib.Core.Path.{ap, _∙_}
 use Prim.Native.Nat.{ℕ}
 use lib.Bits.{bitAnd, bitOr}
-use Rattle.records.specs.Sets.{union, meet, members, unionOf}
-use Rattle.worlds.specs.Tables.{row}
-use Rattle.worlds.specs.Cuts.{blockers}
+use Rattle.records.specs.paper.Sets.{union, meet, members, unionOf}
+use Rattle.worlds.specs.code.Tables.{row}
+use Rattle.worlds.specs.code.Cuts.{blockers}
 use borrow.Author.Needs.{needs}
 use Rattle.worlds.proofs.cuts.blocking.Statement.{statement}
 use Rattle.worlds.proofs.cuts.blocking.Tie as tie

@@ -4,8 +4,8 @@ use Prim.Native.Nat.{ℕ, _<_, _^_}
 use native.Mathlib.Nat.{lt-trans}
 use native.Mathlib.Omega.{arith}
 use lib.ListN.{length, length-set}
-use Rattle.records.specs.Sets.{union, meet}
-use Rattle.worlds.specs.Tables.{row}
+use Rattle.records.specs.paper.Sets.{union, meet}
+use Rattle.worlds.specs.code.Tables.{row}
 use Rattle.worlds.proofs.OverLaws.{turn-has}
 use Rattle.worlds.proofs.NoteLaws.{noting, note-store, note-end}
 use Rattle.worlds.proofs.cuts.note_clashes.Statement.{statement}

@@ -1,6 +1,6 @@
 -- `cuts::settle_cuts`: steps 3 to 5 by sets of cuts.
 use borrow.Author.Needs.{needs}
-use Rattle.worlds.specs.Settled.{CutsSettled}
+use Rattle.worlds.specs.code.Settled.{CutsSettled}
 use Rattle.worlds.proofs.CutsMade.{cuts-made}
 use Rattle.worlds.proofs.SettleLaws.{parts-kept, rows-noted}
 use Rattle.worlds.proofs.cuts.settle_cuts.Statement.{statement}

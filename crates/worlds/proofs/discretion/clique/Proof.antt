@@ -7,9 +7,9 @@ use native.Mathlib.Nat.{lt-trans}
 use native.Mathlib.Omega.{arith}
 use lib.Bits.{bitOr}
 use borrow.Author.Tests.{not-true, not-false}
-use Rattle.records.specs.Sets.{one, union, subset, lowest, allOf, members}
-use Rattle.worlds.specs.Over.{entry}
-use Rattle.worlds.specs.Discretion.{cliqueBy}
+use Rattle.records.specs.paper.Sets.{one, union, subset, lowest, allOf, members}
+use Rattle.worlds.specs.code.Over.{entry}
+use Rattle.worlds.specs.code.Discretion.{cliqueBy}
 use Rattle.worlds.proofs.LooseLaws.{all-next, all-fails, all-none}
 use Rattle.worlds.proofs.discretion.clique.Statement.{statement}
 use Rattle.worlds.proofs.discretion.clique.Tie as tie

@@ -7,9 +7,9 @@ use native.Mathlib.Nat.{lt-trans}
 use native.Mathlib.Omega.{arith}
 use lib.ListN.{length, length-set}
 use lib.Seq.{getD-set-same, getD-set-other}
-use Rattle.records.specs.Sets.{union, minus}
-use Rattle.worlds.specs.Over.{entry}
-use Rattle.worlds.specs.Discretion.{looseBy, joinedTo, Leads, Renewed}
+use Rattle.records.specs.paper.Sets.{union, minus}
+use Rattle.worlds.specs.code.Over.{entry}
+use Rattle.worlds.specs.code.Discretion.{looseBy, joinedTo, Leads, Renewed}
 use Rattle.worlds.proofs.OverLaws.{turn-has}
 use Rattle.worlds.proofs.LooseLaws.{Found, found-none, found-all, found-as, found-in, found-out, left-less}
 use Rattle.worlds.proofs.ComponentLaws.{renewed-none, renewed-as, renewed-same, renewed-more}

@@ -3,11 +3,11 @@ use mathlib.Core.Path.{_≡_, sym, ap, _∙_}
 use mathlib.Core.List.{_∷_}
 use Prim.Native.Nat.{ℕ}
 use native.Mathlib.Omega.{arith}
-use Rattle.records.specs.Sets.{union, members}
+use Rattle.records.specs.paper.Sets.{union, members}
 use Rattle.expressions.proofs.UnionLaws.{none-union}
 use Rattle.expressions.proofs.ListLaws.{filled-at}
-use Rattle.worlds.specs.Over.{entry}
-use Rattle.worlds.specs.Discretion.{near}
+use Rattle.worlds.specs.code.Over.{entry}
+use Rattle.worlds.specs.code.Discretion.{near}
 use Rattle.worlds.proofs.LooseLaws.{near-more, near-end}
 use Rattle.worlds.proofs.discretion.neighbours.Statement.{statement}
 use Rattle.worlds.proofs.discretion.neighbours.Tie as tie

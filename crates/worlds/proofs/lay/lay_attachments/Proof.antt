@@ -5,15 +5,15 @@ use Prim.Native.Nat.{ℕ, _+_, _≤_, _-_}
 use native.Mathlib.Omega.{arith}
 use borrow.Author.Needs.{needs}
 use lib.ListN.{length, getD, length-map}
-use Rattle.records.specs.Sets.{one, anyOf}
-use Rattle.records.specs.Plan.{Attachment}
-use Rattle.records.specs.Decoded.{attachmentOf}
+use Rattle.records.specs.paper.Sets.{one, anyOf}
+use Rattle.records.specs.paper.Plan.{Attachment}
+use Rattle.records.specs.code.Decoded.{attachmentOf}
 use Rattle.records.specs.declared.plan.Attachment.{Attachment as Coded}
 use Rattle.records.proofs.plan.Attachment.{the-type}
-use Rattle.expressions.specs.Coded.{attachmentsOf}
-use Rattle.expressions.specs.Rules.{attachment}
+use Rattle.expressions.specs.code.Coded.{attachmentsOf}
+use Rattle.expressions.specs.paper.Rules.{attachment}
 use Rattle.expressions.proofs.ListLaws.{made-length, made-at, made-each}
-use Rattle.worlds.specs.Laid.{Same, AttachmentFits}
+use Rattle.worlds.specs.code.Laid.{Same, AttachmentFits}
 use Rattle.worlds.proofs.LayLaws.{Each, each-none, each-next, each-other, each-row, same-start, same-next}
 use Rattle.worlds.proofs.lay.lay_attachments.Statement.{statement}
 use Rattle.worlds.proofs.lay.lay_attachments.Tie as tie

@@ -5,15 +5,15 @@ use Prim.Native.Nat.{ℕ, _+_, _≤_, _-_}
 use native.Mathlib.Omega.{arith}
 use borrow.Author.Needs.{needs}
 use lib.ListN.{length, getD, length-map}
-use Rattle.records.specs.Sets.{one, anyOf}
-use Rattle.records.specs.Plan.{Bar}
-use Rattle.records.specs.Decoded.{barOf}
+use Rattle.records.specs.paper.Sets.{one, anyOf}
+use Rattle.records.specs.paper.Plan.{Bar}
+use Rattle.records.specs.code.Decoded.{barOf}
 use Rattle.records.specs.declared.plan.Bar.{Bar as Coded}
 use Rattle.records.proofs.plan.Bar.{the-type}
-use Rattle.expressions.specs.Coded.{barsOf}
-use Rattle.expressions.specs.Rules.{bar}
+use Rattle.expressions.specs.code.Coded.{barsOf}
+use Rattle.expressions.specs.paper.Rules.{bar}
 use Rattle.expressions.proofs.ListLaws.{made-length, made-at, made-each}
-use Rattle.worlds.specs.Laid.{Same, BarFits}
+use Rattle.worlds.specs.code.Laid.{Same, BarFits}
 use Rattle.worlds.proofs.LayLaws.{Each, each-none, each-next, each-other, each-row, same-start, same-next}
 use Rattle.worlds.proofs.lay.lay_bars.Statement.{statement}
 use Rattle.worlds.proofs.lay.lay_bars.Tie as tie

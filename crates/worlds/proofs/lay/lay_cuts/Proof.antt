@@ -5,16 +5,16 @@ use Prim.Native.Nat.{ℕ, _+_, _≤_, _-_}
 use native.Mathlib.Omega.{arith}
 use borrow.Author.Needs.{needs}
 use lib.ListN.{length, getD, length-map}
-use Rattle.records.specs.Sets.{has, one, anyOf}
-use Rattle.records.specs.Plan.{Cut}
-use Rattle.records.specs.Decoded.{cutOf}
+use Rattle.records.specs.paper.Sets.{has, one, anyOf}
+use Rattle.records.specs.paper.Plan.{Cut}
+use Rattle.records.specs.code.Decoded.{cutOf}
 use Rattle.records.specs.declared.plan.Cut.{Cut as Coded}
 use Rattle.records.proofs.plan.Cut.{the-type}
-use Rattle.expressions.specs.Coded.{cutsOf}
-use Rattle.expressions.specs.Undecided.{decides}
-use Rattle.expressions.specs.Rules.{cut}
+use Rattle.expressions.specs.code.Coded.{cutsOf}
+use Rattle.expressions.specs.code.Undecided.{decides}
+use Rattle.expressions.specs.paper.Rules.{cut}
 use Rattle.expressions.proofs.ListLaws.{made-length, made-at, made-each}
-use Rattle.worlds.specs.Laid.{Same, CutFits}
+use Rattle.worlds.specs.code.Laid.{Same, CutFits}
 use Rattle.worlds.proofs.LayLaws.{Each, each-none, each-next, each-other, each-all, each-row, same-start, same-next}
 use Rattle.worlds.proofs.lay.lay_cuts.Statement.{statement}
 use Rattle.worlds.proofs.lay.lay_cuts.Tie as tie

@@ -8,13 +8,13 @@ use borrow.Author.Needs.{needs}
 use borrow.Author.Tests.{le-ltb}
 use lib.ListN.{length, getD}
 use lib.Dec.{eqb, ltb}
-use Rattle.records.specs.Sets.{has, one, union, anyOf}
+use Rattle.records.specs.paper.Sets.{has, one, union, anyOf}
 use Rattle.records.proofs.SetLaws.{has-none}
 use Rattle.records.proofs.LoopLaws.{getD-below, length-below}
-use Rattle.expressions.specs.Influence.{Open, openDecisions, openDecision}
-use Rattle.expressions.specs.Undecided.{opensOf, openAt}
-use Rattle.worlds.specs.Tables.{row}
-use Rattle.worlds.specs.Laid.{Same, OpenFits}
+use Rattle.expressions.specs.paper.Influence.{Open, openDecisions, openDecision}
+use Rattle.expressions.specs.code.Undecided.{opensOf, openAt}
+use Rattle.worlds.specs.code.Tables.{row}
+use Rattle.worlds.specs.code.Laid.{Same, OpenFits}
 use Rattle.worlds.proofs.LayLaws.{Each, each-none, each-next, each-other, each-row, same-start, same-next, laid-other, below-each, digit-next}
 use Rattle.worlds.proofs.lay.lay_decisions.Statement.{statement}
 use Rattle.worlds.proofs.lay.lay_decisions.Tie as tie

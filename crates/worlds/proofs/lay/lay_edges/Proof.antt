@@ -6,16 +6,16 @@ use Prim.Native.Nat.{ℕ, _+_, _≤_, _-_}
 use native.Mathlib.Omega.{arith}
 use borrow.Author.Needs.{needs}
 use lib.ListN.{length, getD, length-map}
-use Rattle.records.specs.Sets.{one, anyOf}
-use Rattle.records.specs.Plan.{Edge}
-use Rattle.records.specs.Decoded.{edgeOf}
+use Rattle.records.specs.paper.Sets.{one, anyOf}
+use Rattle.records.specs.paper.Plan.{Edge}
+use Rattle.records.specs.code.Decoded.{edgeOf}
 use Rattle.records.specs.declared.plan.Edge.{Edge as Coded}
 use Rattle.records.proofs.plan.Edge.{the-type}
-use Rattle.expressions.specs.Coded.{edgesOf}
-use Rattle.expressions.specs.Listed.{endsOf}
-use Rattle.expressions.specs.Rules.{edge, pair}
+use Rattle.expressions.specs.code.Coded.{edgesOf}
+use Rattle.expressions.specs.code.Listed.{endsOf}
+use Rattle.expressions.specs.paper.Rules.{edge, pair}
 use Rattle.expressions.proofs.ListLaws.{made-length, made-at, made-each}
-use Rattle.worlds.specs.Laid.{Same, EdgeFits}
+use Rattle.worlds.specs.code.Laid.{Same, EdgeFits}
 use Rattle.worlds.proofs.LayLaws.{Each, each-none, each-next, each-other, each-row, same-start, same-next}
 use Rattle.worlds.proofs.lay.lay_edges.Statement.{statement}
 use Rattle.worlds.proofs.lay.lay_edges.Tie as tie

@@ -5,15 +5,15 @@ use Prim.Native.Nat.{ℕ, _+_, _≤_, _-_}
 use native.Mathlib.Omega.{arith}
 use borrow.Author.Needs.{needs}
 use lib.ListN.{length, getD, length-map}
-use Rattle.records.specs.Sets.{one, anyOf}
-use Rattle.records.specs.Plan.{Status}
-use Rattle.records.specs.Decoded.{statusOf}
+use Rattle.records.specs.paper.Sets.{one, anyOf}
+use Rattle.records.specs.paper.Plan.{Status}
+use Rattle.records.specs.code.Decoded.{statusOf}
 use Rattle.records.specs.declared.plan.Status.{Status as Coded}
 use Rattle.records.proofs.plan.Status.{the-type}
-use Rattle.expressions.specs.Coded.{statusesOf}
-use Rattle.expressions.specs.Rules.{status}
+use Rattle.expressions.specs.code.Coded.{statusesOf}
+use Rattle.expressions.specs.paper.Rules.{status}
 use Rattle.expressions.proofs.ListLaws.{made-length, made-at, made-each}
-use Rattle.worlds.specs.Laid.{Same, StatusFits}
+use Rattle.worlds.specs.code.Laid.{Same, StatusFits}
 use Rattle.worlds.proofs.LayLaws.{Each, each-none, each-next, each-other, each-row, same-start, same-next}
 use Rattle.worlds.proofs.lay.lay_statuses.Statement.{statement}
 use Rattle.worlds.proofs.lay.lay_statuses.Tie as tie

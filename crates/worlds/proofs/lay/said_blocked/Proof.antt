@@ -8,9 +8,9 @@ use borrow.Author.Needs.{needs}
 use borrow.Author.Tests.{eq-eqb}
 use lib.ListN.{length, getD, length-map, List·getD-eq-default}
 use lib.Dec.{eqb}
-use Rattle.records.specs.Sets.{has, one, union, below, numbers, anyOf}
-use Rattle.records.specs.Plan.{Decision}
-use Rattle.records.specs.Decoded.{decisionsOf}
+use Rattle.records.specs.paper.Sets.{has, one, union, below, numbers, anyOf}
+use Rattle.records.specs.paper.Plan.{Decision}
+use Rattle.records.specs.code.Decoded.{decisionsOf}
 use Rattle.records.specs.declared.plan.Decisions.{Decisions}
 use Rattle.records.proofs.SetLaws.{has-none, has-one, has-union, lt-or-le}
 use Rattle.expressions.proofs.DecisionLaws.{other-verdict}

@@ -8,12 +8,12 @@ use native.Mathlib.Omega.{arith}
 use lib.ListN.{length, getD, length-map}
 use lib.Dec.{ltb}
 use borrow.Author.Needs.{needs}
-use Rattle.records.specs.Sets.{has, union}
-use Rattle.records.specs.Plan.{Edge}
-use Rattle.records.specs.Decoded.{edgeOf}
+use Rattle.records.specs.paper.Sets.{has, union}
+use Rattle.records.specs.paper.Plan.{Edge}
+use Rattle.records.specs.code.Decoded.{edgeOf}
 use Rattle.records.proofs.plan.Edge.{the-type}
-use Rattle.expressions.specs.Rules.{edge}
-use Rattle.expressions.specs.Coded.{edgesOf}
+use Rattle.expressions.specs.paper.Rules.{edge}
+use Rattle.expressions.specs.code.Coded.{edgesOf}
 use Rattle.expressions.proofs.ListLaws.{made-at, made-length}
 use Rattle.worlds.proofs.MakeLaws.{upto-none, upto-in, upto-out}
 use Rattle.worlds.proofs.make.combination_edges.Statement.{statement}

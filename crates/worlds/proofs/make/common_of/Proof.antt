@@ -6,14 +6,14 @@ use native.Mathlib.Omega.{arith}
 use lib.ListN.{length, length-map}
 use lib.Dec.{ltb}
 use borrow.Author.Needs.{needs}
-use Rattle.records.specs.Sets.{has}
-use Rattle.records.specs.Decoded.{edgeOf, attachmentOf, barOf, statusOf, planOf}
+use Rattle.records.specs.paper.Sets.{has}
+use Rattle.records.specs.code.Decoded.{edgeOf, attachmentOf, barOf, statusOf, planOf}
 use Rattle.records.proofs.plan.Edge as edge-code
 use Rattle.records.proofs.plan.Attachment as attachment-code
 use Rattle.records.proofs.plan.Bar as bar-code
 use Rattle.records.proofs.plan.Status as status-code
-use Rattle.expressions.specs.Rules.{edge, chained}
-use Rattle.expressions.specs.Coded.{edgesOf}
+use Rattle.expressions.specs.paper.Rules.{edge, chained}
+use Rattle.expressions.specs.code.Coded.{edgesOf}
 use Rattle.expressions.proofs.ListLaws.{made-length}
 use Rattle.worlds.proofs.MakeLaws.{kind-has, chained-is, base-has, base-none}
 use Rattle.worlds.proofs.make.common_of.Statement.{statement}

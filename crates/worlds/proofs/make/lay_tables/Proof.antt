@@ -4,13 +4,13 @@ use native.Mathlib.Omega.{arith}
 use lib.ListN.{length, length-map}
 use lib.Seq.{length-take-le}
 use borrow.Author.Needs.{needs}
-use Rattle.records.specs.Sound.{All}
-use Rattle.records.specs.Decoded.{cutOf, planOf}
+use Rattle.records.specs.promises.Sound.{All}
+use Rattle.records.specs.code.Decoded.{cutOf, planOf}
 use Rattle.records.proofs.plan.Cut.{the-type}
-use Rattle.expressions.specs.Coded.{edgesOf, cutsOf, attachmentsOf, barsOf, statusesOf}
-use Rattle.expressions.specs.Influences.{setsOf}
+use Rattle.expressions.specs.code.Coded.{edgesOf, cutsOf, attachmentsOf, barsOf, statusesOf}
+use Rattle.expressions.specs.code.Influences.{setsOf}
 use Rattle.expressions.proofs.ListLaws.{made-length, used-take}
-use Rattle.worlds.specs.Laid.{OpenFits}
+use Rattle.worlds.specs.code.Laid.{OpenFits}
 use Rattle.worlds.proofs.MakeLaws.{kind-has, edges-fit, cuts-fit, precedes-fit, attachments-fit, bars-fit, statuses-fit, opens-fit, emptied, tables-stand}
 use Rattle.worlds.proofs.make.lay_tables.Statement.{statement}
 use Rattle.worlds.proofs.make.lay_tables.Tie as tie

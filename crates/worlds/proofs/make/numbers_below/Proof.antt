@@ -5,7 +5,7 @@ use native.Mathlib.Omega.{arith}
 use lib.Pow.{pow-pos}
 use lib.Dec.{ltb}
 use borrow.Author.Needs.{needs}
-use Rattle.records.specs.Sets.{has}
+use Rattle.records.specs.paper.Sets.{has}
 use Rattle.records.proofs.SetLaws.{shl-one}
 use Rattle.worlds.proofs.RelateLaws.{has-pred}
 use Rattle.worlds.proofs.make.numbers_below.Statement.{statement}

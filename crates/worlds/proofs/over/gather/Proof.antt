@@ -3,9 +3,9 @@ use mathlib.Core.Path.{_≡_, refl, sym, ap, _∙_}
 use Prim.Native.Nat.{_<_, _^_}
 use native.Mathlib.Nat.{lt-trans}
 use native.Mathlib.Omega.{arith}
-use Rattle.records.specs.Sets.{union, members, unionOf}
+use Rattle.records.specs.paper.Sets.{union, members, unionOf}
 use Rattle.expressions.proofs.UnionLaws.{none-union, union-first, union-end}
-use Rattle.worlds.specs.Over.{entry}
+use Rattle.worlds.specs.code.Over.{entry}
 use Rattle.worlds.proofs.OverLaws.{members-none}
 use Rattle.worlds.proofs.over.gather.Statement.{statement}
 use Rattle.worlds.proofs.over.gather.Tie as tie

@@ -5,15 +5,15 @@ use Prim.Native.Nat.{ℕ, _-_, _≤_, _<_}
 use native.Mathlib.Omega.{arith}
 use lib.ListN.{length, getD, length-set, length-map}
 use borrow.Author.Needs.{needs}
-use Rattle.records.specs.Sets.{setOf}
-use Rattle.records.specs.Plan.{Cut}
-use Rattle.records.specs.Decoded.{cutOf}
+use Rattle.records.specs.paper.Sets.{setOf}
+use Rattle.records.specs.paper.Plan.{Cut}
+use Rattle.records.specs.code.Decoded.{cutOf}
 use Rattle.records.proofs.plan.Cut.{the-type}
-use Rattle.expressions.specs.Rules.{cut}
-use Rattle.expressions.specs.Coded.{cutsOf}
+use Rattle.expressions.specs.paper.Rules.{cut}
+use Rattle.expressions.specs.code.Coded.{cutsOf}
 use Rattle.expressions.proofs.ListLaws.{made-at, made-each, made-length}
-use Rattle.worlds.specs.Over.{entry}
-use Rattle.worlds.specs.Related.{PrecedesFit}
+use Rattle.worlds.specs.code.Over.{entry}
+use Rattle.worlds.specs.code.Related.{PrecedesFit}
 use Rattle.worlds.proofs.RelateLaws.{stored-next}
 use Rattle.worlds.proofs.relate.direct_precedence.Statement.{statement}
 use Rattle.worlds.proofs.relate.direct_precedence.Tie as tie

@@ -4,10 +4,10 @@ use mathlib.Core.Bool.{true, false, true≢false}
 use mathlib.Core.List.{List, [], _∷_}
 use Prim.Native.Nat.{ℕ, _<_, _^_}
 use native.Mathlib.Nat.{lt-trans}
-use Rattle.records.specs.Sets.{has, anyOf}
+use Rattle.records.specs.paper.Sets.{has, anyOf}
 use Rattle.records.proofs.SetLaws.{has-none}
-use Rattle.worlds.specs.Laid.{Same}
-use Rattle.worlds.specs.Related.{RelatedAt}
+use Rattle.worlds.specs.code.Laid.{Same}
+use Rattle.worlds.specs.code.Related.{RelatedAt}
 use Rattle.worlds.proofs.OverLaws.{turn-has}
 use Rattle.worlds.proofs.LayLaws.{same-start}
 use Rattle.worlds.proofs.RelateLaws.{done-next, related-before, related-after, same-then}

@@ -3,8 +3,8 @@ use Prim.Native.Nat.{ℕ, _-_, _≤_, _<_, min}
 use mathlib.Core.Path.{_≡_, refl, sym, ap, _∙_}
 use lib.ListN.{length, drop, length-map}
 use borrow.Author.Needs.{needs}
-use Rattle.records.specs.Sets.{one, union, setOf, unionOf}
-use Rattle.records.specs.Decoded.{numbersOf}
+use Rattle.records.specs.paper.Sets.{one, union, setOf, unionOf}
+use Rattle.records.specs.code.Decoded.{numbersOf}
 use Rattle.expressions.proofs.ListLaws.{used-next, used-end, used-each}
 use Rattle.expressions.proofs.UnionLaws.{none-union, union-first, union-end, set-union}
 use Rattle.worlds.proofs.relate.set_of.Statement.{statement}

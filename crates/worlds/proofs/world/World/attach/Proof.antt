@@ -5,10 +5,10 @@ use mathlib.Core.List.{List}
 use Prim.Native.Nat.{ℕ, _<_, _^_}
 use native.Mathlib.Nat.{lt-trans}
 use native.Mathlib.Omega.{arith}
-use Rattle.records.specs.Sets.{meet}
-use Rattle.records.specs.Plan.{Plan}
-use Rattle.expressions.specs.Variables.{Influence}
-use Rattle.worlds.specs.Active.{Active}
+use Rattle.records.specs.paper.Sets.{meet}
+use Rattle.records.specs.paper.Plan.{Plan}
+use Rattle.expressions.specs.paper.Variables.{Influence}
+use Rattle.worlds.specs.paper.Active.{Active}
 use Rattle.worlds.specs.declared.tables.Common.{Common}
 use Rattle.worlds.specs.declared.world.World.{World}
 use Rattle.worlds.proofs.AttachLaws.{low-in, rest-in, listed-at, Attaching, Reached, reached-start, reached-next, reached-end, anchor-some}

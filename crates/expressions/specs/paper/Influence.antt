@@ -1,0 +1,119 @@
+-- Whom a fact or a decision touches, influence, and the circle. Document 01, "Bound facts" and "Circle".
+use mathlib.Core.Bool.{Bool, _&&_, cond}
+use mathlib.Core.List.{List, [], _∷_, _++_}
+use Prim.Native.Nat.{ℕ, zero, suc}
+use lib.ListN.{length, getD}
+use lib.Dec.{eqb}
+use Rattle.records.specs.paper.Sets.{has, one, union, setOf, only, closeOf, below, unionBelow, anyOf, unionOf, meets}
+use Rattle.records.specs.paper.Plan.{Plan, getFact}
+use Rattle.expressions.specs.paper.Rules.{edgeCount, cutCount, attachmentCount, barCount, statusCount, factCount, edge, cut, attachment, bar, status, pair, span, ruleSets}
+use Rattle.expressions.specs.paper.Nodes.{nodeUses}
+
+-- what circles follow from: "plan, heading and constraints alone"; of the heading it is the roster
+pub record Frame : Type 0 where
+  pub plan : Plan
+  pub roster : ℕ
+  pub constraints : List ℕ
+
+-- ---- the unresolved decisions, "by cut and edge"
+pub record Open : Type 0 where
+  pub cut : ℕ
+  pub edge : ℕ
+
+module _ (P : Plan) where
+  abbrev pub says : ℕ → ℕ → ℕ → Bool
+  says c e verdict = anyOf (λ d. eqb (d .edge) e && eqb (d .verdict) verdict) (cut P c .decisions)
+
+  -- those of a cut with edges below n, then those of the cuts below n
+  unfoldable pub openIn : ℕ → ℕ → List Open
+  openIn c zero = []
+  openIn c (suc n) = openIn c n ++ cond (says c n 3) (record { cut = c; edge = n } ∷ []) []
+
+  unfoldable pub openBelow : ℕ → List Open
+  openBelow zero = []
+  openBelow (suc n) = openBelow n ++ openIn n (edgeCount P)
+
+  unfoldable pub openDecisions : List Open
+  openDecisions = openBelow (cutCount P)
+
+  abbrev pub decisionCount : ℕ
+  decisionCount = length openDecisions
+
+  unfoldable pub openDecision : ℕ → Open
+  openDecision d = getD openDecisions d (record { cut = 16; edge = 64 })
+
+  -- "for a decision, the cut's members and the edge's ends"
+  unfoldable pub decisionTouch : ℕ → ℕ
+  decisionTouch d = union (cut P (openDecision d .cut) .members) (pair P (openDecision d .edge))
+
+  -- ---- the facts that each rule uses
+  abbrev pub usesAt : ℕ → ℕ
+  usesAt i = getD (nodeUses P) i 0
+
+  unfoldable pub edgeUses : ℕ → ℕ
+  edgeUses i = union (usesAt (edge P i .condition)) (unionOf usesAt (edge P i .defeaters))
+
+  unfoldable pub cutUses : ℕ → ℕ
+  cutUses i = usesAt (cut P i .condition)
+
+  unfoldable pub attachmentUses : ℕ → ℕ
+  attachmentUses i = usesAt (attachment P i .condition)
+
+  unfoldable pub barUses : ℕ → ℕ
+  barUses i = usesAt (bar P i .condition)
+
+  unfoldable pub statusUses : ℕ → ℕ
+  statusUses i = usesAt (status P i .condition)
+
+-- "all persons of rules using it (defeaters too)", for one kind of rule
+unfoldable pub usersOf : ℕ → (ℕ → ℕ) → (ℕ → ℕ) → ℕ → ℕ
+usersOf n uses persons f = unionBelow n (λ i. only (has (uses i) f) (persons i))
+
+module _ (F : Frame) where
+  unfoldable pub constraintUses : ℕ
+  constraintUses = unionOf (usesAt (F .plan)) (F .constraints)
+
+  -- "Only facts that a condition, defeater or constraint uses are bound"
+  unfoldable pub boundFacts : ℕ
+  boundFacts =
+      let P = F .plan in
+      union constraintUses
+      (union (unionBelow (edgeCount P) (edgeUses P))
+      (union (unionBelow (cutCount P) (cutUses P))
+      (union (unionBelow (attachmentCount P) (attachmentUses P))
+      (union (unionBelow (barCount P) (barUses P)) (unionBelow (statusCount P) (statusUses P))))))
+
+  -- "persons its fact names; the whole roster if a constraint uses it; all persons of rules using it (defeaters too)"
+  unfoldable pub touched : ℕ → ℕ
+  touched f =
+      let P = F .plan in
+      union (setOf (getFact P f .tuple))
+      (union (only (has constraintUses f) (F .roster))
+      (union (usersOf (edgeCount P) (edgeUses P) (pair P) f)
+      (union (usersOf (cutCount P) (cutUses P) (λ i. cut P i .members) f)
+      (union (usersOf (attachmentCount P) (attachmentUses P) (span P) f)
+      (union (usersOf (barCount P) (barUses P) (λ i. bar P i .members) f)
+      (usersOf (statusCount P) (statusUses P) (λ i. one (status P i .person)) f))))))
+
+  -- "Only bound facts count"
+  unfoldable pub touch : ℕ → ℕ
+  touch f = only (has boundFacts f) (touched f)
+
+  -- whom a fact, then whom a decision touches
+  unfoldable pub touches : List ℕ
+  touches = below (factCount (F .plan)) touch
+
+  unfoldable pub decisionTouches : List ℕ
+  decisionTouches = below (decisionCount (F .plan)) (decisionTouch (F .plan))
+
+  -- "joined if one edge, cut, attachment with anchor, bar, or unresolved decision's cut and edge holds both, or one fact touches both"
+  unfoldable pub joins : List ℕ
+  joins = ruleSets (F .plan) ++ (touches ++ decisionTouches)
+
+  -- "A person's circle is that person and all so reached"
+  unfoldable pub circle : ℕ → ℕ
+  circle p = closeOf joins (one p)
+
+  -- "A fact touches a circle if it touches anyone in it"
+  unfoldable pub touchesCircle : ℕ → ℕ → Bool
+  touchesCircle f p = meets (touch f) (circle p)

@@ -1,0 +1,92 @@
+-- A loop over the families, left at the first of the number. Assumes nothing.
+use mathlib.Core.Path.{_≡_, refl, sym, ap, _∙_}
+use mathlib.Core.Bool.{false}
+use Prim.Native.Nat.{_≤_, _<_, _-_}
+use native.Mathlib.Nat.{min-le-right}
+use native.Mathlib.Omega.{arith}
+use lib.ListN.{length, getD, drop, length-map}
+use borrow.Author.Needs.{needs}
+use Rattle.records.specs.paper.Sets.{anyOf}
+use Rattle.records.specs.code.Decoded.{familyOf}
+use Rattle.records.specs.code.CasePasses.{familiesOf}
+use Rattle.records.specs.code.CaseNamed.{sameFamily}
+use Rattle.records.specs.declared.case.Family.{Family}
+use Rattle.records.proofs.ListLaws.{length-front, getD-front}
+use Rattle.records.proofs.CaseFaults.{any-goes, any-found, any-ends, same-family, other-family}
+use Rattle.records.proofs.case.naming.has_family.Statement.{statement}
+use Rattle.records.proofs.case.naming.has_family.Tie as tie
+
+abbrev Inv-loop : tie.InvT-loop
+Inv-loop number families count i₀ i =
+    (i ≤ count) × (count ≤ 16) × (count ≡ length (familiesOf families)) × (anyOf (sameFamily number) (drop i (familiesOf families)) ≡ anyOf (sameFamily number) (familiesOf families))
+
+abbrev μ-loop : tie.MeasureT-loop
+μ-loop number families count i₀ i = count - i
+
+least-requires : tie.Need-least-requires Inv-loop μ-loop
+least-requires c κs = search needs
+
+loop-holds : tie.Need-loop-holds Inv-loop μ-loop
+loop-holds c =
+    let f = c .before .args .t1 in
+    let long : length (f .items) ≡ 16 = simp length-map at (c .before .good .0 .1 .1 .1 .0 .1 .0 .1) in
+    let e = c .least .ensures ∙ sym (length-front familyOf (f .items) (f .count) 16 long) in
+    (omega arith, omega (arith, c .least .ensures, min-le-right (f .count) 16), e, refl)
+
+mul-if1 : tie.Need-mul-if1 Inv-loop μ-loop
+mul-if1 c = search needs
+
+element-copy-out-if1 : tie.Need-element-copy-out-if1 Inv-loop μ-loop
+element-copy-out-if1 c = search needs
+
+returns : tie.Need-returns Inv-loop μ-loop
+returns c =
+    let l = c .before .before .loop in
+    let a = c .before .before .before .before .args in
+    let xs = a .t1 .items in
+    let L = familiesOf (a .t1) in
+    let d : Family = record { number = 0; scope = 0; complete = false; evidence = 0 } in
+    let u : l .i < length L = omega (arith, l .inv .2, c .before .loop-test .taken) in
+    let same = getD-front familyOf xs (a .t1 .count) (l .i) d (familyOf d) u in
+    any-found (sameFamily (a .number)) L (l .i) (familyOf d) _ u (ap (sameFamily (a .number)) same ∙ same-family (getD xs (l .i) d) (a .number) (c .if1 .taken)) (l .inv .3)
+
+add-i : tie.Need-add-i Inv-loop μ-loop
+add-i c = search needs
+
+loop-less : tie.Need-loop-less Inv-loop μ-loop
+loop-less c = search needs
+
+loop-again : tie.Need-loop-again Inv-loop μ-loop
+loop-again c =
+    let l = c .before .before .loop in
+    let a = c .before .before .before .before .args in
+    let xs = a .t1 .items in
+    let L = familiesOf (a .t1) in
+    let d : Family = record { number = 0; scope = 0; complete = false; evidence = 0 } in
+    let u : l .i < length L = omega (arith, l .inv .2, c .before .loop-test .taken) in
+    let same = getD-front familyOf xs (a .t1 .count) (l .i) d (familyOf d) u in
+    (omega arith, l .inv .1, l .inv .2, any-goes (sameFamily (a .number)) L (l .i) (familyOf d) _ u (ap (sameFamily (a .number)) same ∙ other-family (getD xs (l .i) d) (a .number) (c .if1 .left)) (l .inv .3))
+
+returns-2 : tie.Need-returns-2 Inv-loop μ-loop
+returns-2 c =
+    let l = c .before .loop in
+    let a = c .before .before .before .args in
+    let xs = a .t1 .items in
+    let L = familiesOf (a .t1) in
+    any-ends (sameFamily (a .number)) L (l .i) _ (omega (arith, l .inv .2, c .loop-test .left)) (l .inv .3)
+
+pub has-family-spec : {M : Type 1} → statement M
+has-family-spec =
+    tie.close
+    (tie.spec
+    Inv-loop
+    μ-loop
+    least-requires
+    loop-holds
+    mul-if1
+    element-copy-out-if1
+    returns
+    add-i
+    loop-less
+    loop-again
+    returns-2)

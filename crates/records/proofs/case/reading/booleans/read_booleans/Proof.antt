@@ -1,0 +1,138 @@
+-- The pass over the booleans. Assumes nothing.
+use mathlib.Core.Path.{_≡_, refl, _∙_}
+use mathlib.Core.Bool.{true, false}
+use Prim.Native.Nat.{_-_, _≤_}
+use native.Mathlib.Omega.{arith}
+use denote.Ref.{now}
+use lib.ListN.{length, length-set}
+use Rattle.records.specs.code.Decoded.{booleanOf}
+use Rattle.records.specs.code.CasePasses.{booleansOf, booleanRead}
+use Rattle.records.proofs.LoopLaws.{length-made}
+use Rattle.records.proofs.Reading.{seen}
+use Rattle.records.proofs.Passing.{Going, going, ends-short, ends-other, refused-bad, refused-judged, goes-on, goes-later}
+use Rattle.records.proofs.KindLaws.{needs-test, made-more, judge-same}
+use Rattle.records.proofs.CaseKinds.{booleanKind}
+use Rattle.records.specs.paper.Fields as fields
+use borrow.Author.Needs.{needs}
+use Rattle.records.proofs.case.reading.booleans.read_booleans.Statement.{statement}
+use Rattle.records.proofs.case.reading.booleans.read_booleans.Tie as tie
+
+abbrev Inv-loop : tie.InvT-loop
+Inv-loop s start before headed booleans₀ at₀ k₀ booleans at k =
+    (k ≤ at) × (booleans .count ≤ 64) × (length (booleans .items) ≡ 64) × Going booleanKind s headed start before k at (booleansOf booleans)
+
+abbrev μ-loop : tie.MeasureT-loop
+μ-loop s start before headed booleans₀ at₀ k₀ booleans at k = length s - at
+
+no-booleans-requires : tie.Need-no-booleans-requires Inv-loop μ-loop
+no-booleans-requires c κs = search needs
+
+loop-holds : tie.Need-loop-holds Inv-loop μ-loop
+loop-holds c =
+    let a = c .before .before .args in
+    let e = c .no-booleans .ensures in
+    (c .before .before .pre, omega (arith, e .1), e .2, going booleanKind (now (a .s)) (a .headed) (a .start) (a .before) (booleansOf (c .no-booleans .result)) (e .0))
+
+shared-slice-read-if1 : tie.Need-shared-slice-read-if1 Inv-loop μ-loop
+shared-slice-read-if1 c = search needs
+
+add-boolean-at : tie.Need-add-boolean-at Inv-loop μ-loop
+add-boolean-at c = search needs
+
+boolean-at-requires : tie.Need-boolean-at-requires Inv-loop μ-loop
+boolean-at-requires c κs = search needs
+
+enum-known-bits : tie.Need-enum-known-bits Inv-loop μ-loop
+enum-known-bits c = search needs
+
+enum-told : tie.Need-enum-told Inv-loop μ-loop
+enum-told c = search needs
+
+returns : tie.Need-returns Inv-loop μ-loop
+returns c =
+    let i = c .before .before .before .before .before .before .loop .inv in
+    (refused-bad booleanKind _ _ _ _ (i .3) (i .0) (c .before .before .before .before .before .loop-test .taken) (c .before .before .before .if1 .left) (seen (booleanRead (now (c .before .before .before .before .before .before .before .before .before .args .s))) (c .before .before .boolean-at .ensures .0) (c .enum-told .given .1)), i .0)
+
+judged-requires : tie.Need-judged-requires Inv-loop μ-loop
+judged-requires c κs = search needs
+
+returns-2 : tie.Need-returns-2 Inv-loop μ-loop
+returns-2 c =
+    let i = c .before .before .before .before .before .before .before .before .before .loop .inv in
+    let l = c .before .before .before .before .before .before .before .before .before .loop .booleans in
+    let j = judge-same 64 (l .count) (length (booleansOf l)) false false _ (fields.needs 1 (c .before .before .before .bits .given .0 .0)) (c .before .before .before .before .before .before .before .before .before .before .before .before .args .headed) true true (c .before .judged .ensures .0) (length-made booleanOf (l .items) (l .count) (omega (arith, i .1, i .2))) refl (needs-test (c .before .before .before .bits .given .0 .0) 1) refl in
+    (refused-judged booleanKind _ _ _ _ (i .3) (i .0) (c .before .before .before .before .before .before .before .before .loop-test .taken) (c .before .before .before .before .before .before .if1 .left) tt (seen (booleanRead (now (c .before .before .before .before .before .before .before .before .before .before .before .before .args .s))) (c .before .before .before .before .before .boolean-at .ensures .0) (c .before .before .before .bits .given .1)) _ j (c .if2 .taken), i .0)
+
+observations-from-requires : tie.Need-observations-from-requires Inv-loop μ-loop
+observations-from-requires c κs = let f = rw (c .before .before .before .bits .given .1) at (c .before .before .before .before .before .boolean-at .ensures .1) in (f .0, f .1)
+
+mul-t18 : tie.Need-mul-t18 Inv-loop μ-loop
+mul-t18 c = search needs
+
+element-set-from-booleans : tie.Need-element-set-from-booleans Inv-loop μ-loop
+element-set-from-booleans c = let h = c .before .before .judged .ensures .1 (c .before .if2 .left) in search (needs, h)
+
+add-booleans : tie.Need-add-booleans Inv-loop μ-loop
+add-booleans c = let h = c .before .before .judged .ensures .1 (c .before .if2 .left) in search (needs, h)
+
+add-k : tie.Need-add-k Inv-loop μ-loop
+add-k c = search needs
+
+loop-less : tie.Need-loop-less Inv-loop μ-loop
+loop-less c =
+    let i = c .before .before .before .before .before .before .before .before .before .before .loop .inv in
+    let z = goes-later booleanKind _ _ _ _ (i .3) (i .0) (c .before .before .before .before .before .before .before .before .before .loop-test .taken) (c .before .before .before .before .before .before .before .if1 .left) tt (seen (booleanRead (now (c .before .before .before .before .before .before .before .before .before .before .before .before .before .args .s))) (c .before .before .before .before .before .before .boolean-at .ensures .0) (c .before .before .before .before .bits .given .1)) in
+    omega (arith, z)
+
+loop-again : tie.Need-loop-again Inv-loop μ-loop
+unfolding booleanOf
+loop-again c =
+    let i = c .before .before .before .before .before .before .before .before .before .before .loop .inv in
+    let l = c .before .before .before .before .before .before .before .before .before .before .loop .booleans in
+    let b = c .before .before .before .before .bits .given .0 .0 in
+    let f = seen (booleanRead (now (c .before .before .before .before .before .before .before .before .before .before .before .before .before .args .s))) (c .before .before .before .before .before .before .boolean-at .ensures .0) (c .before .before .before .before .bits .given .1) in
+    let z = goes-later booleanKind _ _ _ _ (i .3) (i .0) (c .before .before .before .before .before .before .before .before .before .loop-test .taken) (c .before .before .before .before .before .before .before .if1 .left) tt f in
+    let h = c .before .before .judged .ensures .1 (c .before .if2 .left) in
+    let j = judge-same 64 (l .count) (length (booleansOf l)) false false _ (fields.needs 1 b) (c .before .before .before .before .before .before .before .before .before .before .before .before .before .args .headed) true true (c .before .before .judged .ensures .0) (length-made booleanOf (l .items) (l .count) (omega (arith, i .1, i .2))) refl (needs-test b 1) refl in (
+      omega (arith, z),
+      omega (arith, h),
+      rw length-set (i .2),
+      goes-on booleanKind _ _ _ _ (i .3) (i .0) (c .before .before .before .before .before .before .before .before .before .loop-test .taken) (c .before .before .before .before .before .before .before .if1 .left) tt f _ j (c .before .if2 .left) _
+          (made-more booleanOf (l .items) (l .count) _ (omega (arith, i .2, h)) ∙ rw (c .observations-from .ensures)),
+    )
+
+returns-3 : tie.Need-returns-3 Inv-loop μ-loop
+returns-3 c =
+    let i = c .before .loop .inv in
+    (ends-short booleanKind _ _ _ _ (i .3) (c .loop-test .left), i .0)
+
+returns-4 : tie.Need-returns-4 Inv-loop μ-loop
+returns-4 c =
+    let i = c .before .before .before .loop .inv in
+    (ends-other booleanKind _ _ _ _ (i .3) (c .if1 .taken), i .0)
+
+pub read-booleans-spec : {M : Type 1} → statement M
+read-booleans-spec =
+    tie.close
+    (tie.spec
+    Inv-loop
+    μ-loop
+    no-booleans-requires
+    loop-holds
+    shared-slice-read-if1
+    add-boolean-at
+    boolean-at-requires
+    enum-known-bits
+    enum-told
+    returns
+    judged-requires
+    returns-2
+    observations-from-requires
+    mul-t18
+    element-set-from-booleans
+    add-booleans
+    add-k
+    loop-less
+    loop-again
+    returns-3
+    returns-4)

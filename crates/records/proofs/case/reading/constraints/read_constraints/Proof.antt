@@ -1,0 +1,127 @@
+-- The pass over the constraints. Assumes nothing.
+use mathlib.Core.Path.{_≡_, refl}
+use mathlib.Core.Bool.{true, false}
+use Prim.Native.Nat.{_-_, _≤_}
+use native.Mathlib.Omega.{arith}
+use denote.Ref.{now}
+use lib.ListN.{length, length-set}
+use lib.Seq.{length-take-le}
+use Rattle.records.specs.paper.Fields as fields
+use Rattle.records.specs.code.CasePasses.{constraintsOf, constraintRead}
+use Rattle.records.proofs.Reading.{seen}
+use Rattle.records.proofs.Passing.{Going, going, ends-short, ends-other, refused-bad, refused-judged, goes-on, goes-later}
+use Rattle.records.proofs.KindLaws.{needs-test, take-more, judge-same}
+use Rattle.records.proofs.CaseKinds.{constraintKind}
+use borrow.Author.Needs.{needs}
+use Rattle.records.proofs.case.reading.constraints.read_constraints.Statement.{statement}
+use Rattle.records.proofs.case.reading.constraints.read_constraints.Tie as tie
+
+abbrev Inv-loop : tie.InvT-loop
+Inv-loop s start before headed constraints₀ at₀ k₀ constraints at k =
+    (k ≤ at) × (constraints .count ≤ 16) × (length (constraints .items) ≡ 16) × Going constraintKind s headed start before k at (constraintsOf constraints)
+
+abbrev μ-loop : tie.MeasureT-loop
+μ-loop s start before headed constraints₀ at₀ k₀ constraints at k = length s - at
+
+no-constraints-requires : tie.Need-no-constraints-requires Inv-loop μ-loop
+no-constraints-requires c κs = search needs
+
+loop-holds : tie.Need-loop-holds Inv-loop μ-loop
+loop-holds c =
+    let a = c .before .before .args in
+    let e = c .no-constraints .ensures in
+    (c .before .before .pre, omega (arith, e .1), e .2, going constraintKind (now (a .s)) (a .headed) (a .start) (a .before) (constraintsOf (c .no-constraints .result)) (e .0))
+
+shared-slice-read-if1 : tie.Need-shared-slice-read-if1 Inv-loop μ-loop
+shared-slice-read-if1 c = search needs
+
+add-constraint-at : tie.Need-add-constraint-at Inv-loop μ-loop
+add-constraint-at c = search needs
+
+constraint-at-requires : tie.Need-constraint-at-requires Inv-loop μ-loop
+constraint-at-requires c κs = search needs
+
+enum-known-bits : tie.Need-enum-known-bits Inv-loop μ-loop
+enum-known-bits c = search needs
+
+enum-told : tie.Need-enum-told Inv-loop μ-loop
+enum-told c = search needs
+
+returns : tie.Need-returns Inv-loop μ-loop
+returns c =
+    let i = c .before .before .before .before .before .before .loop .inv in
+    (refused-bad constraintKind _ _ _ _ (i .3) (i .0) (c .before .before .before .before .before .loop-test .taken) (c .before .before .before .if1 .left) (seen constraintRead (c .before .before .constraint-at .ensures) (c .enum-told .given .1)), i .0)
+
+judged-requires : tie.Need-judged-requires Inv-loop μ-loop
+judged-requires c κs = search needs
+
+returns-2 : tie.Need-returns-2 Inv-loop μ-loop
+returns-2 c =
+    let i = c .before .before .before .before .before .before .before .before .before .loop .inv in
+    let l = c .before .before .before .before .before .before .before .before .before .loop .constraints in
+    let j = judge-same 16 (l .count) (length (constraintsOf l)) false false _ (fields.needs 1 (c .before .before .before .bits .given .0 .0)) (c .before .before .before .before .before .before .before .before .before .before .before .before .args .headed) true true (c .before .judged .ensures .0) (length-take-le (l .count) (l .items) (omega (arith, i .1, i .2))) refl (needs-test (c .before .before .before .bits .given .0 .0) 1) refl in
+    (refused-judged constraintKind _ _ _ _ (i .3) (i .0) (c .before .before .before .before .before .before .before .before .loop-test .taken) (c .before .before .before .before .before .before .if1 .left) tt (seen constraintRead (c .before .before .before .before .before .constraint-at .ensures) (c .before .before .before .bits .given .1)) _ j (c .if2 .taken), i .0)
+
+element-write-constraints : tie.Need-element-write-constraints Inv-loop μ-loop
+element-write-constraints c = let h = c .before .judged .ensures .1 (c .if2 .left) in search (needs, h)
+
+add-constraints : tie.Need-add-constraints Inv-loop μ-loop
+add-constraints c = let h = c .before .judged .ensures .1 (c .if2 .left) in search (needs, h)
+
+add-k : tie.Need-add-k Inv-loop μ-loop
+add-k c = search needs
+
+loop-less : tie.Need-loop-less Inv-loop μ-loop
+loop-less c =
+    let i = c .before .before .before .before .before .before .before .before .before .loop .inv in
+    let z = goes-later constraintKind _ _ _ _ (i .3) (i .0) (c .before .before .before .before .before .before .before .before .loop-test .taken) (c .before .before .before .before .before .before .if1 .left) tt (seen constraintRead (c .before .before .before .before .before .constraint-at .ensures) (c .before .before .before .bits .given .1)) in
+    omega (arith, z)
+
+loop-again : tie.Need-loop-again Inv-loop μ-loop
+loop-again c =
+    let i = c .before .before .before .before .before .before .before .before .before .loop .inv in
+    let l = c .before .before .before .before .before .before .before .before .before .loop .constraints in
+    let b = c .before .before .before .bits .given .0 .0 in
+    let f = seen constraintRead (c .before .before .before .before .before .constraint-at .ensures) (c .before .before .before .bits .given .1) in
+    let z = goes-later constraintKind _ _ _ _ (i .3) (i .0) (c .before .before .before .before .before .before .before .before .loop-test .taken) (c .before .before .before .before .before .before .if1 .left) tt f in
+    let h = c .before .judged .ensures .1 (c .if2 .left) in
+    let j = judge-same 16 (l .count) (length (constraintsOf l)) false false _ (fields.needs 1 b) (c .before .before .before .before .before .before .before .before .before .before .before .before .args .headed) true true (c .before .judged .ensures .0) (length-take-le (l .count) (l .items) (omega (arith, i .1, i .2))) refl (needs-test b 1) refl in (
+      omega (arith, z),
+      omega (arith, h),
+      rw length-set (i .2),
+      goes-on constraintKind _ _ _ _ (i .3) (i .0) (c .before .before .before .before .before .before .before .before .loop-test .taken) (c .before .before .before .before .before .before .if1 .left) tt f _ j (c .if2 .left) _ (take-more (l .items) (l .count) _ (omega (arith, i .2, h))),
+    )
+
+returns-3 : tie.Need-returns-3 Inv-loop μ-loop
+returns-3 c =
+    let i = c .before .loop .inv in
+    (ends-short constraintKind _ _ _ _ (i .3) (c .loop-test .left), i .0)
+
+returns-4 : tie.Need-returns-4 Inv-loop μ-loop
+returns-4 c =
+    let i = c .before .before .before .loop .inv in
+    (ends-other constraintKind _ _ _ _ (i .3) (c .if1 .taken), i .0)
+
+pub read-constraints-spec : {M : Type 1} → statement M
+read-constraints-spec =
+    tie.close
+    (tie.spec
+    Inv-loop
+    μ-loop
+    no-constraints-requires
+    loop-holds
+    shared-slice-read-if1
+    add-constraint-at
+    constraint-at-requires
+    enum-known-bits
+    enum-told
+    returns
+    judged-requires
+    returns-2
+    element-write-constraints
+    add-constraints
+    add-k
+    loop-less
+    loop-again
+    returns-3
+    returns-4)

@@ -1,0 +1,22 @@
+-- An entry of an array, 0 past its end. Assumes nothing.
+use mathlib.Core.Path.{_≡_, sym}
+use native.Mathlib.Omega.{arith}
+use lib.ListN.{length, List·getD-eq-default}
+use borrow.Author.Needs.{needs}
+use Rattle.records.proofs.plan.checks.naming.entry.Statement.{statement}
+use Rattle.records.proofs.plan.checks.naming.entry.Tie as tie
+
+returns : tie.Need-returns
+returns c =
+    let xs = c .before .args .t1 in
+    let long : length xs ≡ 64 = search needs in
+    sym (List·getD-eq-default xs 0 (omega arith))
+
+array-read-result : tie.Need-array-read-result
+array-read-result c = search needs
+
+returns-2 : tie.Need-returns-2
+returns-2 c = search needs
+
+pub entry-spec : {M : Type 1} → statement M
+entry-spec = tie.close (tie.spec returns array-read-result returns-2)

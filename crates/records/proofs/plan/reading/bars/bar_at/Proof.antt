@@ -1,0 +1,120 @@
+-- Bar from its bit map on. Assumes nothing.
+use mathlib.Core.Path.{refl, sym, ap}
+use denote.Ref.{now}
+use Rattle.records.specs.paper.Fields.{little}
+use Rattle.records.specs.paper.Plan as paper
+use Rattle.records.specs.code.Decoded.{barOf}
+use Rattle.records.specs.code.Readers.{fieldRead, wideRead, mapRead, first}
+use Rattle.records.specs.code.Passes.{seenBy}
+use Rattle.records.specs.paper.Plan.{barFrom}
+use Rattle.records.proofs.Reading.{seen, found, none}
+use Rattle.records.proofs.Chain.{more, skip, stop, last, unknown, half-of, raw-got, raw-bits, raw-bad}
+use borrow.Author.Needs.{needs}
+use Rattle.records.proofs.plan.reading.bars.bar_at.Statement.{statement}
+use Rattle.records.proofs.plan.reading.bars.bar_at.Tie as tie
+
+byte-at-requires : tie.Need-byte-at-requires
+byte-at-requires c κs = search needs
+
+enum-known-bits : tie.Need-enum-known-bits
+enum-known-bits c = search needs
+
+enum-told : tie.Need-enum-told
+enum-told c = search needs
+
+returns : tie.Need-returns
+returns c = sym (ap (mapRead (seenBy barFrom)) (raw-bits paper.planFormats 7 (now (c .before .before .before .before .args .s)) (c .before .before .before .before .args .at) (seen fieldRead (c .before .before .byte-at .ensures) (c .enum-told .given .1))))
+
+mask-at-requires : tie.Need-mask-at-requires
+mask-at-requires c κs = search needs
+
+enum-known-members : tie.Need-enum-known-members
+enum-known-members c = search needs
+
+enum-told-2 : tie.Need-enum-told-2
+enum-told-2 c = search needs
+
+returns-2 : tie.Need-returns-2
+unfolding paper.planFormats
+returns-2 c =
+    sym (ap (mapRead (seenBy barFrom)) (raw-bad paper.planFormats 7 (now (c .before .before .before .before .before .before .before .before .args .s)) (c .before .before .before .before .before .before .before .before .args .at) (seen fieldRead (c .before .before .before .before .before .before .byte-at .ensures) (c .before .before .before .before .bits .given .1))
+    (stop _ _ _ _ refl _ _ (none little _ (seen wideRead (c .before .before .mask-at .ensures) (c .enum-told2 .given .1))))))
+
+opt-at-requires : tie.Need-opt-at-requires
+opt-at-requires c κs = search needs
+
+enum-known-condition : tie.Need-enum-known-condition
+enum-known-condition c = search needs
+
+enum-told-3 : tie.Need-enum-told-3
+enum-told-3 c = search needs
+
+returns-3 : tie.Need-returns-3
+unfolding paper.planFormats
+returns-3 c =
+    sym (ap (mapRead (seenBy barFrom)) (raw-bad paper.planFormats 7 (now (c .before .before .before .before .before .before .before .before .before .before .before .before .args .s)) (c .before .before .before .before .before .before .before .before .before .before .before .before .args .at) (seen fieldRead (c .before .before .before .before .before .before .before .before .before .before .byte-at .ensures) (c .before .before .before .before .before .before .before .before .bits .given .1))
+    (skip _ _ _ _ refl _ _ (found little _ (seen wideRead (c .before .before .before .before .before .before .mask-at .ensures) (c .before .before .before .before .members .given .1)) .is)
+    (stop _ _ _ _ (half-of _ 2) _ _ (none first _ (seen fieldRead (c .before .before .opt-at .ensures) (c .enum-told3 .given .1)))))))
+
+opt-at-requires-2 : tie.Need-opt-at-requires-2
+opt-at-requires-2 c κs = search needs
+
+enum-known-citation : tie.Need-enum-known-citation
+enum-known-citation c = search needs
+
+enum-told-4 : tie.Need-enum-told-4
+enum-told-4 c = search needs
+
+returns-4 : tie.Need-returns-4
+unfolding paper.planFormats
+returns-4 c =
+    sym (ap (mapRead (seenBy barFrom)) (raw-bad paper.planFormats 7 (now (c .before .before .before .before .before .before .before .before .before .before .before .before .before .before .before .before .args .s)) (c .before .before .before .before .before .before .before .before .before .before .before .before .before .before .before .before .args .at) (seen fieldRead (c .before .before .before .before .before .before .before .before .before .before .before .before .before .before .byte-at .ensures) (c .before .before .before .before .before .before .before .before .before .before .before .before .bits .given .1))
+    (skip _ _ _ _ refl _ _ (found little _ (seen wideRead (c .before .before .before .before .before .before .before .before .before .before .mask-at .ensures) (c .before .before .before .before .before .before .before .before .members .given .1)) .is)
+    (skip _ _ _ _ (half-of _ 2) _ _ (found first _ (seen fieldRead (c .before .before .before .before .before .before .opt-at .ensures) (c .before .before .before .before .condition .given .1)) .is)
+    (stop _ _ _ _ (half-of _ 4) _ _ (none first _ (seen fieldRead (c .before .before .opt-at2 .ensures) (c .enum-told4 .given .1))))))))
+
+returns-5 : tie.Need-returns-5
+unfolding paper.planFormats barOf
+returns-5 c =
+    rw (
+      raw-got paper.planFormats 7 (now (c .before .before .before .before .before .before .before .before .before .before .before .before .before .before .before .before .before .before .args .s)) (c .before .before .before .before .before .before .before .before .before .before .before .before .before .before .before .before .before .before .args .at) (seen fieldRead (c .before .before .before .before .before .before .before .before .before .before .before .before .before .before .before .before .byte-at .ensures) (c .before .before .before .before .before .before .before .before .before .before .before .before .before .before .bits .given .1))
+          (more _ _ _ _ refl _ _ (found little _ (seen wideRead (c .before .before .before .before .before .before .before .before .before .before .before .before .mask-at .ensures) (c .before .before .before .before .before .before .before .before .before .before .members .given .1)) .is)
+          (more _ _ _ _ (half-of _ 2) _ _ (found first _ (seen fieldRead (c .before .before .before .before .before .before .before .before .opt-at .ensures) (c .before .before .before .before .before .before .condition .given .1)) .is)
+          (more _ _ _ _ (half-of _ 4) _ _ (found first _ (seen fieldRead (c .before .before .before .before .opt-at2 .ensures) (c .before .before .citation .given .1)) .is)
+          (last _ _ _ (c .if1 .taken))))),
+      found little _ (seen wideRead (c .before .before .before .before .before .before .before .before .before .before .before .before .mask-at .ensures) (c .before .before .before .before .before .before .before .before .before .before .members .given .1)) .means,
+      found first _ (seen fieldRead (c .before .before .before .before .before .before .before .before .opt-at .ensures) (c .before .before .before .before .before .before .condition .given .1)) .means,
+      found first _ (seen fieldRead (c .before .before .before .before .opt-at2 .ensures) (c .before .before .citation .given .1)) .means,
+    )
+
+returns-6 : tie.Need-returns-6
+unfolding paper.planFormats
+returns-6 c =
+    sym (ap (mapRead (seenBy barFrom)) (raw-bad paper.planFormats 7 (now (c .before .before .before .before .before .before .before .before .before .before .before .before .before .before .before .before .before .before .args .s)) (c .before .before .before .before .before .before .before .before .before .before .before .before .before .before .before .before .before .before .args .at) (seen fieldRead (c .before .before .before .before .before .before .before .before .before .before .before .before .before .before .before .before .byte-at .ensures) (c .before .before .before .before .before .before .before .before .before .before .before .before .before .before .bits .given .1))
+    (skip _ _ _ _ refl _ _ (found little _ (seen wideRead (c .before .before .before .before .before .before .before .before .before .before .before .before .mask-at .ensures) (c .before .before .before .before .before .before .before .before .before .before .members .given .1)) .is)
+    (skip _ _ _ _ (half-of _ 2) _ _ (found first _ (seen fieldRead (c .before .before .before .before .before .before .before .before .opt-at .ensures) (c .before .before .before .before .before .before .condition .given .1)) .is)
+    (skip _ _ _ _ (half-of _ 4) _ _ (found first _ (seen fieldRead (c .before .before .before .before .opt-at2 .ensures) (c .before .before .citation .given .1)) .is)
+    (unknown _ _ _ (c .if1 .left)))))))
+
+pub bar-at-spec : {M : Type 1} → statement M
+bar-at-spec =
+    tie.close
+    (tie.spec
+    byte-at-requires
+    enum-known-bits
+    enum-told
+    returns
+    mask-at-requires
+    enum-known-members
+    enum-told-2
+    returns-2
+    opt-at-requires
+    enum-known-condition
+    enum-told-3
+    returns-3
+    opt-at-requires-2
+    enum-known-citation
+    enum-told-4
+    returns-4
+    returns-5
+    returns-6)

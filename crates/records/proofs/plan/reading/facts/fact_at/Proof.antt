@@ -1,0 +1,104 @@
+-- A fact from its bit map on. Assumes nothing.
+use mathlib.Core.Path.{refl, sym, ap}
+use Prim.Native.Nat.{_%_}
+use lib.Dec.{eqb}
+use denote.Ref.{now}
+use Rattle.records.specs.code.Readers.{fieldRead, listRead, mapRead, first}
+use Rattle.records.specs.code.Passes.{seenBy}
+use Rattle.records.specs.paper.Plan.{factFrom}
+use Rattle.records.proofs.Reading.{seen, found, none}
+use Rattle.records.proofs.Chain.{more, skip, stop, last, unknown, half-of, one-given, list-absent, raw-got, raw-bits, raw-bad}
+use Rattle.records.specs.paper.Plan as paper
+use borrow.Author.Needs.{needs}
+use Rattle.records.proofs.plan.reading.facts.fact_at.Statement.{statement}
+use Rattle.records.proofs.plan.reading.facts.fact_at.Tie as tie
+
+byte-at-requires : tie.Need-byte-at-requires
+byte-at-requires c κs = search needs
+
+enum-known-bits : tie.Need-enum-known-bits
+enum-known-bits c = search needs
+
+enum-told : tie.Need-enum-told
+enum-told c = search needs
+
+returns : tie.Need-returns
+returns c = (sym (ap (mapRead (seenBy factFrom)) (raw-bits paper.planFormats 2 (now (c .before .before .before .before .args .s)) (c .before .before .before .before .args .at) (seen fieldRead (c .before .before .byte-at .ensures) (c .enum-told .given .1)))), tt)
+
+opt-at-requires : tie.Need-opt-at-requires
+opt-at-requires c κs = search needs
+
+enum-known-family : tie.Need-enum-known-family
+enum-known-family c = search needs
+
+enum-told-2 : tie.Need-enum-told-2
+enum-told-2 c = search needs
+
+returns-2 : tie.Need-returns-2
+unfolding paper.planFormats
+returns-2 c = (
+  sym (ap (mapRead (seenBy factFrom)) (raw-bad paper.planFormats 2 (now (c .before .before .before .before .before .before .before .before .args .s)) (c .before .before .before .before .before .before .before .before .args .at) (seen fieldRead (c .before .before .before .before .before .before .byte-at .ensures) (c .before .before .before .before .bits .given .1))
+      (stop _ _ _ _ refl _ _ (none first _ (seen fieldRead (c .before .before .opt-at .ensures) (c .enum-told2 .given .1)))))),
+  tt,
+)
+
+list-at-requires : tie.Need-list-at-requires
+list-at-requires c κs = search needs
+
+enum-known-first : tie.Need-enum-known-first
+enum-known-first c = search needs
+
+enum-told-3 : tie.Need-enum-told-3
+enum-told-3 c = search needs
+
+returns-3 : tie.Need-returns-3
+unfolding paper.planFormats
+returns-3 c = (
+  sym (ap (mapRead (seenBy factFrom)) (raw-bad paper.planFormats 2 (now (c .before .before .before .before .before .before .before .before .before .before .before .before .args .s)) (c .before .before .before .before .before .before .before .before .before .before .before .before .args .at) (seen fieldRead (c .before .before .before .before .before .before .before .before .before .before .byte-at .ensures) (c .before .before .before .before .before .before .before .before .bits .given .1))
+      (skip _ _ _ _ refl _ _ (found first _ (seen fieldRead (c .before .before .before .before .before .before .opt-at .ensures) (c .before .before .before .before .family .given .1)) .is)
+      (stop _ _ _ _ (half-of _ 2) _ _ (seen (listRead (now (c .before .before .before .before .before .before .before .before .before .before .before .before .args .s))) (c .before .before .list-at .ensures .0) (c .enum-told3 .given .1)))))),
+  tt,
+)
+
+returns-4 : tie.Need-returns-4
+unfolding paper.planFormats
+returns-4 c =
+    let f0 = (rw (c .before .before .first .given .1) at (c .before .before .before .before .list-at .ensures .1)) in (
+      rw (
+        raw-got paper.planFormats 2 (now (c .before .before .before .before .before .before .before .before .before .before .before .before .before .before .args .s)) (c .before .before .before .before .before .before .before .before .before .before .before .before .before .before .args .at) (seen fieldRead (c .before .before .before .before .before .before .before .before .before .before .before .before .byte-at .ensures) (c .before .before .before .before .before .before .before .before .before .before .bits .given .1))
+            (more _ _ _ _ refl _ _ (found first _ (seen fieldRead (c .before .before .before .before .before .before .before .before .opt-at .ensures) (c .before .before .before .before .before .before .family .given .1)) .is)
+            (more _ _ _ _ (half-of _ 2) _ _ (seen (listRead (now (c .before .before .before .before .before .before .before .before .before .before .before .before .before .before .args .s))) (c .before .before .before .before .list-at .ensures .0) (c .before .before .first .given .1))
+            (last _ _ _ (c .if1 .taken)))),
+        one-given (now (c .before .before .before .before .before .before .before .before .before .before .before .before .before .before .args .s)) (c .before .before .before .before .before .before .before .before .before .before .bits .given .0 .1 .0) (eqb (c .before .before .before .before .before .before .before .before .before .before .bits .given .0 .0 % 2) 1) (record { low = 0; top = 255 }) (found first _ (seen fieldRead (c .before .before .before .before .before .before .before .before .opt-at .ensures) (c .before .before .before .before .before .before .family .given .1)) .is) (found first _ (seen fieldRead (c .before .before .before .before .before .before .before .before .opt-at .ensures) (c .before .before .before .before .before .before .family .given .1)) .means),
+      ),
+      (f0 .0, f0 .1, λ q. list-absent _ _ _ _ _ _ (rw (c .before .before .first .given .1) at (c .before .before .before .before .list-at .ensures .0)) q),
+    )
+
+returns-5 : tie.Need-returns-5
+unfolding paper.planFormats
+returns-5 c = (
+  sym (ap (mapRead (seenBy factFrom)) (raw-bad paper.planFormats 2 (now (c .before .before .before .before .before .before .before .before .before .before .before .before .before .before .args .s)) (c .before .before .before .before .before .before .before .before .before .before .before .before .before .before .args .at) (seen fieldRead (c .before .before .before .before .before .before .before .before .before .before .before .before .byte-at .ensures) (c .before .before .before .before .before .before .before .before .before .before .bits .given .1))
+      (skip _ _ _ _ refl _ _ (found first _ (seen fieldRead (c .before .before .before .before .before .before .before .before .opt-at .ensures) (c .before .before .before .before .before .before .family .given .1)) .is)
+      (skip _ _ _ _ (half-of _ 2) _ _ (seen (listRead (now (c .before .before .before .before .before .before .before .before .before .before .before .before .before .before .args .s))) (c .before .before .before .before .list-at .ensures .0) (c .before .before .first .given .1))
+      (unknown _ _ _ (c .if1 .left)))))),
+  tt,
+)
+
+pub fact-at-spec : {M : Type 1} → statement M
+fact-at-spec =
+    tie.close
+    (tie.spec
+    byte-at-requires
+    enum-known-bits
+    enum-told
+    returns
+    opt-at-requires
+    enum-known-family
+    enum-told-2
+    returns-2
+    list-at-requires
+    enum-known-first
+    enum-told-3
+    returns-3
+    returns-4
+    returns-5)

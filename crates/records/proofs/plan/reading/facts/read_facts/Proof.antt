@@ -1,0 +1,171 @@
+-- The pass over the facts. Assumes nothing.
+use mathlib.Core.Path.{_≡_, refl, sym, _∙_, ap, ap₂}
+use mathlib.Core.Bool.{true, false, _&&_}
+use mathlib.Core.List.{[], _∷_, _++_}
+use Prim.Native.Nat.{_+_, _-_, _≤_}
+use native.Mathlib.Omega.{arith}
+use denote.Ref.{now}
+use lib.ListN.{length, length-set}
+use Rattle.records.specs.paper.Plan.{rises, factsRise, Fact}
+use Rattle.records.specs.code.Decoded.{factOf}
+use Rattle.records.specs.paper.Plan.{factBits}
+use Rattle.records.specs.code.PlanPasses.{factRead, factsOf}
+use Rattle.records.proofs.LoopLaws.{length-made}
+use Rattle.records.proofs.Reading.{seen}
+use Rattle.records.proofs.Passing.{Going, going, ends-short, ends-other, refused-bad, refused-judged, goes-on, goes-later}
+use Rattle.records.proofs.FactLaws.{lastFact, last-none, last-more, rise-more}
+use Rattle.records.proofs.SetLaws.{and-parts}
+use Rattle.records.proofs.KindLaws.{factKind, made-more, judge-same, is-sound, it-fits, no-tuple, fact-is}
+use borrow.Author.Needs.{needs}
+use Rattle.records.proofs.plan.reading.facts.read_facts.Statement.{statement}
+use Rattle.records.proofs.plan.reading.facts.read_facts.Tie as tie
+
+abbrev Inv-loop : tie.InvT-loop
+Inv-loop s start before headed facts₀ last₀ at₀ k₀ facts last at k =
+    (k ≤ at) × (facts .count ≤ 64) × (length (facts .items) ≡ 64) × Going factKind s headed start before k at (factsOf facts)
+    × (factsRise (factsOf facts) ≡ true) × (lastFact (factsOf facts) ≡ factOf last) × (last .count ≤ 4) × (last .boolean ≡ true → last .count ≡ 0)
+
+abbrev μ-loop : tie.MeasureT-loop
+μ-loop s start before headed facts₀ last₀ at₀ k₀ facts last at k = length s - at
+
+no-facts-requires : tie.Need-no-facts-requires Inv-loop μ-loop
+no-facts-requires c κs = search needs
+
+loop-holds : tie.Need-loop-holds Inv-loop μ-loop
+unfolding factOf factsRise
+loop-holds c =
+    let a = c .before .before .args in
+    let e = c .no-facts .ensures in (
+      c .before .before .pre,
+      omega (arith, e .1),
+      e .2,
+      going factKind (now (a .s)) (a .headed) (a .start) (a .before) (factsOf (c .no-facts .result)) (e .0),
+      ap factsRise (e .0),
+      ap lastFact (e .0) ∙ last-none,
+      omega arith,
+      λ z. refl,
+    )
+
+shared-slice-read-if1 : tie.Need-shared-slice-read-if1 Inv-loop μ-loop
+shared-slice-read-if1 c = search needs
+
+add-fact-at : tie.Need-add-fact-at Inv-loop μ-loop
+add-fact-at c = search needs
+
+fact-at-requires : tie.Need-fact-at-requires Inv-loop μ-loop
+fact-at-requires c κs = search needs
+
+enum-known-bits : tie.Need-enum-known-bits Inv-loop μ-loop
+enum-known-bits c = search needs
+
+enum-told : tie.Need-enum-told Inv-loop μ-loop
+enum-told c = search needs
+
+returns : tie.Need-returns Inv-loop μ-loop
+returns c =
+    let i = c .before .before .before .before .before .before .loop .inv in
+    (refused-bad factKind _ _ _ _ (i .3) (i .0) (c .before .before .before .before .before .loop-test .taken) (c .before .before .before .if1 .left) (seen (factRead (now (c .before .before .before .before .before .before .before .before .before .args .s))) (c .before .before .fact-at .ensures .0) (c .enum-told .given .1)), i .0, i .4)
+
+tuple-from-requires : tie.Need-tuple-from-requires Inv-loop μ-loop
+tuple-from-requires c κs = let f = rw (c .before .bits .given .1) at (c .before .before .before .fact-at .ensures .1) in (f .0, f .1)
+
+fact-rises-requires : tie.Need-fact-rises-requires Inv-loop μ-loop
+fact-rises-requires c κs = let f = rw (c .before .before .bits .given .1) at (c .before .before .before .before .fact-at .ensures .1) in (c .before .before .before .before .before .before .before .before .loop .inv .6, f .0, c .before .before .before .before .before .before .before .before .loop .inv .7)
+
+both-or-none-requires : tie.Need-both-or-none-requires Inv-loop μ-loop
+both-or-none-requires c κs = search needs
+
+judged-requires : tie.Need-judged-requires Inv-loop μ-loop
+judged-requires c κs = search needs
+
+returns-2 : tie.Need-returns-2 Inv-loop μ-loop
+returns-2 c =
+    let l = c .before .before .before .before .before .before .before .before .before .before .before .before .loop .facts in
+    let i = c .before .before .before .before .before .before .before .before .before .before .before .before .loop .inv in
+    let b = c .before .before .before .before .before .before .bits .given .0 .0 in
+    let x = fact-is (now (c .before .before .before .before .before .before .before .before .before .before .before .before .before .before .before .args .s)) b (c .before .before .before .before .before .before .bits .given .0 .1 .0) (c .before .before .before .before .before .before .bits .given .0 .1 .1 .0) (c .before .before .before .before .before .before .bits .given .0 .1 .1 .1 .0) (c .before .before .before .before .tuple-from .result) (c .before .before .before .before .tuple-from .ensures) in
+    let d = c .before .before .before .fact-rises .ensures ∙ ap₂ rises (sym (i .5)) x in
+    let j = judge-same 64 (l .count) (length (factsOf l)) false false _ (factBits b) (c .before .before .before .before .before .before .before .before .before .before .before .before .before .before .before .args .headed) _ _ (c .before .judged .ensures .0) (length-made factOf (l .items) (l .count) (omega (arith, i .1, i .2))) refl (c .before .before .both-or-none .ensures) d in
+    (refused-judged factKind _ _ _ _ (i .3) (i .0) (c .before .before .before .before .before .before .before .before .before .before .before .loop-test .taken) (c .before .before .before .before .before .before .before .before .before .if1 .left) (i .4) (seen (factRead (now (c .before .before .before .before .before .before .before .before .before .before .before .before .before .before .before .args .s))) (c .before .before .before .before .before .before .before .before .fact-at .ensures .0) (c .before .before .before .before .before .before .bits .given .1)) _ j (c .if2 .taken), i .0, i .4)
+
+mul-fact : tie.Need-mul-fact Inv-loop μ-loop
+mul-fact c = search needs
+
+element-set-from-fact : tie.Need-element-set-from-fact Inv-loop μ-loop
+element-set-from-fact c = let h = c .before .judged .ensures .1 (c .if2 .left) in search (needs, h)
+
+add-facts : tie.Need-add-facts Inv-loop μ-loop
+add-facts c = let h = c .before .judged .ensures .1 (c .if2 .left) in search (needs, h)
+
+add-k : tie.Need-add-k Inv-loop μ-loop
+add-k c = let i = c .before .before .before .before .before .before .before .before .before .before .before .before .loop .inv in let h = c .before .before .before .before .before .before .before .before .before .before .before .loop-test .taken in search (needs, h, i .0)
+
+loop-less : tie.Need-loop-less Inv-loop μ-loop
+loop-less c =
+    let i = c .before .before .before .before .before .before .before .before .before .before .before .before .loop .inv in
+    let z = goes-later factKind _ _ _ _ (i .3) (i .0) (c .before .before .before .before .before .before .before .before .before .before .before .loop-test .taken) (c .before .before .before .before .before .before .before .before .before .if1 .left) (i .4) (seen (factRead (now (c .before .before .before .before .before .before .before .before .before .before .before .before .before .before .before .args .s))) (c .before .before .before .before .before .before .before .before .fact-at .ensures .0) (c .before .before .before .before .before .before .bits .given .1)) in
+    omega (arith, z)
+
+loop-again : tie.Need-loop-again Inv-loop μ-loop
+loop-again c =
+    let l = c .before .before .before .before .before .before .before .before .before .before .before .before .loop .facts in
+    let i = c .before .before .before .before .before .before .before .before .before .before .before .before .loop .inv in
+    let b = c .before .before .before .before .before .before .bits .given .0 .0 in
+    let g = rw (c .before .before .before .before .before .before .bits .given .1) at (c .before .before .before .before .before .before .before .before .fact-at .ensures .1) in
+    let f = seen (factRead (now (c .before .before .before .before .before .before .before .before .before .before .before .before .before .before .before .args .s))) (c .before .before .before .before .before .before .before .before .fact-at .ensures .0) (c .before .before .before .before .before .before .bits .given .1) in
+    let z = goes-later factKind _ _ _ _ (i .3) (i .0) (c .before .before .before .before .before .before .before .before .before .before .before .loop-test .taken) (c .before .before .before .before .before .before .before .before .before .if1 .left) (i .4) f in
+    let h = c .before .judged .ensures .1 (c .if2 .left) in
+    let x = fact-is (now (c .before .before .before .before .before .before .before .before .before .before .before .before .before .before .before .args .s)) b (c .before .before .before .before .before .before .bits .given .0 .1 .0) (c .before .before .before .before .before .before .bits .given .0 .1 .1 .0) (c .before .before .before .before .before .before .bits .given .0 .1 .1 .1 .0) (c .before .before .before .before .tuple-from .result) (c .before .before .before .before .tuple-from .ensures) in
+    let d = c .before .before .before .fact-rises .ensures ∙ ap₂ rises (sym (i .5)) x in
+    let j = judge-same 64 (l .count) (length (factsOf l)) false false _ (factBits b) (c .before .before .before .before .before .before .before .before .before .before .before .before .before .before .before .args .headed) _ _ (c .before .judged .ensures .0) (length-made factOf (l .items) (l .count) (omega (arith, i .1, i .2))) refl (c .before .before .both-or-none .ensures) d in
+    let more = made-more factOf (l .items) (l .count) _ (omega (arith, i .2, h)) ∙ ap (λ (y : Fact). factsOf l ++ (y ∷ [])) x in
+    let q = sym (c .before .judged .ensures .0) ∙ c .if2 .left in
+    let r = is-sound 64 (l .count) false (c .before .before .both-or-none .result && c .before .before .before .before .before .before .before .before .before .before .before .before .before .before .before .args .headed) (c .before .before .before .fact-rises .result) q in
+    let t = it-fits 64 (l .count) false (c .before .before .both-or-none .result && c .before .before .before .before .before .before .before .before .before .before .before .before .before .before .before .args .headed) (c .before .before .before .fact-rises .result) q in (
+      omega (arith, z),
+      omega (arith, h),
+      rw length-set (i .2),
+      goes-on factKind _ _ _ _ (i .3) (i .0) (c .before .before .before .before .before .before .before .before .before .before .before .loop-test .taken) (c .before .before .before .before .before .before .before .before .before .if1 .left) (i .4) f _ j (c .if2 .left) _ more,
+      ap factsRise more ∙ rise-more (factsOf l) _ ∙ ap₂ _&&_ (i .4) (sym d ∙ r),
+      ap lastFact more ∙ last-more (factsOf l) _ ∙ sym x,
+      g .0,
+      λ y. no-tuple b _ (sym (c .before .before .both-or-none .ensures) ∙ and-parts (c .before .before .both-or-none .result) (c .before .before .before .before .before .before .before .before .before .before .before .before .before .before .before .args .headed) t .0) y (g .2),
+    )
+
+returns-3 : tie.Need-returns-3 Inv-loop μ-loop
+returns-3 c =
+    let i = c .before .loop .inv in
+    (ends-short factKind _ _ _ _ (i .3) (c .loop-test .left), i .0, i .4)
+
+returns-4 : tie.Need-returns-4 Inv-loop μ-loop
+returns-4 c =
+    let i = c .before .before .before .loop .inv in
+    (ends-other factKind _ _ _ _ (i .3) (c .if1 .taken), i .0, i .4)
+
+pub read-facts-spec : {M : Type 1} → statement M
+read-facts-spec =
+    tie.close
+    (tie.spec
+    Inv-loop
+    μ-loop
+    no-facts-requires
+    loop-holds
+    shared-slice-read-if1
+    add-fact-at
+    fact-at-requires
+    enum-known-bits
+    enum-told
+    returns
+    tuple-from-requires
+    fact-rises-requires
+    both-or-none-requires
+    judged-requires
+    returns-2
+    mul-fact
+    element-set-from-fact
+    add-facts
+    add-k
+    loop-less
+    loop-again
+    returns-3
+    returns-4)

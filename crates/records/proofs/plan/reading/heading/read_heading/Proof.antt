@@ -1,0 +1,114 @@
+-- The pass over the headings. Assumes nothing.
+use mathlib.Core.Path.{refl}
+use mathlib.Core.Bool.{true, false}
+use mathlib.Core.List.{[]}
+use Prim.Native.Nat.{_-_, _≤_}
+use native.Mathlib.Omega.{arith}
+use denote.Ref.{now}
+use lib.ListN.{length}
+use Rattle.records.specs.paper.Plan.{Heading}
+use Rattle.records.specs.code.Decoded.{given}
+use Rattle.records.specs.code.PlanPasses.{headingRead, headingsBy}
+use Rattle.records.proofs.Reading.{seen}
+use Rattle.records.proofs.Passing.{Going, going, ends-short, ends-other, refused-bad, refused-judged, goes-on, goes-later}
+use Rattle.records.proofs.KindLaws.{headingKind, needs-test, judge-same, heading-count, heading-none}
+use Rattle.records.specs.paper.Fields as fields
+use borrow.Author.Needs.{needs}
+use Rattle.records.proofs.plan.reading.heading.read_heading.Statement.{statement}
+use Rattle.records.proofs.plan.reading.heading.read_heading.Tie as tie
+
+abbrev Inv-loop : tie.InvT-loop
+Inv-loop s headings₀ relation₀ chained₀ chain₀ at₀ k₀ headings relation chained chain at k =
+    (k ≤ at) × (headings ≤ 1) × Going headingKind s false 0 0 k at (headingsBy headings relation chained chain)
+
+abbrev μ-loop : tie.MeasureT-loop
+μ-loop s headings₀ relation₀ chained₀ chain₀ at₀ k₀ headings relation chained chain at k = length s - at
+
+loop-holds : tie.Need-loop-holds Inv-loop μ-loop
+loop-holds c = (omega arith, omega arith, going headingKind (now (c .before .args .s)) false 0 0 [] refl)
+
+shared-slice-read-if1 : tie.Need-shared-slice-read-if1 Inv-loop μ-loop
+shared-slice-read-if1 c = search needs
+
+add-heading-at : tie.Need-add-heading-at Inv-loop μ-loop
+add-heading-at c = search needs
+
+heading-at-requires : tie.Need-heading-at-requires Inv-loop μ-loop
+heading-at-requires c κs = search needs
+
+enum-known-bits : tie.Need-enum-known-bits Inv-loop μ-loop
+enum-known-bits c = search needs
+
+enum-told : tie.Need-enum-told Inv-loop μ-loop
+enum-told c = search needs
+
+returns : tie.Need-returns Inv-loop μ-loop
+returns c =
+    let i = c .before .before .before .before .before .before .loop .inv in
+    (refused-bad headingKind _ _ _ _ (i .2) (i .0) (c .before .before .before .before .before .loop-test .taken) (c .before .before .before .if1 .left) (seen headingRead (c .before .before .heading-at .ensures) (c .enum-told .given .1)), i .0, i .1)
+
+judged-requires : tie.Need-judged-requires Inv-loop μ-loop
+judged-requires c κs = search needs
+
+returns-2 : tie.Need-returns-2 Inv-loop μ-loop
+returns-2 c =
+    let l = c .before .before .before .before .before .before .before .before .before .loop in
+    let i = l .inv in
+    let x : Heading = record { relation = l .relation; chain = given (l .chained) (l .chain) } in
+    let j = judge-same 1 (l .headings) (length (headingsBy (l .headings) (l .relation) (l .chained) (l .chain))) false false _ (fields.needs 1 (c .before .before .before .bits .given .0 .0)) true true true (c .before .judged .ensures .0) (heading-count (l .headings) x (i .1)) refl (needs-test (c .before .before .before .bits .given .0 .0) 1) refl in
+    (refused-judged headingKind _ _ _ _ (i .2) (i .0) (c .before .before .before .before .before .before .before .before .loop-test .taken) (c .before .before .before .before .before .before .if1 .left) tt (seen headingRead (c .before .before .before .before .before .heading-at .ensures) (c .before .before .before .bits .given .1)) _ j (c .if2 .taken), i .0, i .1)
+
+add-k : tie.Need-add-k Inv-loop μ-loop
+add-k c = search needs
+
+loop-less : tie.Need-loop-less Inv-loop μ-loop
+loop-less c =
+    let i = c .before .before .before .before .before .before .before .before .before .loop .inv in
+    let z = goes-later headingKind _ _ _ _ (i .2) (i .0) (c .before .before .before .before .before .before .before .before .loop-test .taken) (c .before .before .before .before .before .before .if1 .left) tt (seen headingRead (c .before .before .before .before .before .heading-at .ensures) (c .before .before .before .bits .given .1)) in
+    omega (arith, z)
+
+loop-again : tie.Need-loop-again Inv-loop μ-loop
+loop-again c =
+    let l = c .before .before .before .before .before .before .before .before .before .loop in
+    let i = l .inv in
+    let b = c .before .before .before .bits .given .0 .0 in
+    let x : Heading = record { relation = l .relation; chain = given (l .chained) (l .chain) } in
+    let f = seen headingRead (c .before .before .before .before .before .heading-at .ensures) (c .before .before .before .bits .given .1) in
+    let z = goes-later headingKind _ _ _ _ (i .2) (i .0) (c .before .before .before .before .before .before .before .before .loop-test .taken) (c .before .before .before .before .before .before .if1 .left) tt f in
+    let h = c .before .judged .ensures .1 (c .if2 .left) in
+    let j = judge-same 1 (l .headings) (length (headingsBy (l .headings) (l .relation) (l .chained) (l .chain))) false false _ (fields.needs 1 b) true true true (c .before .judged .ensures .0) (heading-count (l .headings) x (i .1)) refl (needs-test b 1) refl in (
+      omega (arith, z),
+      omega arith,
+      goes-on headingKind _ _ _ _ (i .2) (i .0) (c .before .before .before .before .before .before .before .before .loop-test .taken) (c .before .before .before .before .before .before .if1 .left) tt f _ j (c .if2 .left) _ (rw (heading-none (l .headings) x h)),
+    )
+
+returns-3 : tie.Need-returns-3 Inv-loop μ-loop
+returns-3 c =
+    let i = c .before .loop .inv in
+    (ends-short headingKind _ _ _ _ (i .2) (c .loop-test .left), i .0, i .1)
+
+returns-4 : tie.Need-returns-4 Inv-loop μ-loop
+returns-4 c =
+    let i = c .before .before .before .loop .inv in
+    (ends-other headingKind _ _ _ _ (i .2) (c .if1 .taken), i .0, i .1)
+
+pub read-heading-spec : {M : Type 1} → statement M
+read-heading-spec =
+    tie.close
+    (tie.spec
+    Inv-loop
+    μ-loop
+    loop-holds
+    shared-slice-read-if1
+    add-heading-at
+    heading-at-requires
+    enum-known-bits
+    enum-told
+    returns
+    judged-requires
+    returns-2
+    add-k
+    loop-less
+    loop-again
+    returns-3
+    returns-4)

@@ -1,0 +1,140 @@
+-- The pass over the nodes. Assumes nothing.
+use mathlib.Core.Path.{_≡_, refl, _∙_, ap}
+use mathlib.Core.Bool.{true, false}
+use mathlib.Core.List.{[], _∷_, _++_}
+use Prim.Native.Nat.{_+_, _-_, _≤_}
+use native.Mathlib.Omega.{arith}
+use denote.Ref.{now}
+use lib.ListN.{length, length-set}
+use Rattle.records.specs.code.Decoded.{nodeOf}
+use Rattle.records.specs.code.PlanPasses.{nodesOf, nodeRead}
+use Rattle.records.proofs.LoopLaws.{length-made}
+use Rattle.records.proofs.Reading.{seen}
+use Rattle.records.proofs.Passing.{Going, going, ends-short, ends-other, refused-bad, refused-judged, goes-on, goes-later}
+use Rattle.records.proofs.KindLaws.{nodeKind, made-more, judge-same}
+use Rattle.records.specs.paper.Fields as fields
+use borrow.Author.Needs.{needs}
+use Rattle.records.proofs.plan.reading.nodes.read_nodes.Statement.{statement}
+use Rattle.records.proofs.plan.reading.nodes.read_nodes.Tie as tie
+
+abbrev Inv-loop : tie.InvT-loop
+Inv-loop s start before headed nodes₀ at₀ k₀ nodes at k =
+    (k ≤ at) × (nodes .count ≤ 256) × (length (nodes .items) ≡ 256) × Going nodeKind s headed start before k at (nodesOf nodes)
+
+abbrev μ-loop : tie.MeasureT-loop
+μ-loop s start before headed nodes₀ at₀ k₀ nodes at k = length s - at
+
+no-nodes-requires : tie.Need-no-nodes-requires Inv-loop μ-loop
+no-nodes-requires c κs = search needs
+
+loop-holds : tie.Need-loop-holds Inv-loop μ-loop
+loop-holds c =
+    let a = c .before .before .args in
+    let e = c .no-nodes .ensures in
+    (c .before .before .pre, omega (arith, e .1), e .2, going nodeKind (now (a .s)) (a .headed) (a .start) (a .before) (nodesOf (c .no-nodes .result)) (e .0))
+
+shared-slice-read-if1 : tie.Need-shared-slice-read-if1 Inv-loop μ-loop
+shared-slice-read-if1 c = search needs
+
+add-node-at : tie.Need-add-node-at Inv-loop μ-loop
+add-node-at c = search needs
+
+node-at-requires : tie.Need-node-at-requires Inv-loop μ-loop
+node-at-requires c κs = search needs
+
+enum-known-bits : tie.Need-enum-known-bits Inv-loop μ-loop
+enum-known-bits c = search needs
+
+enum-told : tie.Need-enum-told Inv-loop μ-loop
+enum-told c = search needs
+
+returns : tie.Need-returns Inv-loop μ-loop
+returns c =
+    let i = c .before .before .before .before .before .before .loop .inv in
+    (refused-bad nodeKind _ _ _ _ (i .3) (i .0) (c .before .before .before .before .before .loop-test .taken) (c .before .before .before .if1 .left) (seen (nodeRead (now (c .before .before .before .before .before .before .before .before .before .args .s))) (c .before .before .node-at .ensures .0) (c .enum-told .given .1)), i .0)
+
+one-bit-requires : tie.Need-one-bit-requires Inv-loop μ-loop
+one-bit-requires c κs = search needs
+
+judged-requires : tie.Need-judged-requires Inv-loop μ-loop
+judged-requires c κs = search needs
+
+returns-2 : tie.Need-returns-2 Inv-loop μ-loop
+returns-2 c =
+    let i = c .before .before .before .before .before .before .before .before .before .before .loop .inv in
+    let l = c .before .before .before .before .before .before .before .before .before .before .loop .nodes in
+    let j = judge-same 256 (l .count) (length (nodesOf l)) false false _ (fields.single (c .before .before .before .before .bits .given .0 .0)) (c .before .before .before .before .before .before .before .before .before .before .before .before .before .args .headed) true true (c .before .judged .ensures .0) (length-made nodeOf (l .items) (l .count) (omega (arith, i .1, i .2))) refl (c .before .before .one-bit .ensures) refl in
+    (refused-judged nodeKind _ _ _ _ (i .3) (i .0) (c .before .before .before .before .before .before .before .before .before .loop-test .taken) (c .before .before .before .before .before .before .before .if1 .left) tt (seen (nodeRead (now (c .before .before .before .before .before .before .before .before .before .before .before .before .before .args .s))) (c .before .before .before .before .before .before .node-at .ensures .0) (c .before .before .before .before .bits .given .1)) _ j (c .if2 .taken), i .0)
+
+node-from-requires : tie.Need-node-from-requires Inv-loop μ-loop
+node-from-requires c κs = let f = rw (c .before .before .before .before .bits .given .1) at (c .before .before .before .before .before .before .node-at .ensures .1) in (f .0, f .1, f .2, f .3)
+
+mul-t14 : tie.Need-mul-t14 Inv-loop μ-loop
+mul-t14 c = search needs
+
+element-set-from-nodes : tie.Need-element-set-from-nodes Inv-loop μ-loop
+element-set-from-nodes c = let h = c .before .before .judged .ensures .1 (c .before .if2 .left) in search (needs, h)
+
+add-nodes : tie.Need-add-nodes Inv-loop μ-loop
+add-nodes c = let h = c .before .before .judged .ensures .1 (c .before .if2 .left) in search (needs, h)
+
+add-k : tie.Need-add-k Inv-loop μ-loop
+add-k c = let h : mir.Val.Fits mir.Syntax.w64 (c .before .before .before .before .before .before .before .before .before .before .before .loop .at + 1) = add-node-at (c .before .before .before .before .before .before .before .before) in record { fits = omega (arith, h .fits, c .before .before .before .before .before .before .before .before .before .before .before .loop .inv .0) }
+
+loop-less : tie.Need-loop-less Inv-loop μ-loop
+loop-less c =
+    let i = c .before .before .before .before .before .before .before .before .before .before .before .loop .inv in
+    let z = goes-later nodeKind _ _ _ _ (i .3) (i .0) (c .before .before .before .before .before .before .before .before .before .before .loop-test .taken) (c .before .before .before .before .before .before .before .before .if1 .left) tt (seen (nodeRead (now (c .before .before .before .before .before .before .before .before .before .before .before .before .before .before .args .s))) (c .before .before .before .before .before .before .before .node-at .ensures .0) (c .before .before .before .before .before .bits .given .1)) in
+    omega (arith, z)
+
+loop-again : tie.Need-loop-again Inv-loop μ-loop
+loop-again c =
+    let i = c .before .before .before .before .before .before .before .before .before .before .before .loop .inv in
+    let l = c .before .before .before .before .before .before .before .before .before .before .before .loop .nodes in
+    let b = c .before .before .before .before .before .bits .given .0 .0 in
+    let f = seen (nodeRead (now (c .before .before .before .before .before .before .before .before .before .before .before .before .before .before .args .s))) (c .before .before .before .before .before .before .before .node-at .ensures .0) (c .before .before .before .before .before .bits .given .1) in
+    let z = goes-later nodeKind _ _ _ _ (i .3) (i .0) (c .before .before .before .before .before .before .before .before .before .before .loop-test .taken) (c .before .before .before .before .before .before .before .before .if1 .left) tt f in
+    let h = c .before .before .judged .ensures .1 (c .before .if2 .left) in
+    let j = judge-same 256 (l .count) (length (nodesOf l)) false false _ (fields.single b) (c .before .before .before .before .before .before .before .before .before .before .before .before .before .before .args .headed) true true (c .before .before .judged .ensures .0) (length-made nodeOf (l .items) (l .count) (omega (arith, i .1, i .2))) refl (c .before .before .before .one-bit .ensures) refl in (
+      omega (arith, z),
+      omega (arith, h),
+      rw length-set (i .2),
+      goes-on nodeKind _ _ _ _ (i .3) (i .0) (c .before .before .before .before .before .before .before .before .before .before .loop-test .taken) (c .before .before .before .before .before .before .before .before .if1 .left) tt f _ j (c .before .if2 .left) _ (made-more nodeOf (l .items) (l .count) _ (omega (arith, i .2, h)) ∙ ap (λ x. nodesOf l ++ (x ∷ [])) (c .node-from .ensures)),
+    )
+
+returns-3 : tie.Need-returns-3 Inv-loop μ-loop
+returns-3 c =
+    let i = c .before .loop .inv in
+    (ends-short nodeKind _ _ _ _ (i .3) (c .loop-test .left), i .0)
+
+returns-4 : tie.Need-returns-4 Inv-loop μ-loop
+returns-4 c =
+    let i = c .before .before .before .loop .inv in
+    (ends-other nodeKind _ _ _ _ (i .3) (c .if1 .taken), i .0)
+
+pub read-nodes-spec : {M : Type 1} → statement M
+read-nodes-spec =
+    tie.close
+    (tie.spec
+    Inv-loop
+    μ-loop
+    no-nodes-requires
+    loop-holds
+    shared-slice-read-if1
+    add-node-at
+    node-at-requires
+    enum-known-bits
+    enum-told
+    returns
+    one-bit-requires
+    judged-requires
+    returns-2
+    node-from-requires
+    mul-t14
+    element-set-from-nodes
+    add-nodes
+    add-k
+    loop-less
+    loop-again
+    returns-3
+    returns-4)

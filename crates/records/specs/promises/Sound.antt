@@ -1,0 +1,128 @@
+-- What the check gives of every accepted plan, and reading of every accepted case: numbers name what they should, and stay within the limits.
+-- Contracts above cite it as one property; proofs/Accepted.antt shows it of `checkedPlan`, proofs/AcceptedCase.antt of `readCase`.
+use mathlib.Core.Path.{_≡_}
+use mathlib.Core.Bool.{true}
+use mathlib.Core.List.{List, [], _∷_}
+use Prim.Native.Nat.{ℕ, suc, _^_, _≤_, _<_}
+use lib.ListN.{length}
+use Rattle.records.specs.paper.Plan.{Plan, Fact, Node, literal, fact, conj, disj, neg, Edge, Election, Decision, Cut, Attachment, Bar, Status, factsRise, decidedOnce, unresolved, booleanFact}
+use Rattle.records.specs.paper.Case.{Case, CaseHeading, Boolean, Relation, Observation, relationSound}
+
+-- of each entry of a list
+abbrev pub All : {A : Type 0} → (A → Type 0) → List A → Type 0
+All Q [] = Unit {0}
+All Q (x ∷ xs) = Q x × All Q xs
+
+abbrev pub Numbers : ℕ → ℕ → List ℕ → Type 0
+Numbers most bound ns = (length ns ≤ most) × All (λ n. n < bound) ns
+
+module _ (P : Plan) where
+  -- the node of number k: its fact is one, its children are lower
+  abbrev pub SoundNode : ℕ → Node → Type 0
+  SoundNode k (literal b) = b < 2
+  SoundNode k (fact f) = f < length (P .facts)
+  SoundNode k (conj is) = Numbers 16 k is
+  SoundNode k (disj is) = Numbers 16 k is
+  SoundNode k (neg i) = i < k
+
+  abbrev pub SoundNodes : ℕ → List Node → Type 0
+  SoundNodes k [] = Unit {0}
+  SoundNodes k (n ∷ ns) = SoundNode k n × SoundNodes (suc k) ns
+
+  pub record SoundElection (e : Election) : Type 0 where
+    pub fact : booleanFact P (e .fact) ≡ true
+    pub actor : e .actor < 256
+    pub policy : e .policy < 3
+    pub citation : e .citation < 64
+
+  pub record SoundEdge (e : Edge) : Type 0 where
+    pub left : e .left < 64
+    pub right : e .right < 64
+    pub condition : e .condition < length (P .nodes)
+    pub citation : e .citation < 64
+    pub defeaters : Numbers 16 (length (P .nodes)) (e .defeaters)
+
+  pub record SoundDecision (d : Decision) : Type 0 where
+    pub edge : d .edge < length (P .edges)
+    pub verdict : d .verdict < 4
+
+  pub record SoundCut (c : Cut) : Type 0 where
+    pub members : c .members < 2 ^ 64
+    pub condition : c .condition < length (P .nodes)
+    pub citation : c .citation < 64
+    pub election : All SoundElection (c .election)
+    pub few : length (c .decisions) ≤ 64
+    pub decisions : All SoundDecision (c .decisions)
+    pub once : decidedOnce (c .decisions) ≡ true
+    pub precedes : Numbers 16 (length (P .cuts)) (c .precedes)
+
+  pub record SoundAttachment (a : Attachment) : Type 0 where
+    pub members : a .members < 2 ^ 64
+    pub anchor : a .anchor < 64
+    pub condition : a .condition < length (P .nodes)
+    pub citation : a .citation < 64
+    pub actor : a .actor < 256
+    pub election : All SoundElection (a .election)
+
+  pub record SoundBar (b : Bar) : Type 0 where
+    pub members : b .members < 2 ^ 64
+    pub condition : b .condition < length (P .nodes)
+    pub citation : b .citation < 64
+
+  pub record SoundStatus (t : Status) : Type 0 where
+    pub person : t .person < 64
+    pub condition : t .condition < length (P .nodes)
+    pub citation : t .citation < 64
+
+-- the tuple of a fact
+abbrev pub SoundFact : Fact → Type 0
+SoundFact f = Numbers 4 64 (f .tuple)
+
+-- WHAT AN ACCEPTED PLAN IS
+pub record Sound (P : Plan) : Type 0 where
+  pub heading : length (P .headings) ≡ 1
+  pub factLimit : length (P .facts) ≤ 64
+  pub facts : All SoundFact (P .facts)
+  pub rise : factsRise (P .facts) ≡ true
+  pub nodeLimit : length (P .nodes) ≤ 256
+  pub nodes : SoundNodes P 0 (P .nodes)
+  pub edgeLimit : length (P .edges) ≤ 64
+  pub edges : All (SoundEdge P) (P .edges)
+  pub cutLimit : length (P .cuts) ≤ 16
+  pub cuts : All (SoundCut P) (P .cuts)
+  pub decisionLimit : unresolved (P .cuts) ≤ 16
+  pub attachmentLimit : length (P .attachments) ≤ 32
+  pub attachments : All (SoundAttachment P) (P .attachments)
+  pub barLimit : length (P .bars) ≤ 32
+  pub bars : All (SoundBar P) (P .bars)
+  pub statusLimit : length (P .statuses) ≤ 32
+  pub statuses : All (SoundStatus P) (P .statuses)
+
+pub record SoundHeading (h : CaseHeading) : Type 0 where
+  pub roster : h .roster < 2 ^ 64
+  pub mostWorlds : h .mostWorlds ≤ 4096
+
+pub record SoundObservation (o : Observation) : Type 0 where
+  pub value : o .value < 2
+  pub evidence : o .evidence < 64
+
+pub record SoundBoolean (P : Plan) (b : Boolean) : Type 0 where
+  pub fact : booleanFact P (b .fact) ≡ true
+  pub unknown : Numbers 1 64 (b .unknown)
+  pub few : length (b .observations) ≤ 16
+  pub observations : All SoundObservation (b .observations)
+
+pub record SoundRelation (P : Plan) (C : Case) (r : Relation) : Type 0 where
+  pub sort : relationSound P C r ≡ true
+  pub observation : SoundObservation (r .observation)
+
+-- WHAT AN ACCEPTED CASE IS, over its plan
+pub record SoundCase (P : Plan) (C : Case) : Type 0 where
+  pub heading : length (C .headings) ≡ 1
+  pub headings : All SoundHeading (C .headings)
+  pub familyLimit : length (C .families) ≤ 16
+  pub booleanLimit : length (C .booleans) ≤ 64
+  pub booleans : All (SoundBoolean P) (C .booleans)
+  pub relationLimit : length (C .relations) ≤ 256
+  pub relations : All (SoundRelation P C) (C .relations)
+  pub constraints : Numbers 16 (length (P .nodes)) (C .constraints)

@@ -1,0 +1,125 @@
+// A case out of its bytes, kind after kind, then over its plan.
+pub mod booleans;
+pub mod constraints;
+pub mod families;
+pub mod heading;
+pub mod relations;
+
+use crate::case::Case;
+use crate::case::naming::case_naming;
+use crate::case::reading::booleans::no_booleans;
+use crate::case::reading::booleans::read_booleans;
+use crate::case::reading::constraints::no_constraints;
+use crate::case::reading::constraints::read_constraints;
+use crate::case::reading::families::no_families;
+use crate::case::reading::families::read_families;
+use crate::case::reading::heading::no_heading;
+use crate::case::reading::heading::read_case_heading;
+use crate::case::reading::relations::no_relations;
+use crate::case::reading::relations::read_relations;
+use crate::checked::Checked;
+use crate::plan::Plan;
+ghost use mathlib.Core.Path.{_≡_};
+ghost use Rattle.records.specs.paper.Case.{caseRecords, readCase};
+ghost use Rattle.records.specs.code.Decoded.{planOf};
+ghost use Rattle.records.specs.code.CaseRead.{caseReadOf};
+
+// number 0: read; else the refusal and its record
+pub struct CaseRead {
+    pub number: u8,
+    pub record: usize,
+    pub case: Case,
+}
+
+fn refused(number: u8, k: usize) -> CaseRead
+    ensures { λ r. ⌜ (r .number ≡ number) × (r .record ≡ k) ⌝ }
+{
+    let heading = no_heading();
+    let families = no_families();
+    let booleans = no_booleans();
+    let relations = no_relations();
+    let constraints = no_constraints();
+    let case = Case {
+        headings: 0,
+        heading: heading,
+        families: families,
+        booleans: booleans,
+        relations: relations,
+        constraints: constraints,
+    };
+    CaseRead {
+        number: number,
+        record: k,
+        case: case,
+    }
+}
+
+pub fn read_case_records(s: &[u8]) -> CaseRead
+    ensures { λ r. ⌜ caseReadOf r ≡ caseRecords (now (s .entry)) ⌝ }
+{
+    let h = read_case_heading(s);
+    if h.number != 0 {
+        return refused(h.number, h.record);
+    }
+    let headed = h.headings == 1;
+    let f = read_families(s, h.at, h.record, headed);
+    if f.number != 0 {
+        return refused(f.number, f.record);
+    }
+    let b = read_booleans(s, f.at, f.record, headed);
+    if b.number != 0 {
+        return refused(b.number, b.record);
+    }
+    let r = read_relations(s, b.at, b.record, headed);
+    if r.number != 0 {
+        return refused(r.number, r.record);
+    }
+    let c = read_constraints(s, r.at, r.record, headed);
+    if c.number != 0 {
+        return refused(c.number, c.record);
+    }
+    if c.at < s.len() {
+        return refused(1, c.record);
+    }
+    if c.record == 0 {
+        return refused(3, 0);
+    }
+    let heading = h.heading;
+    let families = f.families;
+    let booleans = b.booleans;
+    let relations = r.relations;
+    let constraints = c.constraints;
+    let case = Case {
+        headings: h.headings,
+        heading: heading,
+        families: families,
+        booleans: booleans,
+        relations: relations,
+        constraints: constraints,
+    };
+    CaseRead {
+        number: 0,
+        record: 0,
+        case: case,
+    }
+}
+
+// A case over its plan: refusals 1, 2 and 3 as records are read, then 4 over all of them.
+pub fn read_case(plan: Plan, s: &[u8]) -> CaseRead
+    ensures { λ r. ⌜ caseReadOf r ≡ readCase (planOf plan) (now (s .entry)) ⌝ }
+{
+    let read = read_case_records(s);
+    if read.number != 0 {
+        return read;
+    }
+    let case = read.case;
+    let named = case_naming(plan, case);
+    let Checked::Refused { number, record } = named else {
+        return read;
+    };
+    CaseRead {
+        number: number,
+        record: record,
+        case: case,
+    }
+}

@@ -1,0 +1,126 @@
+// Booleans: one record from its bit map on, and the pass over all of them.
+use crate::case::Boolean;
+use crate::case::Booleans;
+use crate::case::Observations;
+use crate::fields::Field;
+use crate::fields::Listed;
+use crate::fields::byte_at;
+use crate::fields::judge::judged;
+use crate::fields::lists::observations_from;
+use crate::fields::opt_at;
+use crate::fields::pairs_at;
+ghost use mathlib.Core.Path.{_≡_};
+ghost use mathlib.Core.List.{[]};
+ghost use Prim.Native.Nat.{_≤_, _+_};
+ghost use lib.ListN.{length};
+ghost use Rattle.records.specs.paper.Case.{caseFormats};
+ghost use Rattle.records.specs.code.Readers.{mapRead};
+ghost use Rattle.records.specs.code.Passes.{rawOf, seenBy, Passed};
+ghost use Rattle.records.specs.paper.Case.{booleanBy};
+ghost use Rattle.records.specs.code.CasePasses.{caseReading, booleanRead, booleanFits, booleansOf, withBooleans};
+
+// The bits, the fact, the evidence of its being unknown, where the observations stand and how many there are, and the place after them.
+pub enum BooleanSeen {
+    Got(u8, u8, u8, usize, u8, usize),
+    Bad,
+}
+
+pub fn boolean_at(s: &[u8], at: usize) -> BooleanSeen
+    ensures { λ r. ⌜ (booleanRead (now (s .entry)) r ≡ mapRead (seenBy booleanBy) (rawOf caseFormats 3 (now (s .entry)) at)) × booleanFits (now (s .entry)) r ⌝ }
+{
+    let Field::Got(bits, p) = byte_at(s, at, 0, 255) else {
+        return BooleanSeen::Bad;
+    };
+    let Field::Got(fact, p0) = opt_at(s, p, bits % 2 == 1, 0, 255) else {
+        return BooleanSeen::Bad;
+    };
+    let Field::Got(evidence, p1) = opt_at(s, p0, bits / 2 % 2 == 1, 0, 63) else {
+        return BooleanSeen::Bad;
+    };
+    let Listed::Got(first, count, next) = pairs_at(s, p1, bits / 4 % 2 == 1, 16, 1, 0, 63) else {
+        return BooleanSeen::Bad;
+    };
+    if bits / 8 == 0 {
+        return BooleanSeen::Got(bits, fact, evidence, first, count, next);
+    }
+    BooleanSeen::Bad
+}
+
+// number 0: all were read, and `at` is the place after them
+pub struct BooleansRead {
+    pub number: u8,
+    pub record: usize,
+    pub at: usize,
+    pub booleans: Booleans,
+}
+
+pub fn no_booleans() -> Booleans
+    ensures { λ r. ⌜ (booleansOf r ≡ []) × (r .count ≡ 0) × (length (r .items) ≡ 64) ⌝ }
+{
+    let none = Observations {
+        count: 0,
+        values: [0; 16],
+        evidence: [0; 16],
+    };
+    let blank = Boolean {
+        fact: 0,
+        unknown: false,
+        evidence: 0,
+        observations: none,
+    };
+    Booleans {
+        count: 0,
+        items: [blank; 64],
+    }
+}
+
+pub fn read_booleans(s: &[u8], start: usize, before: usize, headed: bool) -> BooleansRead
+    requires { ⌜ before ≤ start ⌝ }
+    ensures { λ r.
+        ⌜ Passed caseReading withBooleans 3 (now (s .entry)) headed start before (r .number) (r .record) (r .at) (booleansOf (r .booleans))
+        × (r .record ≤ r .at) ⌝ }
+{
+    let mut booleans = no_booleans();
+    let mut at = start;
+    let mut k = before;
+    while at < s.len() {
+        if s[at] != 3 {
+            break;
+        }
+        let BooleanSeen::Got(bits, fact, evidence, first, count, next) = boolean_at(s, at + 1)
+        else {
+            return BooleansRead {
+                number: 1,
+                record: k,
+                at: at,
+                booleans: booleans,
+            };
+        };
+        let n = booleans.count;
+        let number = judged(n, 64, false, bits & 1 == 1, headed, true);
+        if number != 0 {
+            return BooleansRead {
+                number: number,
+                record: k,
+                at: at,
+                booleans: booleans,
+            };
+        }
+        let observations = observations_from(s, first, count);
+        booleans.items[n] = Boolean {
+            fact: fact,
+            unknown: bits / 2 % 2 == 1,
+            evidence: evidence,
+            observations: observations,
+        };
+        booleans.count = n + 1;
+        at = next;
+        k = k + 1;
+    }
+    BooleansRead {
+        number: 0,
+        record: k,
+        at: at,
+        booleans: booleans,
+    }
+}

@@ -1,0 +1,116 @@
+// Families: one record from its bit map on, and the pass over all of them.
+use crate::case::Families;
+use crate::case::Family;
+use crate::fields::Field;
+use crate::fields::byte_at;
+use crate::fields::judge::judged;
+use crate::fields::opt_at;
+ghost use mathlib.Core.Path.{_≡_};
+ghost use mathlib.Core.List.{[]};
+ghost use Prim.Native.Nat.{_≤_, _+_};
+ghost use lib.ListN.{length};
+ghost use Rattle.records.specs.paper.Case.{caseFormats};
+ghost use Rattle.records.specs.code.Readers.{mapRead};
+ghost use Rattle.records.specs.code.Passes.{rawOf, seenBy, Passed};
+ghost use Rattle.records.specs.paper.Case.{familyBy};
+ghost use Rattle.records.specs.code.CasePasses.{caseReading, familyRead, familiesOf, withFamilies};
+
+// The bits, the family, and the place after it.
+pub enum FamilySeen {
+    Got(u8, Family, usize),
+    Bad,
+}
+
+pub fn family_at(s: &[u8], at: usize) -> FamilySeen
+    ensures { λ r. ⌜ familyRead r ≡ mapRead (seenBy familyBy) (rawOf caseFormats 2 (now (s .entry)) at) ⌝ }
+{
+    let Field::Got(bits, p) = byte_at(s, at, 0, 255) else {
+        return FamilySeen::Bad;
+    };
+    let Field::Got(number, p0) = opt_at(s, p, bits % 2 == 1, 0, 255) else {
+        return FamilySeen::Bad;
+    };
+    let Field::Got(scope, p1) = opt_at(s, p0, bits / 2 % 2 == 1, 0, 255) else {
+        return FamilySeen::Bad;
+    };
+    let Field::Got(evidence, next) = opt_at(s, p1, bits / 4 % 2 == 1, 0, 63) else {
+        return FamilySeen::Bad;
+    };
+    if bits / 8 == 0 {
+        let family = Family {
+            number: number,
+            scope: scope,
+            complete: bits / 4 % 2 == 1,
+            evidence: evidence,
+        };
+        return FamilySeen::Got(bits, family, next);
+    }
+    FamilySeen::Bad
+}
+
+// number 0: all were read, and `at` is the place after them
+pub struct FamiliesRead {
+    pub number: u8,
+    pub record: usize,
+    pub at: usize,
+    pub families: Families,
+}
+
+pub fn no_families() -> Families
+    ensures { λ r. ⌜ (familiesOf r ≡ []) × (r .count ≡ 0) × (length (r .items) ≡ 16) ⌝ }
+{
+    let blank = Family {
+        number: 0,
+        scope: 0,
+        complete: false,
+        evidence: 0,
+    };
+    Families {
+        count: 0,
+        items: [blank; 16],
+    }
+}
+
+pub fn read_families(s: &[u8], start: usize, before: usize, headed: bool) -> FamiliesRead
+    requires { ⌜ before ≤ start ⌝ }
+    ensures { λ r.
+        ⌜ Passed caseReading withFamilies 2 (now (s .entry)) headed start before (r .number) (r .record) (r .at) (familiesOf (r .families))
+        × (r .record ≤ r .at) ⌝ }
+{
+    let mut families = no_families();
+    let mut at = start;
+    let mut k = before;
+    while at < s.len() {
+        if s[at] != 2 {
+            break;
+        }
+        let FamilySeen::Got(bits, family, next) = family_at(s, at + 1) else {
+            return FamiliesRead {
+                number: 1,
+                record: k,
+                at: at,
+                families: families,
+            };
+        };
+        let n = families.count;
+        let number = judged(n, 16, false, bits & 1 == 1, headed, true);
+        if number != 0 {
+            return FamiliesRead {
+                number: number,
+                record: k,
+                at: at,
+                families: families,
+            };
+        }
+        families.items[n] = family;
+        families.count = n + 1;
+        at = next;
+        k = k + 1;
+    }
+    FamiliesRead {
+        number: 0,
+        record: k,
+        at: at,
+        families: families,
+    }
+}

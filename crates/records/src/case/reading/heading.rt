@@ -1,0 +1,134 @@
+// The heading of a case: one record from its bit map on, and the pass over all of them.
+use crate::case::CaseHeading;
+use crate::fields::Field;
+use crate::fields::Short;
+use crate::fields::Wide;
+use crate::fields::byte_at;
+use crate::fields::judge::judged;
+use crate::fields::mask_at;
+use crate::fields::opt_at;
+use crate::fields::short_at;
+ghost use mathlib.Core.Path.{_≡_};
+ghost use mathlib.Core.Bool.{false};
+ghost use Prim.Native.Nat.{_≤_};
+ghost use Rattle.records.specs.paper.Case.{caseFormats, headingOf, caseHeading, emptyCase};
+ghost use Rattle.records.specs.code.Decoded.{caseHeadingOf};
+ghost use Rattle.records.specs.code.Readers.{mapRead};
+ghost use Rattle.records.specs.code.Passes.{rawOf, seenBy, Passed};
+ghost use Rattle.records.specs.code.CasePasses.{caseReading, headingRead, headingsBy, withHeadings};
+
+// The bits, the heading, and the place after it.
+pub enum HeadingSeen {
+    Got(u8, CaseHeading, usize),
+    Bad,
+}
+
+pub fn heading_at(s: &[u8], at: usize) -> HeadingSeen
+    ensures { λ r. ⌜ headingRead r ≡ mapRead (seenBy headingOf) (rawOf caseFormats 1 (now (s .entry)) at) ⌝ }
+{
+    let Field::Got(bits, p) = byte_at(s, at, 0, 255) else {
+        return HeadingSeen::Bad;
+    };
+    let Field::Got(relation, p0) = opt_at(s, p, bits % 2 == 1, 0, 255) else {
+        return HeadingSeen::Bad;
+    };
+    let Field::Got(scope, p1) = opt_at(s, p0, bits / 2 % 2 == 1, 0, 255) else {
+        return HeadingSeen::Bad;
+    };
+    let Field::Got(segment, p2) = opt_at(s, p1, bits / 4 % 2 == 1, 0, 255) else {
+        return HeadingSeen::Bad;
+    };
+    let Wide::Got(roster, p4) = mask_at(s, p2, bits / 16 % 2 == 1) else {
+        return HeadingSeen::Bad;
+    };
+    let Field::Got(evidence, p5) = opt_at(s, p4, bits / 32 % 2 == 1, 0, 63) else {
+        return HeadingSeen::Bad;
+    };
+    let Short::Got(most, next) = short_at(s, p5, bits / 64 % 2 == 1) else {
+        return HeadingSeen::Bad;
+    };
+    if bits / 128 == 0 {
+        let heading = CaseHeading {
+            relation: relation,
+            scope: scope,
+            segment: segment,
+            segment_complete: bits / 8 % 2 == 1,
+            roster: roster,
+            complete: bits / 32 % 2 == 1,
+            evidence: evidence,
+            most_worlds: most,
+        };
+        return HeadingSeen::Got(bits, heading, next);
+    }
+    HeadingSeen::Bad
+}
+
+// number 0: `at` is the place after the heading; `headings` is 1 once it is read
+pub struct CaseHeadingRead {
+    pub number: u8,
+    pub record: usize,
+    pub at: usize,
+    pub headings: usize,
+    pub heading: CaseHeading,
+}
+
+pub fn no_heading() -> CaseHeading
+    ensures { λ r. ⌜ caseHeadingOf r ≡ caseHeading emptyCase ⌝ }
+{
+    CaseHeading {
+        relation: 0,
+        scope: 0,
+        segment: 0,
+        segment_complete: false,
+        roster: 0,
+        complete: false,
+        evidence: 0,
+        most_worlds: 0,
+    }
+}
+
+pub fn read_case_heading(s: &[u8]) -> CaseHeadingRead
+    ensures { λ r.
+        ⌜ Passed caseReading withHeadings 1 (now (s .entry)) false 0 0 (r .number) (r .record) (r .at) (headingsBy (r .headings) (r .heading))
+        × (r .record ≤ r .at) × (r .headings ≤ 1) ⌝ }
+{
+    let mut headings: usize = 0;
+    let mut heading = no_heading();
+    let mut at: usize = 0;
+    let mut k: usize = 0;
+    while at < s.len() {
+        if s[at] != 1 {
+            break;
+        }
+        let HeadingSeen::Got(bits, seen, next) = heading_at(s, at + 1) else {
+            return CaseHeadingRead {
+                number: 1,
+                record: k,
+                at: at,
+                headings: headings,
+                heading: heading,
+            };
+        };
+        let number = judged(headings, 1, false, bits & 81 == 81, true, true);
+        if number != 0 {
+            return CaseHeadingRead {
+                number: number,
+                record: k,
+                at: at,
+                headings: headings,
+                heading: heading,
+            };
+        }
+        headings = 1;
+        heading = seen;
+        at = next;
+        k = k + 1;
+    }
+    CaseHeadingRead {
+        number: 0,
+        record: k,
+        at: at,
+        headings: headings,
+        heading: heading,
+    }
+}

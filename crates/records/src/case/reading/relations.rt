@@ -1,0 +1,114 @@
+// Relations: one record from its bit map on, and the pass over all of them.
+use crate::case::Relation;
+use crate::case::Relations;
+use crate::fields::Field;
+use crate::fields::byte_at;
+use crate::fields::judge::judged;
+use crate::fields::opt_at;
+ghost use mathlib.Core.Path.{_≡_};
+ghost use mathlib.Core.List.{[]};
+ghost use Prim.Native.Nat.{_≤_, _+_};
+ghost use lib.ListN.{length};
+ghost use Rattle.records.specs.paper.Case.{caseFormats};
+ghost use Rattle.records.specs.code.Readers.{mapRead};
+ghost use Rattle.records.specs.code.Passes.{rawOf, seenBy, Passed};
+ghost use Rattle.records.specs.paper.Case.{relationBy};
+ghost use Rattle.records.specs.code.CasePasses.{caseReading, relationRead, relationsOf, withRelations};
+
+// The bits, the relation, and the place after it.
+pub enum RelationSeen {
+    Got(u8, Relation, usize),
+    Bad,
+}
+
+pub fn relation_at(s: &[u8], at: usize) -> RelationSeen
+    ensures { λ r. ⌜ relationRead r ≡ mapRead (seenBy relationBy) (rawOf caseFormats 4 (now (s .entry)) at) ⌝ }
+{
+    let Field::Got(bits, p) = byte_at(s, at, 0, 255) else {
+        return RelationSeen::Bad;
+    };
+    let Field::Got(fact, p0) = opt_at(s, p, bits % 2 == 1, 0, 255) else {
+        return RelationSeen::Bad;
+    };
+    let Field::Got(value, p1) = opt_at(s, p0, bits / 2 % 2 == 1, 0, 1) else {
+        return RelationSeen::Bad;
+    };
+    let Field::Got(evidence, next) = opt_at(s, p1, bits / 4 % 2 == 1, 0, 63) else {
+        return RelationSeen::Bad;
+    };
+    if bits / 8 == 0 {
+        let relation = Relation {
+            fact: fact,
+            value: value,
+            evidence: evidence,
+        };
+        return RelationSeen::Got(bits, relation, next);
+    }
+    RelationSeen::Bad
+}
+
+// number 0: all were read, and `at` is the place after them
+pub struct RelationsRead {
+    pub number: u8,
+    pub record: usize,
+    pub at: usize,
+    pub relations: Relations,
+}
+
+pub fn no_relations() -> Relations
+    ensures { λ r. ⌜ (relationsOf r ≡ []) × (r .count ≡ 0) × (length (r .items) ≡ 256) ⌝ }
+{
+    let blank = Relation {
+        fact: 0,
+        value: 0,
+        evidence: 0,
+    };
+    Relations {
+        count: 0,
+        items: [blank; 256],
+    }
+}
+
+pub fn read_relations(s: &[u8], start: usize, before: usize, headed: bool) -> RelationsRead
+    requires { ⌜ before ≤ start ⌝ }
+    ensures { λ r.
+        ⌜ Passed caseReading withRelations 4 (now (s .entry)) headed start before (r .number) (r .record) (r .at) (relationsOf (r .relations))
+        × (r .record ≤ r .at) ⌝ }
+{
+    let mut relations = no_relations();
+    let mut at = start;
+    let mut k = before;
+    while at < s.len() {
+        if s[at] != 4 {
+            break;
+        }
+        let RelationSeen::Got(bits, relation, next) = relation_at(s, at + 1) else {
+            return RelationsRead {
+                number: 1,
+                record: k,
+                at: at,
+                relations: relations,
+            };
+        };
+        let n = relations.count;
+        let number = judged(n, 256, false, bits & 7 == 7, headed, true);
+        if number != 0 {
+            return RelationsRead {
+                number: number,
+                record: k,
+                at: at,
+                relations: relations,
+            };
+        }
+        relations.items[n] = relation;
+        relations.count = n + 1;
+        at = next;
+        k = k + 1;
+    }
+    RelationsRead {
+        number: 0,
+        record: k,
+        at: at,
+        relations: relations,
+    }
+}

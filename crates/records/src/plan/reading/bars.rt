@@ -1,0 +1,116 @@
+// Bars: one record from its bit map on, and the pass over all of them.
+use crate::fields::Field;
+use crate::fields::Wide;
+use crate::fields::byte_at;
+use crate::fields::judge::judged;
+use crate::fields::mask_at;
+use crate::fields::opt_at;
+use crate::plan::Bar;
+use crate::plan::Bars;
+ghost use mathlib.Core.Path.{_≡_};
+ghost use mathlib.Core.List.{[]};
+ghost use Prim.Native.Nat.{_≤_, _+_};
+ghost use lib.ListN.{length};
+ghost use Rattle.records.specs.paper.Plan.{planFormats};
+ghost use Rattle.records.specs.code.Readers.{mapRead};
+ghost use Rattle.records.specs.code.Passes.{rawOf, seenBy, Passed};
+ghost use Rattle.records.specs.paper.Plan.{barFrom};
+ghost use Rattle.records.specs.code.PlanPasses.{planReading, barRead, barsOf, withBars};
+
+// The bits, the bar, and the place after it.
+pub enum BarSeen {
+    Got(u8, Bar, usize),
+    Bad,
+}
+
+pub fn bar_at(s: &[u8], at: usize) -> BarSeen
+    ensures { λ r. ⌜ barRead r ≡ mapRead (seenBy barFrom) (rawOf planFormats 7 (now (s .entry)) at) ⌝ }
+{
+    let Field::Got(bits, p) = byte_at(s, at, 0, 255) else {
+        return BarSeen::Bad;
+    };
+    let Wide::Got(members, p0) = mask_at(s, p, bits % 2 == 1) else {
+        return BarSeen::Bad;
+    };
+    let Field::Got(condition, p1) = opt_at(s, p0, bits / 2 % 2 == 1, 0, 255) else {
+        return BarSeen::Bad;
+    };
+    let Field::Got(citation, next) = opt_at(s, p1, bits / 4 % 2 == 1, 0, 63) else {
+        return BarSeen::Bad;
+    };
+    if bits / 8 == 0 {
+        let bar = Bar {
+            members: members,
+            condition: condition,
+            citation: citation,
+        };
+        return BarSeen::Got(bits, bar, next);
+    }
+    BarSeen::Bad
+}
+
+// number 0: all were read, and `at` is the place after them
+pub struct BarsRead {
+    pub number: u8,
+    pub record: usize,
+    pub at: usize,
+    pub bars: Bars,
+}
+
+pub fn no_bars() -> Bars
+    ensures { λ r. ⌜ (barsOf r ≡ []) × (r .count ≡ 0) × (length (r .items) ≡ 32) ⌝ }
+{
+    let blank = Bar {
+        members: 0,
+        condition: 0,
+        citation: 0,
+    };
+    Bars {
+        count: 0,
+        items: [blank; 32],
+    }
+}
+
+pub fn read_bars(s: &[u8], start: usize, before: usize, headed: bool) -> BarsRead
+    requires { ⌜ before ≤ start ⌝ }
+    ensures { λ r.
+        ⌜ Passed planReading withBars 7 (now (s .entry)) headed start before (r .number) (r .record) (r .at) (barsOf (r .bars))
+        × (r .record ≤ r .at) ⌝ }
+{
+    let mut bars = no_bars();
+    let mut at = start;
+    let mut k = before;
+    while at < s.len() {
+        if s[at] != 7 {
+            break;
+        }
+        let BarSeen::Got(bits, bar, next) = bar_at(s, at + 1) else {
+            return BarsRead {
+                number: 1,
+                record: k,
+                at: at,
+                bars: bars,
+            };
+        };
+        let n = bars.count;
+        let number = judged(n, 32, false, bits & 7 == 7, headed, true);
+        if number != 0 {
+            return BarsRead {
+                number: number,
+                record: k,
+                at: at,
+                bars: bars,
+            };
+        }
+        bars.items[n] = bar;
+        bars.count = n + 1;
+        at = next;
+        k = k + 1;
+    }
+    BarsRead {
+        number: 0,
+        record: k,
+        at: at,
+        bars: bars,
+    }
+}

@@ -1,0 +1,195 @@
+// Cuts: one record from its bit map on, and the pass over all of them.
+use crate::fields::Elected;
+use crate::fields::Field;
+use crate::fields::Listed;
+use crate::fields::Wide;
+use crate::fields::byte_at;
+use crate::fields::election_at;
+use crate::fields::judge::judged;
+use crate::fields::list_at;
+use crate::fields::lists::decisions_from;
+use crate::fields::lists::numbers_from;
+use crate::fields::mask_at;
+use crate::fields::no_election;
+use crate::fields::opt_at;
+use crate::fields::pairs_at;
+use crate::plan::Cut;
+use crate::plan::Cuts;
+use crate::plan::Decisions;
+use crate::plan::Election;
+use crate::plan::Numbers;
+use crate::plan::checks::decisions::decided_once;
+use crate::plan::checks::decisions::unresolved_in;
+ghost use mathlib.Core.Path.{_≡_};
+ghost use mathlib.Core.Bool.{true, false};
+ghost use mathlib.Core.List.{[]};
+ghost use Prim.Native.Nat.{_≤_};
+ghost use lib.ListN.{length};
+ghost use lib.Dec.{ltb};
+ghost use Rattle.records.specs.paper.Sets.{allOf};
+ghost use Rattle.records.specs.paper.Plan as paper;
+ghost use Rattle.records.specs.code.Readers.{mapRead};
+ghost use Rattle.records.specs.code.Passes.{rawOf, seenBy, Passed};
+ghost use Rattle.records.specs.code.Decoded.{cutOf};
+ghost use Rattle.records.specs.code.PlanPasses.{planReading, cutRead, cutFits, cutsOf, withCuts, cutSeen, cutAnswerFits};
+
+// The fields of a cut; where the decisions stand and how many there are, the same of the cuts that it precedes.
+pub struct CutFields {
+    pub members: u64,
+    pub condition: u8,
+    pub citation: u8,
+    pub election: Election,
+    pub pairs: usize,
+    pub decided: u8,
+    pub first: usize,
+    pub count: u8,
+}
+
+// The bits, the fields, and the place after them.
+pub enum CutSeen {
+    Got(u8, CutFields, usize),
+    Bad,
+}
+
+pub fn cut_at(s: &[u8], at: usize) -> CutSeen
+    ensures { λ r. ⌜ (cutRead (now (s .entry)) r ≡ mapRead (seenBy paper.cutOf) (rawOf paper.planFormats 5 (now (s .entry)) at)) × cutAnswerFits (now (s .entry)) r ⌝ }
+{
+    let Field::Got(bits, p) = byte_at(s, at, 0, 255) else {
+        return CutSeen::Bad;
+    };
+    let Wide::Got(members, p0) = mask_at(s, p, bits % 2 == 1) else {
+        return CutSeen::Bad;
+    };
+    let Field::Got(condition, p1) = opt_at(s, p0, bits / 2 % 2 == 1, 0, 255) else {
+        return CutSeen::Bad;
+    };
+    let Field::Got(citation, p2) = opt_at(s, p1, bits / 4 % 2 == 1, 0, 63) else {
+        return CutSeen::Bad;
+    };
+    let Elected::Got(election, p3) = election_at(s, p2, bits / 8 % 2 == 1) else {
+        return CutSeen::Bad;
+    };
+    let Listed::Got(pairs, decided, p4) = pairs_at(s, p3, bits / 16 % 2 == 1, 64, 255, 1, 3) else {
+        return CutSeen::Bad;
+    };
+    let Listed::Got(first, count, next) = list_at(s, p4, bits / 32 % 2 == 1, 16, 255) else {
+        return CutSeen::Bad;
+    };
+    if bits / 64 == 0 {
+        let fields = CutFields {
+            members: members,
+            condition: condition,
+            citation: citation,
+            election: election,
+            pairs: pairs,
+            decided: decided,
+            first: first,
+            count: count,
+        };
+        return CutSeen::Got(bits, fields, next);
+    }
+    CutSeen::Bad
+}
+
+fn cut_from(s: &[u8], fields: CutFields) -> Cut
+    requires { ⌜ cutFits (now s) fields ⌝ }
+    ensures { λ r. ⌜ (cutOf r ≡ cutSeen (now (s .entry)) fields) × (r .decisions .count ≤ 64) ⌝ }
+{
+    let decisions = decisions_from(s, fields.pairs, fields.decided);
+    let precedes = numbers_from(s, fields.first, fields.count);
+    let election = fields.election;
+    Cut {
+        members: fields.members,
+        condition: fields.condition,
+        citation: fields.citation,
+        election: election,
+        decisions: decisions,
+        precedes: precedes,
+    }
+}
+
+// number 0: all were read, and `at` is the place after them
+pub struct CutsRead {
+    pub number: u8,
+    pub record: usize,
+    pub at: usize,
+    pub cuts: Cuts,
+}
+
+pub fn no_cuts() -> Cuts
+    ensures { λ r. ⌜ (cutsOf r ≡ []) × (r .count ≡ 0) × (length (r .items) ≡ 16) ⌝ }
+{
+    let election = no_election();
+    let decisions = Decisions {
+        count: 0,
+        edges: [0; 64],
+        verdicts: [0; 64],
+    };
+    let precedes = Numbers {
+        count: 0,
+        items: [0; 16],
+    };
+    let blank = Cut {
+        members: 0,
+        condition: 0,
+        citation: 0,
+        election: election,
+        decisions: decisions,
+        precedes: precedes,
+    };
+    Cuts {
+        count: 0,
+        items: [blank; 16],
+    }
+}
+
+pub fn read_cuts(s: &[u8], start: usize, before: usize, headed: bool) -> CutsRead
+    requires { ⌜ before ≤ start ⌝ }
+    ensures { λ r.
+        ⌜ Passed planReading withCuts 5 (now (s .entry)) headed start before (r .number) (r .record) (r .at) (cutsOf (r .cuts))
+        × (r .record ≤ r .at) × (ltb 16 (paper.unresolved (cutsOf (r .cuts))) ≡ false)
+        × (allOf (λ c. paper.decidedOnce (c .decisions)) (cutsOf (r .cuts)) ≡ true) ⌝ }
+{
+    let mut cuts = no_cuts();
+    let mut pending: usize = 0;
+    let mut at = start;
+    let mut k = before;
+    while at < s.len() {
+        if s[at] != 5 {
+            break;
+        }
+        let CutSeen::Got(bits, fields, next) = cut_at(s, at + 1) else {
+            return CutsRead {
+                number: 1,
+                record: k,
+                at: at,
+                cuts: cuts,
+            };
+        };
+        let n = cuts.count;
+        let cut = cut_from(s, fields);
+        let decisions = cut.decisions;
+        let total = pending + unresolved_in(decisions);
+        let once = decided_once(decisions);
+        let number = judged(n, 16, 16 < total, bits & 7 == 7, headed, once);
+        if number != 0 {
+            return CutsRead {
+                number: number,
+                record: k,
+                at: at,
+                cuts: cuts,
+            };
+        }
+        cuts.items[n] = cut;
+        cuts.count = n + 1;
+        pending = total;
+        at = next;
+        k = k + 1;
+    }
+    CutsRead {
+        number: 0,
+        record: k,
+        at: at,
+        cuts: cuts,
+    }
+}

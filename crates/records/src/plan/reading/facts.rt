@@ -1,0 +1,137 @@
+// Facts: one record from its bit map on, and the pass over all of them.
+use crate::fields::Field;
+use crate::fields::Listed;
+use crate::fields::byte_at;
+use crate::fields::judge::judged;
+use crate::fields::list_at;
+use crate::fields::lists::tuple_from;
+use crate::fields::opt_at;
+use crate::plan::Fact;
+use crate::plan::Facts;
+use crate::plan::checks::fact_order::fact_rises;
+ghost use mathlib.Core.Path.{_≡_};
+ghost use mathlib.Core.Bool.{true};
+ghost use mathlib.Core.List.{[]};
+ghost use Prim.Native.Nat.{_≤_};
+ghost use lib.ListN.{length};
+ghost use Rattle.records.specs.paper.Plan as paper;
+ghost use Rattle.records.specs.code.Readers.{mapRead};
+ghost use Rattle.records.specs.code.Passes.{rawOf, seenBy, Passed};
+ghost use Rattle.records.specs.paper.Plan.{factBits, factFrom};
+ghost use Rattle.records.specs.code.PlanPasses.{planReading, factRead, factFits, factsOf, withFacts};
+
+// The bits, the family, where the tuple stands and how long it is, and the place after it.
+pub enum FactSeen {
+    Got(u8, u8, usize, u8, usize),
+    Bad,
+}
+
+pub fn fact_at(s: &[u8], at: usize) -> FactSeen
+    ensures { λ r. ⌜ (factRead (now (s .entry)) r ≡ mapRead (seenBy factFrom) (rawOf paper.planFormats 2 (now (s .entry)) at)) × factFits (now (s .entry)) r ⌝ }
+{
+    let Field::Got(bits, p) = byte_at(s, at, 0, 255) else {
+        return FactSeen::Bad;
+    };
+    let Field::Got(family, p0) = opt_at(s, p, bits % 2 == 1, 0, 255) else {
+        return FactSeen::Bad;
+    };
+    let Listed::Got(first, count, next) = list_at(s, p0, bits / 2 % 2 == 1, 4, 63) else {
+        return FactSeen::Bad;
+    };
+    if bits / 4 == 0 {
+        return FactSeen::Got(bits, family, first, count, next);
+    }
+    FactSeen::Bad
+}
+
+// number 0: all were read, and `at` is the place after them
+pub struct FactsRead {
+    pub number: u8,
+    pub record: usize,
+    pub at: usize,
+    pub facts: Facts,
+}
+
+pub fn no_facts() -> Facts
+    ensures { λ r. ⌜ (factsOf r ≡ []) × (r .count ≡ 0) × (length (r .items) ≡ 64) ⌝ }
+{
+    let blank = Fact {
+        boolean: true,
+        family: 0,
+        count: 0,
+        tuple: [0; 4],
+    };
+    Facts {
+        count: 0,
+        items: [blank; 64],
+    }
+}
+
+pub fn read_facts(s: &[u8], start: usize, before: usize, headed: bool) -> FactsRead
+    requires { ⌜ before ≤ start ⌝ }
+    ensures { λ r.
+        ⌜ Passed planReading withFacts 2 (now (s .entry)) headed start before (r .number) (r .record) (r .at) (factsOf (r .facts))
+        × (r .record ≤ r .at) × (paper.factsRise (factsOf (r .facts)) ≡ true) ⌝ }
+{
+    let mut facts = no_facts();
+    let mut last = Fact {
+        boolean: true,
+        family: 0,
+        count: 0,
+        tuple: [0; 4],
+    };
+    let mut at = start;
+    let mut k = before;
+    while at < s.len() {
+        if s[at] != 2 {
+            break;
+        }
+        let FactSeen::Got(bits, family, first, count, next) = fact_at(s, at + 1) else {
+            return FactsRead {
+                number: 1,
+                record: k,
+                at: at,
+                facts: facts,
+            };
+        };
+        let n = facts.count;
+        let tuple = tuple_from(s, first, count);
+        let fact = Fact {
+            boolean: bits % 2 != 1,
+            family: family,
+            count: count,
+            tuple: tuple,
+        };
+        let rises = fact_rises(last, fact);
+        let number = judged(n, 64, false, both_or_none(bits), headed, rises);
+        if number != 0 {
+            return FactsRead {
+                number: number,
+                record: k,
+                at: at,
+                facts: facts,
+            };
+        }
+        facts.items[n] = fact;
+        facts.count = n + 1;
+        last = fact;
+        at = next;
+        k = k + 1;
+    }
+    FactsRead {
+        number: 0,
+        record: k,
+        at: at,
+        facts: facts,
+    }
+}
+
+// "Both bits or, for a boolean fact, neither"
+fn both_or_none(bits: u8) -> bool
+    ensures { λ r. ⌜ r ≡ factBits bits ⌝ }
+{
+    if bits == 3 {
+        return true;
+    }
+    bits == 0
+}

@@ -1,0 +1,114 @@
+// Statuses: one record from its bit map on, and the pass over all of them.
+use crate::fields::Field;
+use crate::fields::byte_at;
+use crate::fields::judge::judged;
+use crate::fields::opt_at;
+use crate::plan::Status;
+use crate::plan::Statuses;
+ghost use mathlib.Core.Path.{_≡_};
+ghost use mathlib.Core.List.{[]};
+ghost use Prim.Native.Nat.{_≤_, _+_};
+ghost use lib.ListN.{length};
+ghost use Rattle.records.specs.paper.Plan.{planFormats};
+ghost use Rattle.records.specs.code.Readers.{mapRead};
+ghost use Rattle.records.specs.code.Passes.{rawOf, seenBy, Passed};
+ghost use Rattle.records.specs.paper.Plan.{statusFrom};
+ghost use Rattle.records.specs.code.PlanPasses.{planReading, statusRead, statusesOf, withStatuses};
+
+// The bits, the status, and the place after it.
+pub enum StatusSeen {
+    Got(u8, Status, usize),
+    Bad,
+}
+
+pub fn status_at(s: &[u8], at: usize) -> StatusSeen
+    ensures { λ r. ⌜ statusRead r ≡ mapRead (seenBy statusFrom) (rawOf planFormats 8 (now (s .entry)) at) ⌝ }
+{
+    let Field::Got(bits, p) = byte_at(s, at, 0, 255) else {
+        return StatusSeen::Bad;
+    };
+    let Field::Got(person, p0) = opt_at(s, p, bits % 2 == 1, 0, 63) else {
+        return StatusSeen::Bad;
+    };
+    let Field::Got(condition, p1) = opt_at(s, p0, bits / 2 % 2 == 1, 0, 255) else {
+        return StatusSeen::Bad;
+    };
+    let Field::Got(citation, next) = opt_at(s, p1, bits / 4 % 2 == 1, 0, 63) else {
+        return StatusSeen::Bad;
+    };
+    if bits / 8 == 0 {
+        let status = Status {
+            person: person,
+            condition: condition,
+            citation: citation,
+        };
+        return StatusSeen::Got(bits, status, next);
+    }
+    StatusSeen::Bad
+}
+
+// number 0: all were read, and `at` is the place after them
+pub struct StatusesRead {
+    pub number: u8,
+    pub record: usize,
+    pub at: usize,
+    pub statuses: Statuses,
+}
+
+pub fn no_statuses() -> Statuses
+    ensures { λ r. ⌜ (statusesOf r ≡ []) × (r .count ≡ 0) × (length (r .items) ≡ 32) ⌝ }
+{
+    let blank = Status {
+        person: 0,
+        condition: 0,
+        citation: 0,
+    };
+    Statuses {
+        count: 0,
+        items: [blank; 32],
+    }
+}
+
+pub fn read_statuses(s: &[u8], start: usize, before: usize, headed: bool) -> StatusesRead
+    requires { ⌜ before ≤ start ⌝ }
+    ensures { λ r.
+        ⌜ Passed planReading withStatuses 8 (now (s .entry)) headed start before (r .number) (r .record) (r .at) (statusesOf (r .statuses))
+        × (r .record ≤ r .at) ⌝ }
+{
+    let mut statuses = no_statuses();
+    let mut at = start;
+    let mut k = before;
+    while at < s.len() {
+        if s[at] != 8 {
+            break;
+        }
+        let StatusSeen::Got(bits, status, next) = status_at(s, at + 1) else {
+            return StatusesRead {
+                number: 1,
+                record: k,
+                at: at,
+                statuses: statuses,
+            };
+        };
+        let n = statuses.count;
+        let number = judged(n, 32, false, bits & 7 == 7, headed, true);
+        if number != 0 {
+            return StatusesRead {
+                number: number,
+                record: k,
+                at: at,
+                statuses: statuses,
+            };
+        }
+        statuses.items[n] = status;
+        statuses.count = n + 1;
+        at = next;
+        k = k + 1;
+    }
+    StatusesRead {
+        number: 0,
+        record: k,
+        at: at,
+        statuses: statuses,
+    }
+}

@@ -1,0 +1,36 @@
+-- The refusals of a case in their order, as the code goes.
+use mathlib.Core.Path.{_≡_}
+use mathlib.Core.Bool.{cond}
+use mathlib.Core.List.{List}
+use Prim.Native.Nat.{ℕ}
+use lib.ListN.{length, replicate}
+use Rattle.records.specs.paper.Case.{caseHeading}
+use Rattle.records.specs.promises.Sound.{Sound, SoundCase}
+use Rattle.records.specs.code.Decoded.{planOf, caseOf}
+use Rattle.records.specs.declared.plan.Plan.{Plan}
+use Rattle.records.specs.declared.case.Case.{Case}
+use Rattle.expressions.specs.paper.Bindings.{bindings, bindable}
+use Rattle.report.specs.paper.Operations.{Opened, orStop, unlessFault, headingFault, counted, bound, Outcome, answerOpened, showOpened}
+use Rattle.report.specs.declared.Answer.{Answer}
+use Rattle.report.specs.declared.run.Wanted.{Wanted}
+
+-- from the refusals 5 and 10 on, and from the heading's on
+unfoldable pub judged : Plan → Case → Opened
+judged plan c = orStop (bindable (caseOf c)) (λ C. counted (planOf plan) C (bindings (planOf plan) C))
+
+unfoldable pub headed : Plan → Case → ℕ → Opened
+headed plan c lineRoom = unlessFault (headingFault (planOf plan) (caseHeading (caseOf c)) lineRoom) (bound (planOf plan) (caseOf c))
+
+-- answering, or showing the world of a number
+abbrev pub outcome : Wanted → ℕ → ℕ → Opened → Outcome
+outcome w lineRoom eventRoom o = cond (w .all) (answerOpened lineRoom eventRoom o) (showOpened (w .number) lineRoom eventRoom o)
+
+pub record Operates (w : Wanted) (o : Opened) (lines₀ lines₁ events₀ events₁ : List ℕ) (r : Answer) : Type 0 where
+  pub outcome : record { answer = r; lines = lines₁; events = events₁ } ≡ outcome w (length lines₀) (length events₀) o
+
+-- an accepted plan and case, and buffers that are all zero
+pub record Opening (plan : Plan) (c : Case) (lines events : List ℕ) : Type 0 where
+  pub sound : Sound (planOf plan)
+  pub sane : SoundCase (planOf plan) (caseOf c)
+  pub zeros : lines ≡ replicate (length lines) 0
+  pub none : events ≡ replicate (length events) 0

@@ -1,0 +1,3 @@
+-- What is promised: the statements of theorems, and what they are about.
+pub mod LineAt
+pub mod Private
