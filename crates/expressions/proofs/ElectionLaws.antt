@@ -7,7 +7,7 @@ use lib.ListN.{length, getD, take, drop, set}
 use lib.Dec.{eqb}
 use borrow.Author.Tests.{eq-eqb, ne-eqb, eqb-true, eqb-false}
 use Rattle.records.specs.paper.Plan as paper
-use Rattle.records.specs.code.Decoded.{given, noElection, planOf, cutOf, attachmentOf, electionOf}
+use Rattle.records.specs.code.Decoded.{ifGiven, noElection, planOf, cutOf, attachmentOf, electionOf}
 use Rattle.records.specs.declared.plan.Election.{Election}
 use Rattle.records.specs.declared.plan.Plan.{Plan}
 use Rattle.expressions.specs.paper.Bindings.{elections, electionsIn, defaultOf}
@@ -66,8 +66,8 @@ one-election : (e : Election) → take 1 (electionOf e) ≡ electionOf e
 unfolding electionOf
 one-election e = pick (e .given)
   where
-    pick : (g : Bool) → take {A = paper.Election} 1 (given g (record { fact = e .fact; actor = e .actor; policy = e .policy; citation = e .citation }))
-        ≡ given g (record { fact = e .fact; actor = e .actor; policy = e .policy; citation = e .citation })
+    pick : (g : Bool) → take {A = paper.Election} 1 (ifGiven g (record { fact = e .fact; actor = e .actor; policy = e .policy; citation = e .citation }))
+        ≡ ifGiven g (record { fact = e .fact; actor = e .actor; policy = e .policy; citation = e .citation })
     pick true = refl
     pick false = refl
 

@@ -32,4 +32,4 @@ module _ (P : Plan) (sound : Sound P) where
   statuses-fit = all-then (SoundStatus P) PersonFits (λ t h. h .person) (P .statuses) (sound .statuses)
 
   pub facts-fit : All TupleFits (P .facts)
-  facts-fit = all-then SoundFact TupleFits (λ f h. h .1) (P .facts) (sound .facts)
+  facts-fit = all-then SoundFact TupleFits (λ f h. h .tuple .1) (P .facts) (sound .facts)

@@ -9,8 +9,8 @@ use lib.Dec.{eqb, ltb}
 use borrow.Author.Tests.{ltb-false}
 use Rattle.records.specs.paper.Sets.{allOf}
 use Rattle.records.specs.paper.Fields.{Raw, formatOf, Verdict, fine, refused, onFine, firstFault}
-use Rattle.records.specs.paper.Plan.{Plan, planFormats, planCounts, addToPlan, judgePlan, emptyPlan, planRecords, planFaults, checkedPlan, unresolved, factsRise, decidedOnce, headingFrom, factFrom, nodeOf, edgeOf, cutOf, attachmentOf, barFrom, statusFrom}
-use Rattle.records.specs.paper.Case.{Case, caseFormats, caseCounts, addToCase, judgeCase, emptyCase, caseRecords, readCase, caseHeading, booleansAt, caseNamingFaults, headingOf, familyBy, booleanBy, relationBy, constraintBy}
+use Rattle.records.specs.paper.Plan.{Plan, planFormats, planCounts, addToPlan, judgePlan, emptyPlan, planRecords, planFaults, checkedPlan, unresolved, factsRise, decidedOnce, headingFrom, factFrom, nodeFrom, edgeFrom, cutFrom, attachmentFrom, barFrom, statusFrom}
+use Rattle.records.specs.paper.Case.{Case, caseFormats, caseCounts, addToCase, judgeCase, emptyCase, caseRecords, readCase, caseHeading, booleansAt, caseNamingFaults, caseHeadingFrom, familyFrom, booleanFrom, relationFrom, constraintFrom}
 use Rattle.records.proofs.ReadLaws.{fine-then, of-fine, to-fine}
 use Rattle.report.specs.paper.Operations.{Opened, orStop, unlessFault, headingFault, bound, opened, answer, answerOpened}
 use Rattle.listing.specs.Rooms.{recordsMost, planRoom, caseRoom}
@@ -34,8 +34,8 @@ within a b x rest = pick (ltb a b) refl
 plan-grows : (r : Raw) (P : Plan) → 1 ≤ r .kind → planCounts (addToPlan r P) ≡ bump (planCounts P) (r .kind - 1)
 unfolding planCounts addToPlan
 plan-grows r P h =
-    cons (joined-length 1 headingFrom r (P .headings)) (cons (joined-length 2 factFrom r (P .facts)) (cons (joined-length 3 nodeOf r (P .nodes))
-    (cons (joined-length 4 edgeOf r (P .edges)) (cons (joined-length 5 cutOf r (P .cuts)) (cons (joined-length 6 attachmentOf r (P .attachments))
+    cons (joined-length 1 headingFrom r (P .headings)) (cons (joined-length 2 factFrom r (P .facts)) (cons (joined-length 3 nodeFrom r (P .nodes))
+    (cons (joined-length 4 edgeFrom r (P .edges)) (cons (joined-length 5 cutFrom r (P .cuts)) (cons (joined-length 6 attachmentFrom r (P .attachments))
     (cons (joined-length 7 barFrom r (P .bars)) (cons (joined-length 8 statusFrom r (P .statuses)) refl)))))))
     ∙ tally-bump (r .kind) (planCounts P) h
 
@@ -66,8 +66,8 @@ plan-short s P e =
 case-grows : (r : Raw) (C : Case) → 1 ≤ r .kind → caseCounts (addToCase r C) ≡ bump (caseCounts C) (r .kind - 1)
 unfolding caseCounts addToCase
 case-grows r C h =
-    cons (joined-length 1 headingOf r (C .headings)) (cons (joined-length 2 familyBy r (C .families)) (cons (joined-length 3 booleanBy r (C .booleans))
-    (cons (joined-length 4 relationBy r (C .relations)) (cons (joined-length 5 constraintBy r (C .constraints)) refl))))
+    cons (joined-length 1 caseHeadingFrom r (C .headings)) (cons (joined-length 2 familyFrom r (C .families)) (cons (joined-length 3 booleanFrom r (C .booleans))
+    (cons (joined-length 4 relationFrom r (C .relations)) (cons (joined-length 5 constraintFrom r (C .constraints)) refl))))
     ∙ tally-bump (r .kind) (caseCounts C) h
 
 case-limits : (r : Raw) (C : Case) → judgeCase r C ≡ 0 → getD (caseCounts C) (r .kind - 1) 0 ≤ formatOf caseFormats (r .kind) .limit

@@ -10,8 +10,8 @@ use lib.Dec.{eqb, leb}
 use borrow.Author.Tests.{eq-eqb, ne-eqb}
 use Rattle.records.specs.paper.Sets.{odd}
 use Rattle.records.specs.paper.Fields.{Shape, bytes, list, most, number, Read, got, bad, andThen, Raw, Format, Range, byteAt, bytesAt, fieldAt, fieldsAt, formatOf, repeat, little}
-use Rattle.records.specs.code.Readers.{mapRead, fieldIf, first, span}
-use Rattle.records.specs.code.Decoded.{given}
+use Rattle.records.specs.code.Readers.{mapRead, fieldIf, first, bytesFrom}
+use Rattle.records.specs.code.Decoded.{ifGiven}
 use Rattle.records.specs.code.Passes.{rawOf}
 use Rattle.records.proofs.Reading.{byte-next, bytes-got, bad-got, got-inj, found}
 
@@ -132,20 +132,20 @@ raw-parts formats kind s at {w = w} {p = p} = outer (byteAt s at number) refl
 
 -- ---- what an optional field's bytes are
 
-pub one-given : (s : List ℕ) (at : ℕ) (b : Bool) (r : Range) {bs : List ℕ} {n v : ℕ} → fieldIf b s at (bytes (r ∷ [])) ≡ got bs n → first bs ≡ v → bs ≡ given b v
-unfolding fieldAt span
+pub one-given : (s : List ℕ) (at : ℕ) (b : Bool) (r : Range) {bs : List ℕ} {n v : ℕ} → fieldIf b s at (bytes (r ∷ [])) ≡ got bs n → first bs ≡ v → bs ≡ ifGiven b v
+unfolding fieldAt bytesFrom
 one-given s at true r e f = let h = bytes-got s at (r ∷ []) e .0 in h ∙ ap (λ (x : ℕ). x ∷ []) (sym (ap first h) ∙ f)
 one-given s at false r e f = sym (got-inj e .0)
 
 -- and the same of an answer
-pub given-of : (b : Bool) (s : List ℕ) (at : ℕ) (r : Range) {v p : ℕ} → mapRead first (fieldIf b s at (bytes (r ∷ []))) ≡ got v p → fieldIf b s at (bytes (r ∷ [])) ≡ got (given b v) p
+pub given-of : (b : Bool) (s : List ℕ) (at : ℕ) (r : Range) {v p : ℕ} → mapRead first (fieldIf b s at (bytes (r ∷ []))) ≡ got v p → fieldIf b s at (bytes (r ∷ [])) ≡ got (ifGiven b v) p
 given-of b s at r {p = p} e =
     let f = found first (fieldIf b s at (bytes (r ∷ []))) e in f .is ∙ ap (λ (bs : List ℕ). got bs p) (one-given s at b r (f .is) (f .means))
 
-pub list-absent : (s : List ℕ) (at p k : ℕ) (b : Bool) (f : Shape) {n : ℕ} → got (span s p k) n ≡ fieldIf b s at f → b ≡ false → k ≡ 0
-unfolding span
+pub list-absent : (s : List ℕ) (at p k : ℕ) (b : Bool) (f : Shape) {n : ℕ} → got (bytesFrom s p k) n ≡ fieldIf b s at f → b ≡ false → k ≡ 0
+unfolding bytesFrom
 list-absent s at p k b f e q = pick k (got-inj (e ∙ ap (λ (t : Bool). fieldIf t s at f) q) .0)
   where
-    pick : (k : ℕ) → span s p k ≡ [] → k ≡ 0
+    pick : (k : ℕ) → bytesFrom s p k ≡ [] → k ≡ 0
     pick zero h = refl
     pick (suc k) h = let z = ap length h in absurd (omega (arith, z))

@@ -1,4 +1,4 @@
--- Laws of refusal 6: the first undecided crossing, step by step, and that it is the first fault. Assumes nothing.
+-- Laws of crossingRefusal 6: the first undecided crossing, step by step, and that it is the first fault. Assumes nothing.
 use mathlib.Core.Path.{_≡_, refl, ap, _∙_}
 use mathlib.Core.Bool.{Bool, true, false, _&&_, _||_, not, cond}
 use mathlib.Core.List.{List, [], _∷_}
@@ -41,43 +41,43 @@ module _ (P : paper.Plan) where
   -- ---- the first crossing is the first fault
 
   -- the refusal of a crossing, where the first cut is record `at`
-  abbrev pub refusal : ℕ → Crossing → Checked
-  refusal at (At cut edge) = Refused 6 (at + cut)
-  refusal at Nowhere = Accepted
+  abbrev pub crossingRefusal : ℕ → Crossing → Checked
+  crossingRefusal at (At cut edge) = Refused 6 (at + cut)
+  crossingRefusal at Nowhere = Accepted
 
   abbrev decided : paper.Cut → ℕ → List paper.Edge → Bool
-  decided c k es = allOf (λ ok. ok) (paper.eachFrom (λ e edge. not (paper.crosses P c edge) || paper.decidedIn P c e) k es)
+  decided c k es = allOf (λ ok. ok) (paper.eachFrom (λ e edge. not (paper.crosses P c edge) || paper.decidedIn (c .decisions) e) k es)
 
-  open-not : (c : paper.Cut) (k : ℕ) (e : paper.Edge) → (not (paper.crosses P c e) || paper.decidedIn P c k) ≡ not (isOpen P c k e)
+  open-not : (c : paper.Cut) (k : ℕ) (e : paper.Edge) → (not (paper.crosses P c e) || paper.decidedIn (c .decisions) k) ≡ not (isOpen P c k e)
   unfolding isOpen
-  open-not c k e = go (paper.crosses P c e) (paper.decidedIn P c k)
+  open-not c k e = go (paper.crosses P c e) (paper.decidedIn (c .decisions) k)
     where
       go : (p q : Bool) → (not p || q) ≡ not (p && not q)
       go true true = refl
       go true false = refl
       go false q = refl
 
-  of-edges : (at : ℕ) (c : paper.Cut) (cut k : ℕ) (es : List paper.Edge) (later : Crossing) → refusal at (edgesFrom P c cut k es later) ≡ cond (decided c k es) (refusal at later) (Refused 6 (at + cut))
+  of-edges : (at : ℕ) (c : paper.Cut) (cut k : ℕ) (es : List paper.Edge) (later : Crossing) → crossingRefusal at (edgesFrom P c cut k es later) ≡ cond (decided c k es) (crossingRefusal at later) (Refused 6 (at + cut))
   unfolding edgesFrom allOf paper.eachFrom
   of-edges at c cut k [] later = refl
   of-edges at c cut k (e ∷ es) later = rw (open-not c k e) (go (isOpen P c k e) (of-edges at c cut (k + 1) es later))
     where
-      go : (b : Bool) → refusal at (edgesFrom P c cut (k + 1) es later) ≡ cond (decided c (k + 1) es) (refusal at later) (Refused 6 (at + cut))
-          → refusal at (cond b (At cut k) (edgesFrom P c cut (k + 1) es later)) ≡ cond (not b && decided c (k + 1) es) (refusal at later) (Refused 6 (at + cut))
+      go : (b : Bool) → crossingRefusal at (edgesFrom P c cut (k + 1) es later) ≡ cond (decided c (k + 1) es) (crossingRefusal at later) (Refused 6 (at + cut))
+          → crossingRefusal at (cond b (At cut k) (edgesFrom P c cut (k + 1) es later)) ≡ cond (not b && decided c (k + 1) es) (crossingRefusal at later) (Refused 6 (at + cut))
       go true e = refl
       go false e = e
 
-  of-cuts : (at k : ℕ) (cs : List paper.Cut) → refusal at (cutsFrom P k cs) ≡ checkedOf (firstFault (at + k) (paper.faults 6 (paper.crossingsDecided P) cs) (fine P))
+  of-cuts : (at k : ℕ) (cs : List paper.Cut) → crossingRefusal at (cutsFrom P k cs) ≡ checkedOf (firstFault (at + k) (paper.faults 6 (paper.crossingsDecided P) cs) (fine P))
   unfolding cutsFrom checkedOf firstFault paper.crossingsDecided
   of-cuts at k [] = refl
   of-cuts at k (c ∷ cs) = of-edges at c k 0 (P .edges) (cutsFrom P (k + 1) cs) ∙ go (decided c 0 (P .edges)) (of-cuts at (k + 1) cs)
     where
-      go : (b : Bool) → refusal at (cutsFrom P (k + 1) cs) ≡ checkedOf (firstFault (at + (k + 1)) (paper.faults 6 (paper.crossingsDecided P) cs) (fine P))
-          → cond b (refusal at (cutsFrom P (k + 1) cs)) (Refused 6 (at + k)) ≡ checkedOf (firstFault (at + k) (fault 6 b ∷ paper.faults 6 (paper.crossingsDecided P) cs) (fine P))
+      go : (b : Bool) → crossingRefusal at (cutsFrom P (k + 1) cs) ≡ checkedOf (firstFault (at + (k + 1)) (paper.faults 6 (paper.crossingsDecided P) cs) (fine P))
+          → cond b (crossingRefusal at (cutsFrom P (k + 1) cs)) (Refused 6 (at + k)) ≡ checkedOf (firstFault (at + k) (fault 6 b ∷ paper.faults 6 (paper.crossingsDecided P) cs) (fine P))
       go true e = e ∙ ap (λ (i : ℕ). checkedOf (firstFault i (paper.faults 6 (paper.crossingsDecided P) cs) (fine P))) (omega arith)
       go false e = refl
 
-  pub crossing-fault : (at : ℕ) → refusal at (firstCrossing P) ≡ checkedOf (firstFault at (crossingFaults P) (fine P))
+  pub crossing-fault : (at : ℕ) → crossingRefusal at (firstCrossing P) ≡ checkedOf (firstFault at (crossingFaults P) (fine P))
   unfolding firstCrossing
   crossing-fault at = of-cuts at 0 (P .cuts) ∙ ap (λ (i : ℕ). checkedOf (firstFault i (crossingFaults P) (fine P))) (omega arith)
 

@@ -11,63 +11,63 @@ use borrow.Author.Tests.{eq-eqb, ne-eqb}
 use Rattle.records.specs.paper.Sets.{numbers, below, anyOf, allOf}
 use Rattle.records.specs.paper.Plan.{Cut, decidedOnce, unresolvedIn, unresolved}
 use Rattle.records.specs.code.Decoded.{decisionsOf}
-use Rattle.records.specs.code.PlanPasses.{decisionsFrom}
+use Rattle.records.specs.code.PlanPasses.{decisionsLeft}
 use Rattle.records.specs.declared.plan.Decisions.{Decisions}
 use Rattle.records.proofs.FactLaws.{and-true, and-assoc}
 
 module _ (d : Decisions) where
-  from-cons : (i : ℕ) → i < d .count → decisionsFrom d i ≡ record { edge = getD (d .edges) i 0; verdict = getD (d .verdicts) i 0 } ∷ decisionsFrom d (i + 1)
+  from-cons : (i : ℕ) → i < d .count → decisionsLeft d i ≡ record { edge = getD (d .edges) i 0; verdict = getD (d .verdicts) i 0 } ∷ decisionsLeft d (i + 1)
   unfolding numbers
   from-cons i h =
       let e : d .count - i ≡ suc (d .count - (i + 1)) = omega arith in
       rw (e, ← native.Mathlib.Numerals.add-one i)
 
-  from-none : (i : ℕ) → d .count ≤ i → decisionsFrom d i ≡ []
+  from-none : (i : ℕ) → d .count ≤ i → decisionsLeft d i ≡ []
   unfolding numbers
   from-none i h = let e : d .count - i ≡ 0 = omega arith in rw e
 
-  pub from-all : decisionsFrom d 0 ≡ decisionsOf d
+  pub from-all : decisionsLeft d 0 ≡ decisionsOf d
   unfolding decisionsOf below
   from-all = rw sub-zero
 
-  pub any-here : (x i : ℕ) → i < d .count → getD (d .edges) i 0 ≡ x → true ≡ anyOf (λ e. eqb (e .edge) x) (decisionsFrom d i)
+  pub any-here : (x i : ℕ) → i < d .count → getD (d .edges) i 0 ≡ x → true ≡ anyOf (λ e. eqb (e .edge) x) (decisionsLeft d i)
   unfolding anyOf
   any-here x i h e = rw (from-cons i h, eq-eqb (getD (d .edges) i 0) x e)
 
-  pub any-later : (x i : ℕ) → i < d .count → (getD (d .edges) i 0 ≡ x → ⊥) → anyOf (λ e. eqb (e .edge) x) (decisionsFrom d (i + 1)) ≡ anyOf (λ e. eqb (e .edge) x) (decisionsFrom d i)
+  pub any-later : (x i : ℕ) → i < d .count → (getD (d .edges) i 0 ≡ x → ⊥) → anyOf (λ e. eqb (e .edge) x) (decisionsLeft d (i + 1)) ≡ anyOf (λ e. eqb (e .edge) x) (decisionsLeft d i)
   unfolding anyOf
   any-later x i h e = rw (from-cons i h, ne-eqb (getD (d .edges) i 0) x e)
 
-  pub any-none : (x i : ℕ) → d .count ≤ i → false ≡ anyOf (λ e. eqb (e .edge) x) (decisionsFrom d i)
+  pub any-none : (x i : ℕ) → d .count ≤ i → false ≡ anyOf (λ e. eqb (e .edge) x) (decisionsLeft d i)
   unfolding anyOf
   any-none x i h = rw (from-none i h)
 
-  pub once-not : (i : ℕ) → i < d .count → true ≡ anyOf (λ e. eqb (e .edge) (getD (d .edges) i 0)) (decisionsFrom d (i + 1)) → false ≡ decidedOnce (decisionsFrom d i)
+  pub once-not : (i : ℕ) → i < d .count → true ≡ anyOf (λ e. eqb (e .edge) (getD (d .edges) i 0)) (decisionsLeft d (i + 1)) → false ≡ decidedOnce (decisionsLeft d i)
   unfolding decidedOnce
   once-not i h e = rw (from-cons i h, ← e)
 
-  pub once-more : (i : ℕ) → i < d .count → false ≡ anyOf (λ e. eqb (e .edge) (getD (d .edges) i 0)) (decisionsFrom d (i + 1)) → decidedOnce (decisionsFrom d (i + 1)) ≡ decidedOnce (decisionsFrom d i)
+  pub once-more : (i : ℕ) → i < d .count → false ≡ anyOf (λ e. eqb (e .edge) (getD (d .edges) i 0)) (decisionsLeft d (i + 1)) → decidedOnce (decisionsLeft d (i + 1)) ≡ decidedOnce (decisionsLeft d i)
   unfolding decidedOnce
   once-more i h e = rw (from-cons i h, ← e)
 
-  pub once-done : (i : ℕ) → d .count ≤ i → true ≡ decidedOnce (decisionsFrom d i)
+  pub once-done : (i : ℕ) → d .count ≤ i → true ≡ decidedOnce (decisionsLeft d i)
   unfolding decidedOnce
   once-done i h = rw (from-none i h)
 
-  pub open-more : (i : ℕ) → i < d .count → unresolvedIn (decisionsFrom d i) ≡ cond (eqb (getD (d .verdicts) i 0) 3) 1 0 + unresolvedIn (decisionsFrom d (i + 1))
+  pub open-more : (i : ℕ) → i < d .count → unresolvedIn (decisionsLeft d i) ≡ cond (eqb (getD (d .verdicts) i 0) 3) 1 0 + unresolvedIn (decisionsLeft d (i + 1))
   unfolding unresolvedIn
   open-more i h = rw (from-cons i h)
 
   -- the count after number i, and what is left to count
   pub open-some : (i t u : ℕ) → i < d .count → getD (d .verdicts) i 0 ≡ 3 → u ≡ t + 1
-      → (u ≤ t + 1) × (u + unresolvedIn (decisionsFrom d (i + 1)) ≡ t + unresolvedIn (decisionsFrom d i))
-  open-some i t u h v e = let z = open-more i h ∙ ap (λ (b : Bool). cond b 1 0 + unresolvedIn (decisionsFrom d (i + 1))) (eq-eqb (getD (d .verdicts) i 0) 3 v) in (omega (arith, e), omega (arith, e, z))
+      → (u ≤ t + 1) × (u + unresolvedIn (decisionsLeft d (i + 1)) ≡ t + unresolvedIn (decisionsLeft d i))
+  open-some i t u h v e = let z = open-more i h ∙ ap (λ (b : Bool). cond b 1 0 + unresolvedIn (decisionsLeft d (i + 1))) (eq-eqb (getD (d .verdicts) i 0) 3 v) in (omega (arith, e), omega (arith, e, z))
 
   pub open-other : (i t u : ℕ) → i < d .count → (getD (d .verdicts) i 0 ≡ 3 → ⊥) → u ≡ t
-      → (u ≤ t + 1) × (u + unresolvedIn (decisionsFrom d (i + 1)) ≡ t + unresolvedIn (decisionsFrom d i))
-  open-other i t u h v e = let z = open-more i h ∙ ap (λ (b : Bool). cond b 1 0 + unresolvedIn (decisionsFrom d (i + 1))) (ne-eqb (getD (d .verdicts) i 0) 3 v) in (omega (arith, e), omega (arith, e, z))
+      → (u ≤ t + 1) × (u + unresolvedIn (decisionsLeft d (i + 1)) ≡ t + unresolvedIn (decisionsLeft d i))
+  open-other i t u h v e = let z = open-more i h ∙ ap (λ (b : Bool). cond b 1 0 + unresolvedIn (decisionsLeft d (i + 1))) (ne-eqb (getD (d .verdicts) i 0) 3 v) in (omega (arith, e), omega (arith, e, z))
 
-  pub open-done : (i : ℕ) → d .count ≤ i → unresolvedIn (decisionsFrom d i) ≡ 0
+  pub open-done : (i : ℕ) → d .count ≤ i → unresolvedIn (decisionsLeft d i) ≡ 0
   unfolding unresolvedIn
   open-done i h = rw (from-none i h)
 

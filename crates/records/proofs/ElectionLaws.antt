@@ -13,8 +13,7 @@ use borrow.Author.Tests.{eq-eqb, ne-eqb, eqb-true, eqb-false}
 use Rattle.records.specs.paper.Sets.{allOf}
 use Rattle.records.specs.paper.Fields.{fault}
 use Rattle.records.specs.paper.Plan as paper
-use Rattle.records.specs.code.Decoded.{given, electionOf, noElection, cutOf, attachmentOf}
-use Rattle.records.specs.code.PlanPasses.{cutsOf, attachmentsOf}
+use Rattle.records.specs.code.Decoded.{ifGiven, electionOf, noElection, cutOf, attachmentOf, cutsOf, attachmentsOf}
 use Rattle.records.specs.code.Elections.{earlier, agree, agreement}
 use Rattle.records.specs.declared.plan.Election.{Election}
 use Rattle.records.specs.declared.plan.Cut.{Cut}
@@ -28,9 +27,9 @@ use Rattle.records.proofs.SetLaws.{lt-or-le, and-parts}
 
 -- ---- two elections that may be there
 
-pub agree-given : (p q : Bool) (x y : paper.Election) → agree (given p x) (given q y) ≡ cond p (cond q (paper.sameElection x y) true) true
+pub agree-given : (p q : Bool) (x y : paper.Election) → agree (ifGiven p x) (ifGiven q y) ≡ cond p (cond q (paper.sameElection x y) true) true
 unfolding agree
-agree-given p q x y = all-given (λ e. allOf (paper.sameElection e) (given q y)) p x ∙ ap (λ b. cond p b true) (all-given (paper.sameElection x) q y)
+agree-given p q x y = all-given (λ e. allOf (paper.sameElection e) (ifGiven q y)) p x ∙ ap (λ b. cond p b true) (all-given (paper.sameElection x) q y)
 
 -- ---- one beside two lists
 
@@ -140,10 +139,10 @@ same-is x e f h =
     ∙ ap (λ (n : ℕ). record { fact = e .fact; actor = e .actor; policy = e .policy; citation = n }) c
 
 -- for the same fact: where e agrees with what was kept, it stands for both
-one-fact : (p q : Bool) (x e : paper.Election) (old : List paper.Election) → x .fact ≡ e .fact → agree (given p e) old ≡ true
-    → (agree (given q x) (given p e) && agree (given q x) old) ≡ agree (given q x) (cond p (given p e) old)
+one-fact : (p q : Bool) (x e : paper.Election) (old : List paper.Election) → x .fact ≡ e .fact → agree (ifGiven p e) old ≡ true
+    → (agree (ifGiven q x) (ifGiven p e) && agree (ifGiven q x) old) ≡ agree (ifGiven q x) (cond p (ifGiven p e) old)
 unfolding agree allOf
-one-fact false q x e old f h = ap (λ b. b && agree (given q x) old) (agree-none (given q x))
+one-fact false q x e old f h = ap (λ b. b && agree (ifGiven q x) old) (agree-none (ifGiven q x))
 one-fact true false x e old f h = refl
 one-fact true true x e old f h = go (paper.sameElection x e) refl
   where
@@ -151,7 +150,7 @@ one-fact true true x e old f h = go (paper.sameElection x e) refl
     go true s = ap (λ b. agree (x ∷ []) (e ∷ []) && b) (ap (λ z. agree (z ∷ []) old) (same-is x e f s) ∙ h) ∙ and-true _
     go false s = rw (agree-given true true x e, s)
 
-other-fact : (p q : Bool) (x e : paper.Election) → (x .fact ≡ e .fact → ⊥) → agree (given q x) (given p e) ≡ true
+other-fact : (p q : Bool) (x e : paper.Election) → (x .fact ≡ e .fact → ⊥) → agree (ifGiven q x) (ifGiven p e) ≡ true
 unfolding paper.sameElection
 other-fact true true x e f = agree-given true true x e ∙ rw (ne-eqb (x .fact) (e .fact) f)
 other-fact false true x e f = agree-given true false x e

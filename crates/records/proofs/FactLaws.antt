@@ -11,7 +11,7 @@ use lib.Dec.{eqb, ltb}
 use borrow.Author.Tests.{eq-eqb, ne-eqb}
 use Rattle.records.specs.paper.Sets.{lexLess}
 use Rattle.records.specs.paper.Plan.{Fact, isBoolean, rises, factsRise}
-use Rattle.records.specs.code.Decoded.{given}
+use Rattle.records.specs.code.Decoded.{ifGiven}
 
 -- ---- both of two tests
 
@@ -100,6 +100,6 @@ rise-more (f ∷ []) x = and-true (rises f x)
 rise-more (f ∷ g ∷ fs) x = ap (λ (t : Bool). rises f g && t) (rise-more (g ∷ fs) x) ∙ and-assoc (rises f g) (factsRise (g ∷ fs)) (rises (lastFact (g ∷ fs)) x)
 
 -- a fact has no family just if it is boolean
-pub is-boolean : (t : Bool) (x : ℕ) → eqb (length (given (not t) x)) 0 ≡ t
+pub is-boolean : (t : Bool) (x : ℕ) → eqb (length (ifGiven (not t) x)) 0 ≡ t
 is-boolean true x = refl
 is-boolean false x = refl

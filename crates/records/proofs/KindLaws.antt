@@ -16,8 +16,8 @@ use Rattle.records.specs.paper.Fields.{needs, single}
 use Rattle.records.specs.paper.Plan as paper
 use Rattle.records.specs.paper.Plan.{Plan, planFormats, addToPlan, planCounts, judgePlan}
 use Rattle.records.specs.code.Decoded as decoded
-use Rattle.records.specs.code.Decoded.{given}
-use Rattle.records.specs.code.Readers.{span}
+use Rattle.records.specs.code.Decoded.{ifGiven}
+use Rattle.records.specs.code.Readers.{bytesFrom}
 use Rattle.records.specs.declared.plan.Election.{Election}
 use Rattle.records.specs.declared.plan.Decisions.{Decisions}
 use Rattle.records.specs.declared.plan.Numbers.{Numbers}
@@ -100,15 +100,15 @@ plain false true true z = refl
 plain false true false z = refl
 plain false false h z = refl
 
-pub edge-adds : (P : Plan) (xs : List paper.Edge) (b : ℕ) (vs : List (List ℕ)) → addToPlan (raw 4 b vs) (withEdges P xs) ≡ withEdges P (xs ++ (paper.edgeOf (raw 4 b vs) ∷ []))
+pub edge-adds : (P : Plan) (xs : List paper.Edge) (b : ℕ) (vs : List (List ℕ)) → addToPlan (raw 4 b vs) (withEdges P xs) ≡ withEdges P (xs ++ (paper.edgeFrom (raw 4 b vs) ∷ []))
 unfolding addToPlan
 edge-adds P xs b vs = refl
 
 pub edge-judges : (headed : Bool) (P : Plan) (xs : List paper.Edge) (b : ℕ) (vs : List (List ℕ)) → Clean headed P → Unit {0}
-    → judgePlan (raw 4 b vs) (withEdges P (xs ++ (paper.edgeOf (raw 4 b vs) ∷ []))) ≡ judgement (length xs) 64 false (needs 15 b && headed) true
+    → judgePlan (raw 4 b vs) (withEdges P (xs ++ (paper.edgeFrom (raw 4 b vs) ∷ []))) ≡ judgement (length xs) 64 false (needs 15 b && headed) true
 unfolding judgePlan planFormats planCounts
 edge-judges headed P xs b vs c u =
-    rw (length-more xs (paper.edgeOf (raw 4 b vs)), past 64 (length xs), c .few, c .heads, c .rise, c .once) (plain (leb 64 (length xs) || false) (needs 15 b) headed 0)
+    rw (length-more xs (paper.edgeFrom (raw 4 b vs)), past 64 (length xs), c .few, c .heads, c .rise, c .once) (plain (leb 64 (length xs) || false) (needs 15 b) headed 0)
 
 abbrev pub edgeKind : Kind planReading paper.Edge
 edgeKind = record {
@@ -116,7 +116,7 @@ edgeKind = record {
   low = omega arith;
   top = omega (arith, plan-kinds);
   put = withEdges;
-  make = paper.edgeOf;
+  make = paper.edgeFrom;
   judge = λ headed xs b x. judgement (length xs) 64 false (needs 15 b && headed) true;
   Fine = λ xs. Unit {0};
   adds = edge-adds;
@@ -169,15 +169,15 @@ statusKind = record {
   judges = status-judges;
 }
 
-pub attachment-adds : (P : Plan) (xs : List paper.Attachment) (b : ℕ) (vs : List (List ℕ)) → addToPlan (raw 6 b vs) (withAttachments P xs) ≡ withAttachments P (xs ++ (paper.attachmentOf (raw 6 b vs) ∷ []))
+pub attachment-adds : (P : Plan) (xs : List paper.Attachment) (b : ℕ) (vs : List (List ℕ)) → addToPlan (raw 6 b vs) (withAttachments P xs) ≡ withAttachments P (xs ++ (paper.attachmentFrom (raw 6 b vs) ∷ []))
 unfolding addToPlan
 attachment-adds P xs b vs = refl
 
 pub attachment-judges : (headed : Bool) (P : Plan) (xs : List paper.Attachment) (b : ℕ) (vs : List (List ℕ)) → Clean headed P → Unit {0}
-    → judgePlan (raw 6 b vs) (withAttachments P (xs ++ (paper.attachmentOf (raw 6 b vs) ∷ []))) ≡ judgement (length xs) 32 false (needs 31 b && headed) true
+    → judgePlan (raw 6 b vs) (withAttachments P (xs ++ (paper.attachmentFrom (raw 6 b vs) ∷ []))) ≡ judgement (length xs) 32 false (needs 31 b && headed) true
 unfolding judgePlan planFormats planCounts
 attachment-judges headed P xs b vs c u =
-    rw (length-more xs (paper.attachmentOf (raw 6 b vs)), past 32 (length xs), c .few, c .heads, c .rise, c .once) (plain (leb 32 (length xs) || false) (needs 31 b) headed 0)
+    rw (length-more xs (paper.attachmentFrom (raw 6 b vs)), past 32 (length xs), c .few, c .heads, c .rise, c .once) (plain (leb 32 (length xs) || false) (needs 31 b) headed 0)
 
 abbrev pub attachmentKind : Kind planReading paper.Attachment
 attachmentKind = record {
@@ -185,22 +185,22 @@ attachmentKind = record {
   low = omega arith;
   top = omega (arith, plan-kinds);
   put = withAttachments;
-  make = paper.attachmentOf;
+  make = paper.attachmentFrom;
   judge = λ headed xs b x. judgement (length xs) 32 false (needs 31 b && headed) true;
   Fine = λ xs. Unit {0};
   adds = attachment-adds;
   judges = attachment-judges;
 }
 
-pub node-adds : (P : Plan) (xs : List paper.Node) (b : ℕ) (vs : List (List ℕ)) → addToPlan (raw 3 b vs) (withNodes P xs) ≡ withNodes P (xs ++ (paper.nodeOf (raw 3 b vs) ∷ []))
+pub node-adds : (P : Plan) (xs : List paper.Node) (b : ℕ) (vs : List (List ℕ)) → addToPlan (raw 3 b vs) (withNodes P xs) ≡ withNodes P (xs ++ (paper.nodeFrom (raw 3 b vs) ∷ []))
 unfolding addToPlan
 node-adds P xs b vs = refl
 
 pub node-judges : (headed : Bool) (P : Plan) (xs : List paper.Node) (b : ℕ) (vs : List (List ℕ)) → Clean headed P → Unit {0}
-    → judgePlan (raw 3 b vs) (withNodes P (xs ++ (paper.nodeOf (raw 3 b vs) ∷ []))) ≡ judgement (length xs) 256 false (single b && headed) true
+    → judgePlan (raw 3 b vs) (withNodes P (xs ++ (paper.nodeFrom (raw 3 b vs) ∷ []))) ≡ judgement (length xs) 256 false (single b && headed) true
 unfolding judgePlan planFormats planCounts
 node-judges headed P xs b vs c u =
-    rw (length-more xs (paper.nodeOf (raw 3 b vs)), past 256 (length xs), c .few, c .heads, c .rise, c .once) (plain (leb 256 (length xs) || false) (single b) headed 0)
+    rw (length-more xs (paper.nodeFrom (raw 3 b vs)), past 256 (length xs), c .few, c .heads, c .rise, c .once) (plain (leb 256 (length xs) || false) (single b) headed 0)
 
 abbrev pub nodeKind : Kind planReading paper.Node
 nodeKind = record {
@@ -208,7 +208,7 @@ nodeKind = record {
   low = omega arith;
   top = omega (arith, plan-kinds);
   put = withNodes;
-  make = paper.nodeOf;
+  make = paper.nodeFrom;
   judge = λ headed xs b x. judgement (length xs) 256 false (single b && headed) true;
   Fine = λ xs. Unit {0};
   adds = node-adds;
@@ -266,7 +266,7 @@ factKind = record {
 abbrev pub once : paper.Cut → Bool
 once x = paper.decidedOnce (x .decisions)
 
-pub cut-adds : (P : Plan) (xs : List paper.Cut) (b : ℕ) (vs : List (List ℕ)) → addToPlan (raw 5 b vs) (withCuts P xs) ≡ withCuts P (xs ++ (paper.cutOf (raw 5 b vs) ∷ []))
+pub cut-adds : (P : Plan) (xs : List paper.Cut) (b : ℕ) (vs : List (List ℕ)) → addToPlan (raw 5 b vs) (withCuts P xs) ≡ withCuts P (xs ++ (paper.cutFrom (raw 5 b vs) ∷ []))
 unfolding addToPlan
 cut-adds P xs b vs = refl
 
@@ -274,10 +274,10 @@ abbrev pub cutJudge : Bool → List paper.Cut → ℕ → paper.Cut → ℕ
 cutJudge headed xs b x = judgement (length xs) 16 (ltb 16 (paper.unresolved xs + paper.unresolvedIn (x .decisions))) (needs 7 b && headed) (once x)
 
 pub cut-judges : (headed : Bool) (P : Plan) (xs : List paper.Cut) (b : ℕ) (vs : List (List ℕ)) → Clean headed P → allOf once xs ≡ true
-    → judgePlan (raw 5 b vs) (withCuts P (xs ++ (paper.cutOf (raw 5 b vs) ∷ []))) ≡ cutJudge headed xs b (paper.cutOf (raw 5 b vs))
+    → judgePlan (raw 5 b vs) (withCuts P (xs ++ (paper.cutFrom (raw 5 b vs) ∷ []))) ≡ cutJudge headed xs b (paper.cutFrom (raw 5 b vs))
 unfolding judgePlan planFormats planCounts
 cut-judges headed P xs b vs c g =
-    let x = paper.cutOf (raw 5 b vs) in
+    let x = paper.cutFrom (raw 5 b vs) in
     rw (length-more xs x, past 16 (length xs), unresolved-more xs x, c .heads, c .rise, all-more once xs x, g)
     (plain (leb 16 (length xs) || ltb 16 (paper.unresolved xs + paper.unresolvedIn (x .decisions))) (needs 7 b) headed (cond (once x) 0 5))
 
@@ -287,7 +287,7 @@ cutKind = record {
   low = omega arith;
   top = omega (arith, plan-kinds);
   put = withCuts;
-  make = paper.cutOf;
+  make = paper.cutFrom;
   judge = cutJudge;
   Fine = λ xs. allOf once xs ≡ true;
   adds = cut-adds;
@@ -351,10 +351,10 @@ heading-there (suc zero) x h = refl
 heading-there (suc (suc n)) x h = absurd (omega arith)
 
 -- the fact that the code keeps
-pub fact-is : (s : List ℕ) (b f at k : ℕ) (ts : List ℕ) → take k ts ≡ span s at k
-    → decoded.factOf (record { boolean = not (eqb (b % 2) 1); family = f; count = k; tuple = ts }) ≡ record { family = given (eqb (b % 2) 1) f; tuple = span s at k }
+pub fact-is : (s : List ℕ) (b f at k : ℕ) (ts : List ℕ) → take k ts ≡ bytesFrom s at k
+    → decoded.factOf (record { boolean = not (eqb (b % 2) 1); family = f; count = k; tuple = ts }) ≡ record { family = ifGiven (eqb (b % 2) 1) f; tuple = bytesFrom s at k }
 unfolding decoded.factOf
-fact-is s b f at k ts e = ap₂ (λ (t : Bool) (xs : List ℕ). record { family = given t f; tuple = xs }) (not-not (eqb (b % 2) 1)) e
+fact-is s b f at k ts e = ap₂ (λ (t : Bool) (xs : List ℕ). record { family = ifGiven t f; tuple = xs }) (not-not (eqb (b % 2) 1)) e
 
 -- the cut that the code keeps
 pub cut-is : (m c t : ℕ) (e : Election) (d : Decisions) (n : Numbers) {ds : List paper.Decision} {ns : List ℕ} → decoded.decisionsOf d ≡ ds → decoded.numbersOf n ≡ ns

@@ -7,19 +7,19 @@ use native.Mathlib.Omega.{arith}
 use lib.ListN.{length, getD, set, take}
 use lib.Seq.{take-suc-set, getD-set-same, getD-set-other}
 use Rattle.records.specs.paper.Sets.{numbers, below}
-use Rattle.records.specs.paper.Plan.{Decision, decisionsOf}
-use Rattle.records.specs.code.Readers.{span}
+use Rattle.records.specs.paper.Plan.{Decision, decisionsFrom}
+use Rattle.records.specs.code.Readers.{bytesFrom}
 
-pub span-more : (s : List ℕ) (at n : ℕ) → span s at (n + 1) ≡ span s at n ++ (getD s (at + n) 0 ∷ [])
-unfolding span
+pub span-more : (s : List ℕ) (at n : ℕ) → bytesFrom s at (n + 1) ≡ bytesFrom s at n ++ (getD s (at + n) 0 ∷ [])
+unfolding bytesFrom
 span-more s at n = rw (add-one n) (step at n)
   where
-    step : (at n : ℕ) → span s at (suc n) ≡ span s at n ++ (getD s (at + n) 0 ∷ [])
+    step : (at n : ℕ) → bytesFrom s at (suc n) ≡ bytesFrom s at n ++ (getD s (at + n) 0 ∷ [])
     step at zero = ap (λ (x : ℕ). getD s x 0 ∷ []) (omega arith)
-    step at (suc n) = ap (λ (xs : List ℕ). getD s at 0 ∷ xs) (step (at + 1) n ∙ ap (λ (x : ℕ). span s (at + 1) n ++ (getD s x 0 ∷ [])) (omega arith))
+    step at (suc n) = ap (λ (xs : List ℕ). getD s at 0 ∷ xs) (step (at + 1) n ∙ ap (λ (x : ℕ). bytesFrom s (at + 1) n ++ (getD s x 0 ∷ [])) (omega arith))
 
 -- one more entry is copied
-pub copied : (s xs : List ℕ) (at i : ℕ) → i < length xs → take i xs ≡ span s at i → take (i + 1) (set xs i (getD s (at + i) 0)) ≡ span s at (i + 1)
+pub copied : (s xs : List ℕ) (at i : ℕ) → i < length xs → take i xs ≡ bytesFrom s at i → take (i + 1) (set xs i (getD s (at + i) 0)) ≡ bytesFrom s at (i + 1)
 copied s xs at i h e = ap (λ (k : ℕ). take k (set xs i (getD s (at + i) 0))) (add-one i) ∙ take-suc-set xs i (getD s (at + i) 0) h ∙ ap (λ (ys : List ℕ). ys ++ (getD s (at + i) 0 ∷ [])) e ∙ sym (span-more s at i)
 
 -- ---- f 0 … f (n − 1), one more, and for an equal f
@@ -49,22 +49,22 @@ below-ext n f g h = numbers-ext f g n 0 (λ i l. h i (omega arith))
 
 -- ---- pairs
 
-decisions-more : (s : List ℕ) (at n m : ℕ) → m ≡ n * 2 → decisionsOf (span s at (suc (suc m))) ≡ decisionsOf (span s at m) ++ (record { edge = getD s (at + m) 0; verdict = getD s (at + m + 1) 0 } ∷ [])
-unfolding decisionsOf span
+decisions-more : (s : List ℕ) (at n m : ℕ) → m ≡ n * 2 → decisionsFrom (bytesFrom s at (suc (suc m))) ≡ decisionsFrom (bytesFrom s at m) ++ (record { edge = getD s (at + m) 0; verdict = getD s (at + m + 1) 0 } ∷ [])
+unfolding decisionsFrom bytesFrom
 decisions-more s at zero zero e = ap₂ (λ (x y : ℕ). record { edge = getD s x 0; verdict = getD s y 0 } ∷ []) (omega arith) (omega arith)
 decisions-more s at zero (suc m) e = absurd (omega (arith, e))
 decisions-more s at (suc n) zero e = absurd (omega (arith, e))
 decisions-more s at (suc n) (suc zero) e = absurd (omega (arith, e))
 decisions-more s at (suc n) (suc (suc m)) e =
     ap (λ (ds : List Decision). record { edge = getD s at 0; verdict = getD s (at + 1) 0 } ∷ ds)
-    (decisions-more s (at + 1 + 1) n m (omega (arith, e)) ∙ ap₂ (λ (x y : ℕ). decisionsOf (span s (at + 1 + 1) m) ++ (record { edge = getD s x 0; verdict = getD s y 0 } ∷ [])) (omega arith) (omega arith))
+    (decisions-more s (at + 1 + 1) n m (omega (arith, e)) ∙ ap₂ (λ (x y : ℕ). decisionsFrom (bytesFrom s (at + 1 + 1) m) ++ (record { edge = getD s x 0; verdict = getD s y 0 } ∷ [])) (omega arith) (omega arith))
 
 abbrev pub decided : List ℕ → List ℕ → ℕ → Decision
 decided es vs i = record { edge = getD es i 0; verdict = getD vs i 0 }
 
 -- one more pair is copied
-pub pair-copied : (s es vs : List ℕ) (at i : ℕ) → i < length es → i < length vs → below i (decided es vs) ≡ decisionsOf (span s at (i * 2))
-    → below (i + 1) (decided (set es i (getD s (at + i * 2) 0)) (set vs i (getD s (at + i * 2 + 1) 0))) ≡ decisionsOf (span s at ((i + 1) * 2))
+pub pair-copied : (s es vs : List ℕ) (at i : ℕ) → i < length es → i < length vs → below i (decided es vs) ≡ decisionsFrom (bytesFrom s at (i * 2))
+    → below (i + 1) (decided (set es i (getD s (at + i * 2) 0)) (set vs i (getD s (at + i * 2 + 1) 0))) ≡ decisionsFrom (bytesFrom s at ((i + 1) * 2))
 pair-copied s es vs at i h l e =
     let x = getD s (at + i * 2) 0 in
     let y = getD s (at + i * 2 + 1) 0 in
@@ -74,4 +74,4 @@ pair-copied s es vs at i h l e =
     ∙ ap₂ (λ (ds : List Decision) (d : Decision). ds ++ (d ∷ []))
     (below-ext i f (decided es vs) (λ j k. ap₂ (λ (a b : ℕ). record { edge = a; verdict = b }) (getD-set-other es i j x 0 (λ q. omega (arith, q))) (getD-set-other vs i j y 0 (λ q. omega (arith, q)))) ∙ e)
     (ap₂ (λ (a b : ℕ). record { edge = a; verdict = b }) (getD-set-same es i x 0 h) (getD-set-same vs i y 0 l))
-    ∙ sym (decisions-more s at i (i * 2) refl) ∙ ap (λ (k : ℕ). decisionsOf (span s at k)) n
+    ∙ sym (decisions-more s at i (i * 2) refl) ∙ ap (λ (k : ℕ). decisionsFrom (bytesFrom s at k)) n

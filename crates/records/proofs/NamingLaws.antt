@@ -9,7 +9,7 @@ use lib.Dec.{eqb, ltb}
 use lib.ListN.{length, getD}
 use Rattle.records.specs.paper.Sets.{allOf, below, numbers}
 use Rattle.records.specs.paper.Plan as paper
-use Rattle.records.specs.code.Decoded.{given, nodeBy, factOf, decisionsOf}
+use Rattle.records.specs.code.Decoded.{ifGiven, nodeBy, factOf, decisionsOf}
 use Rattle.records.specs.code.Named.{allUnder}
 use Rattle.records.specs.declared.plan.Plan.{Plan}
 use Rattle.records.proofs.ListLaws.{all-mapped}
@@ -36,7 +36,7 @@ pub boolean-of : (x : Fact) → paper.isBoolean (factOf x) ≡ x .boolean
 unfolding paper.isBoolean factOf
 boolean-of x = go (x .boolean)
   where
-    go : (b : Bool) → eqb (length (given (not b) (x .family))) 0 ≡ b
+    go : (b : Bool) → eqb (length (ifGiven (not b) (x .family))) 0 ≡ b
     go true = refl
     go false = refl
 
@@ -45,7 +45,7 @@ unfolding factOf
 family-of y b = rw b
 
 -- of an election that may be there
-pub all-given : {A : Type 0} (f : A → Bool) (b : Bool) (x : A) → allOf f (given b x) ≡ cond b (f x) true
+pub all-given : {A : Type 0} (f : A → Bool) (b : Bool) (x : A) → allOf f (ifGiven b x) ≡ cond b (f x) true
 unfolding allOf
 all-given f true x = go (f x)
   where

@@ -11,7 +11,7 @@ use lib.Dec.{eqb, ltb, leb}
 use borrow.Author.Tests.{lt-ltb, le-ltb, le-leb, lt-leb, ltb-true, ltb-false, eq-eqb, ne-eqb}
 use Rattle.records.specs.paper.Fields.{Read, got, bad, andThen, Raw, Format, Range, byteAt, recordAt, Verdict, fine, refused, readFrom}
 use Rattle.records.specs.code.Readers.{mapRead}
-use Rattle.records.specs.code.Passes.{rawOf, Seen, seenBy, Reading, readOn, after, Passed}
+use Rattle.records.specs.code.Passes.{rawOf, WithBits, withBits, Reading, readOn, after, Passed}
 use Rattle.records.proofs.Reading.{found, none, byte-next, byte-in, bad-got}
 use Rattle.records.proofs.Chain.{raw, raw-parts}
 use Rattle.records.proofs.SetLaws.{lt-or-le}
@@ -51,14 +51,14 @@ module _ {A : Type 0} (formats : List Format) (K : ℕ) (make : Raw → A) (s : 
     pub makes : make (raw K b fields) ≡ x
     pub later : at < p
 
-  taken : {b : ℕ} {x : A} {p : ℕ} → mapRead (seenBy make) (rawOf formats K s at) ≡ got (record { bits = b; item = x }) p → Taken b x p
+  taken : {b : ℕ} {x : A} {p : ℕ} → mapRead (withBits make) (rawOf formats K s at) ≡ got (record { bits = b; item = x }) p → Taken b x p
   taken {b = b} {x = x} {p = p} e =
-      let f = found (seenBy make) (rawOf formats K s at) e in
+      let f = found (withBits make) (rawOf formats K s at) e in
       let q = raw-parts formats K s at (f .is) in
       let w = f .bytes in
-      let h : w .bits ≡ b = ap (λ (z : Seen A). z .bits) (f .means) in
+      let h : w .bits ≡ b = ap (λ (z : WithBits A). z .bits) (f .means) in
       let k : w ≡ raw K b (w .fields) = q .is ∙ ap (λ (z : ℕ). raw K z (w .fields)) h in
-      record { fields = w .fields; reads = f .is ∙ ap (λ (z : Raw). got z p) k; makes = ap make (sym k) ∙ ap (λ (z : Seen A). z .item) (f .means); later = q .later }
+      record { fields = w .fields; reads = f .is ∙ ap (λ (z : Raw). got z p) k; makes = ap make (sym k) ∙ ap (λ (z : WithBits A). z .item) (f .means); later = q .later }
 
 -- ---- one step of reading
 
@@ -167,10 +167,10 @@ module _ {F : Type 0} {R : Reading F} {A : Type 0} (D : Kind R A) (s : List ℕ)
       here : recordAt (R .formats) s at ≡ rawOf (R .formats) (D .K) s (at + 1)
       here = record-of (R .formats) s at (D .K) (D .low) (D .top) h e
 
-      pub refused-bad : mapRead (seenBy (D .make)) (rawOf (R .formats) (D .K) s (at + 1)) ≡ bad → Ends 1
-      refused-bad f a c = inv .same a c ∙ step-bad R s at (D .K) (D .put a xs) k h (here ∙ none (seenBy (D .make)) (rawOf (R .formats) (D .K) s (at + 1)) f)
+      pub refused-bad : mapRead (withBits (D .make)) (rawOf (R .formats) (D .K) s (at + 1)) ≡ bad → Ends 1
+      refused-bad f a c = inv .same a c ∙ step-bad R s at (D .K) (D .put a xs) k h (here ∙ none (withBits (D .make)) (rawOf (R .formats) (D .K) s (at + 1)) f)
 
-      module _ (g : D .Fine xs) {b : ℕ} {x : A} {p : ℕ} (f : mapRead (seenBy (D .make)) (rawOf (R .formats) (D .K) s (at + 1)) ≡ got (record { bits = b; item = x }) p) where
+      module _ (g : D .Fine xs) {b : ℕ} {x : A} {p : ℕ} (f : mapRead (withBits (D .make)) (rawOf (R .formats) (D .K) s (at + 1)) ≡ got (record { bits = b; item = x }) p) where
         reads : Taken (R .formats) (D .K) (D .make) s (at + 1) b x p
         reads = taken (R .formats) (D .K) (D .make) s (at + 1) f
 

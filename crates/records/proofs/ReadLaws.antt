@@ -13,7 +13,7 @@ use Rattle.records.specs.paper.Plan.{joined, faults}
 use Rattle.records.specs.promises.Sound.{All}
 use Rattle.records.proofs.LoopLaws.{all-append}
 use Rattle.records.proofs.Every.{all-both, all-then, all-of-map}
-use Rattle.records.proofs.FieldLaws.{Gave, Fields, InFormat, record-in}
+use Rattle.records.proofs.FieldLaws.{Gave, InFormat, Fitting, record-in}
 
 -- ---- what holds of the answer, if there is one
 
@@ -96,11 +96,8 @@ module _ {A : Type 0} (formats : List Format) (add : Raw → A → A) (judge : R
 -- ---- the records of one kind: so many at most, each made from one that was read
 
 module _ (formats : List Format) {A : Type 0} (kind : ℕ) (make : Raw → A) where
-  abbrev pub OfKind : Raw → Type 0
-  OfKind r = Fields (formatOf formats kind .fields) (r .fields)
-
   abbrev pub Made : A → Type 0
-  Made x = (r : Raw) × OfKind r × (make r ≡ x)
+  Made x = (r : Raw) × Fitting formats kind r × (make r ≡ x)
 
   abbrev pub Kind : List A → Type 0
   Kind xs = (length xs ≤ formatOf formats kind .limit) × All Made xs
@@ -108,7 +105,7 @@ module _ (formats : List Format) {A : Type 0} (kind : ℕ) (make : Raw → A) wh
   pub kind-none : Kind []
   kind-none = (zero-le, tt)
 
-  pub kind-joined : (r : Raw) (xs : List A) (counts : List ℕ) → InFormat formats r → getD counts (r .kind - 1) 0 ≤ formatOf formats (r .kind) .limit
+  pub kind-joined : (r : Raw) (xs : List A) (counts : List ℕ) → Fitting formats (r .kind) r → getD counts (r .kind - 1) 0 ≤ formatOf formats (r .kind) .limit
       → getD counts (kind - 1) 0 ≡ length (joined kind make r xs) → Kind xs → Kind (joined kind make r xs)
   kind-joined r xs counts f l c h = pick (eqb (r .kind) kind) refl c
     where
@@ -119,10 +116,10 @@ module _ (formats : List Format) {A : Type 0} (kind : ℕ) (make : Raw → A) wh
       pick true e c =
           let k = eqb-true (r .kind) kind e in (
             subst (λ (n : ℕ). n ≤ formatOf formats kind .limit) c (own k),
-            all-append Made xs (make r ∷ []) (h .1) ((r, subst (λ (k : ℕ). Fields (formatOf formats k .fields) (r .fields)) k f, refl), tt),
+            all-append Made xs (make r ∷ []) (h .1) ((r, subst (λ (k : ℕ). Fitting formats k r) k f, refl), tt),
           )
       pick false e c = h
 
   -- each of them is as it should, if its record and what was tested show it
-  pub each-sound : (R S : A → Type 0) → ((r : Raw) → OfKind r → R (make r) → S (make r)) → (xs : List A) → Kind xs → All R xs → All S xs
+  pub each-sound : (R S : A → Type 0) → ((r : Raw) → Fitting formats kind r → R (make r) → S (make r)) → (xs : List A) → Kind xs → All R xs → All S xs
   each-sound R S f xs h t = all-both Made R S (λ x m k. subst S (m .2) (f (m .0) (m .1) (subst R (sym (m .2)) k))) xs (h .1) t

@@ -7,8 +7,8 @@ use native.Mathlib.Omega.{arith}
 use lib.ListN.{length, getD}
 use lib.Dec.{ltb, leb}
 use borrow.Author.Tests.{ltb-true, leb-true, lt-ltb, le-leb}
-use Rattle.records.specs.paper.Fields.{Range, bytes, list, Read, got, bad, andThen, byteAt, bytesAt, fieldAt, repeat, little}
-use Rattle.records.specs.code.Readers.{mapRead, isGot, first, span, mask}
+use Rattle.records.specs.paper.Fields.{Range, bytes, list, Read, got, bad, andThen, byteAt, bytesAt, fieldAt, repeat, little, mask}
+use Rattle.records.specs.code.Readers.{mapRead, isGot, first, bytesFrom}
 
 -- ---- answers by what they are made from
 
@@ -86,8 +86,8 @@ unfolding bytesAt
 bytes-cons s at r rs e f = rw (e, f)
 
 -- what was read is a span, and ends within the bytes
-pub bytes-got : (s : List ℕ) (at : ℕ) (rs : List Range) {bs : List ℕ} {n : ℕ} → bytesAt s at rs ≡ got bs n → (bs ≡ span s at (length rs)) × (n ≡ at + length rs) × (at ≤ length s → n ≤ length s)
-unfolding bytesAt span
+pub bytes-got : (s : List ℕ) (at : ℕ) (rs : List Range) {bs : List ℕ} {n : ℕ} → bytesAt s at rs ≡ got bs n → (bs ≡ bytesFrom s at (length rs)) × (n ≡ at + length rs) × (at ≤ length s → n ≤ length s)
+unfolding bytesAt bytesFrom
 bytes-got s at [] e = (sym (got-inj e .0), (let h = got-inj e .1 in omega (arith, h)), (λ l. let h = got-inj e .1 in omega (arith, h)))
 bytes-got s at (r ∷ rs) e =
     let c = cons-of (byteAt s at r) (λ p. bytesAt s p rs) e in
@@ -136,34 +136,34 @@ module _ (s : List ℕ) (at : ℕ) where
   ahead k m e = ap (λ (x : ℕ). getD s x 0) e
 
   pub four-is : {a b c d : ℕ} → a ≡ getD s at 0 → b ≡ getD s (at + 1) 0 → c ≡ getD s (at + 2) 0 → d ≡ getD s (at + 3) 0
-      → a + b * 256 + c * 65536 + d * 16777216 ≡ little (span s at 4)
-  unfolding little span
+      → a + b * 256 + c * 65536 + d * 16777216 ≡ little (bytesFrom s at 4)
+  unfolding little bytesFrom
   four-is e f g h = omega (arith, e, f, g ∙ ahead (at + 2) (at + 1 + 1) (omega arith), h ∙ ahead (at + 3) (at + 1 + 1 + 1) (omega arith))
 
   pub four-free : at + 4 ≤ length s → getD s at 0 < 256 → getD s (at + 1) 0 < 256 → getD s (at + 2) 0 < 256 → getD s (at + 3) 0 < 256
-      → bytesAt s at (repeat 4 (record { low = 0; top = 255 } ∷ [])) ≡ got (span s at 4) (at + 4)
-  unfolding span repeat bytesAt
+      → bytesAt s at (repeat 4 (record { low = 0; top = 255 } ∷ [])) ≡ got (bytesFrom s at 4) (at + 4)
+  unfolding bytesFrom repeat bytesAt
   four-free l a b c d =
       let g = ahead (at + 2) (at + 1 + 1) (omega arith) in
       let h = ahead (at + 3) (at + 1 + 1 + 1) (omega arith) in
       let e : at + 1 + 1 + 1 + 1 ≡ at + 4 = omega arith in
       rw (byte-free s at (omega arith) a, byte-free s (at + 1) (omega arith) b, byte-free s (at + 1 + 1) (omega arith) (omega (arith, g)), byte-free s (at + 1 + 1 + 1) (omega arith) (omega (arith, h)))
-      (ap (got (span s at 4)) e)
+      (ap (got (bytesFrom s at 4)) e)
 
-  little-eight : {x y : ℕ} → x ≡ little (span s at 4) → y ≡ little (span s (at + 4) 4) → x + y * 4294967296 ≡ little (span s at 4 ++ span s (at + 4) 4)
-  unfolding little span
+  little-eight : {x y : ℕ} → x ≡ little (bytesFrom s at 4) → y ≡ little (bytesFrom s (at + 4) 4) → x + y * 4294967296 ≡ little (bytesFrom s at 4 ++ bytesFrom s (at + 4) 4)
+  unfolding little bytesFrom
   little-eight g h = omega (arith, g, h)
 
   -- and eight
-  pub eight-free : {x y : ℕ} → bytesAt s at (repeat 4 (record { low = 0; top = 255 } ∷ [])) ≡ got (span s at 4) (at + 4)
-      → bytesAt s (at + 4) (repeat 4 (record { low = 0; top = 255 } ∷ [])) ≡ got (span s (at + 4) 4) (at + 4 + 4)
-      → x ≡ little (span s at 4) → y ≡ little (span s (at + 4) 4)
+  pub eight-free : {x y : ℕ} → bytesAt s at (repeat 4 (record { low = 0; top = 255 } ∷ [])) ≡ got (bytesFrom s at 4) (at + 4)
+      → bytesAt s (at + 4) (repeat 4 (record { low = 0; top = 255 } ∷ [])) ≡ got (bytesFrom s (at + 4) 4) (at + 4 + 4)
+      → x ≡ little (bytesFrom s at 4) → y ≡ little (bytesFrom s (at + 4) 4)
       → got (x + y * 4294967296) (at + 8) ≡ mapRead little (fieldAt s at mask)
   unfolding fieldAt repeat
   eight-free {x = x} {y = y} e f g h =
-      let z : bytesAt s at (repeat 4 (record { low = 0; top = 255 } ∷ []) ++ repeat 4 (record { low = 0; top = 255 } ∷ [])) ≡ got (span s at 4 ++ span s (at + 4) 4) (at + 4 + 4) =
+      let z : bytesAt s at (repeat 4 (record { low = 0; top = 255 } ∷ []) ++ repeat 4 (record { low = 0; top = 255 } ∷ [])) ≡ got (bytesFrom s at 4 ++ bytesFrom s (at + 4) 4) (at + 4 + 4) =
       bytes-append s at (repeat 4 (record { low = 0; top = 255 } ∷ [])) (repeat 4 (record { low = 0; top = 255 } ∷ [])) e f in
-      let w : x + y * 4294967296 ≡ little (span s at 4 ++ span s (at + 4) 4) = little-eight g h in
+      let w : x + y * 4294967296 ≡ little (bytesFrom s at 4 ++ bytesFrom s (at + 4) 4) = little-eight g h in
       ap₂ (λ (a b : ℕ). got a b) w (omega arith) ∙ sym (ap (mapRead little) z)
 
 -- ---- the entries of a list: of one byte, of two; what is left of n after i
@@ -218,7 +218,7 @@ module _ (s : List ℕ) (at limit : ℕ) (rs : List Range) where
   list-stands-not {k = k} {p = p} e f = rw e (sym (stands-not (bytesAt s p (repeat k rs)) (sym f)))
 
   pub list-stands : {k p : ℕ} → byteAt s at (record { low = 0; top = limit }) ≡ got k p → true ≡ isGot (bytesAt s p (repeat k rs))
-      → (got (span s p (k * length rs)) (p + k * length rs) ≡ fieldAt s at (list limit rs)) × (k ≤ limit) × (p + k * length rs ≤ length s)
+      → (got (bytesFrom s p (k * length rs)) (p + k * length rs) ≡ fieldAt s at (list limit rs)) × (k ≤ limit) × (p + k * length rs ≤ length s)
   unfolding fieldAt
   list-stands {k = k} {p = p} e f =
       let w = stands (bytesAt s p (repeat k rs)) (sym f) in
@@ -226,7 +226,7 @@ module _ (s : List ℕ) (at limit : ℕ) (rs : List Range) where
       let b = byte-next s at (record { low = 0; top = limit }) e in
       let n = length-repeat k rs in
       let z = g .2 (omega (arith, b .1, b .2)) in
-      (rw e (ap₂ (λ (x : List ℕ) (y : ℕ). got x y) (ap (span s p) (sym n) ∙ sym (g .0)) (omega (arith, n, g .1)) ∙ sym (w .2)), b .3, omega (arith, z, n, g .1))
+      (rw e (ap₂ (λ (x : List ℕ) (y : ℕ). got x y) (ap (bytesFrom s p) (sym n) ∙ sym (g .0)) (omega (arith, n, g .1)) ∙ sym (w .2)), b .3, omega (arith, z, n, g .1))
 
 -- a byte in its range
 pub byte-in : (s : List ℕ) (at low top : ℕ) {v : ℕ} → at < length s → getD s at 0 ≡ v → low ≤ v → v ≤ top → byteAt s at (record { low = low; top = top }) ≡ got v (at + 1)

@@ -7,9 +7,9 @@ ghost use mathlib.Core.Path.{_≡_};
 ghost use mathlib.Core.List.{[], _∷_};
 ghost use Prim.Native.Nat.{_+_, _*_, _≤_, _<_};
 ghost use lib.ListN.{length, getD};
-ghost use Rattle.records.specs.paper.Fields.{got, byteAt, bytesAt, bytes, list, most, repeat, upTo, little};
-ghost use Rattle.records.specs.code.Readers.{fieldRead, wideRead, shortRead, electionRead, listRead, listFits, pairsRead, pairsFit, mapRead, first, isGot, fieldIf, mask, election, span};
-ghost use Rattle.records.specs.paper.Plan.{electionOf};
+ghost use Rattle.records.specs.paper.Fields.{got, byteAt, bytesAt, bytes, list, most, repeat, upTo, little, mask, election};
+ghost use Rattle.records.specs.code.Readers.{fieldRead, wideRead, shortRead, electionRead, listRead, listFits, pairsRead, pairsFit, mapRead, first, isGot, fieldIf, bytesFrom};
+ghost use Rattle.records.specs.paper.Plan.{electionFrom};
 ghost use Rattle.records.specs.code.Decoded.{noElection};
 
 pub enum Field {
@@ -86,7 +86,7 @@ pub fn opt_at(s: &[u8], at: usize, present: bool, low: u8, top: u8) -> Field
 // four bytes, the lowest first
 fn word_at(s: &[u8], at: usize) -> u64
     requires { ⌜ at + 4 ≤ length (now s) ⌝ }
-    ensures { λ r. ⌜ (r ≡ little (span (now (s .entry)) at 4)) × (r < 4294967296) × (bytesAt (now (s .entry)) at (repeat 4 (upTo 255 ∷ [])) ≡ got (span (now (s .entry)) at 4) (at + 4)) ⌝ }
+    ensures { λ r. ⌜ (r ≡ little (bytesFrom (now (s .entry)) at 4)) × (r < 4294967296) × (bytesAt (now (s .entry)) at (repeat 4 (upTo 255 ∷ [])) ≡ got (bytesFrom (now (s .entry)) at 4) (at + 4)) ⌝ }
 {
     let a = to_u64(s[at]);
     let b = to_u64(s[at + 1]);
@@ -146,7 +146,7 @@ pub fn no_election() -> Election
 
 // the four bytes of an election if its bit stands
 pub fn election_at(s: &[u8], at: usize, present: bool) -> Elected
-    ensures { λ r. ⌜ electionRead r ≡ mapRead electionOf (fieldIf present (now (s .entry)) at election) ⌝ }
+    ensures { λ r. ⌜ electionRead r ≡ mapRead electionFrom (fieldIf present (now (s .entry)) at election) ⌝ }
 {
     if !present {
         return Elected::Got(no_election(), at);

@@ -3,18 +3,17 @@
 use mathlib.Core.Path.{_≡_, refl, sym, ap, _∙_, subst}
 use mathlib.Core.Bool.{Bool, true, false, _||_, not, cond, true≢false}
 use mathlib.Core.List.{List, []}
-use Prim.Native.Nat.{ℕ, zero, suc, _*_, _<_, _^_, zero-le}
+use Prim.Native.Nat.{ℕ, zero, suc, _*_, _<_, _^_}
 use native.Mathlib.Nat.{suc-ne-zero}
 use native.Mathlib.Omega.{arith}
 use lib.ListN.{length}
-use lib.Pow.{pow-pos}
 use lib.Dec.{eqb, ltb}
 use Rattle.records.specs.paper.Sets.{subset, size}
 use Rattle.records.specs.paper.Fields.{Verdict, fine, refused}
 use Rattle.records.specs.paper.Plan.{Plan, checkedPlan}
 use Rattle.records.specs.paper.Case.{Case, CaseHeading, readCase, caseHeading, familiesAt, booleansAt}
-use Rattle.records.specs.promises.Sound.{SoundHeading, SoundCase}
-use Rattle.records.proofs.Every.{all-getD}
+use Rattle.records.specs.promises.Sound.{SoundCase}
+use Rattle.records.proofs.AcceptedCase.{heading-of}
 use Rattle.records.proofs.ReadLaws.{of-fine, past-faults}
 use Rattle.expressions.specs.paper.Rules.{rulePersons}
 use Rattle.expressions.specs.paper.Bindings.{Bound, bindings, bindable, familyFaults, booleanFaults}
@@ -120,4 +119,4 @@ on-roster P h room e =
 -- a roster fits a mask
 pub roster-fits : (P : Plan) (C : Case) → SoundCase P C → caseHeading C .roster < 2 ^ 64
 unfolding caseHeading
-roster-fits P C S = all-getD SoundHeading (C .headings) _ (S .headings) (record { roster = pow-pos 64; mostWorlds = zero-le }) 0 .roster
+roster-fits P C S = heading-of S .roster

@@ -4,20 +4,19 @@ use mathlib.Core.Path.{_≡_, refl, sym, ap, ap₂, _∙_, subst}
 use mathlib.Core.Bool.{Bool, true, false, cond}
 use mathlib.Core.List.{List, [], _∷_}
 use mathlib.Core.Logic.{_⊎_, inl, inr}
-use Prim.Native.Nat.{ℕ, zero, suc, _*_, _-_, _^_, _≤_, min, zero-le}
+use Prim.Native.Nat.{ℕ, zero, suc, _*_, _-_, _^_, _≤_, min}
 use native.Mathlib.Omega.{arith}
 use lib.ListN.{length, getD, replicate, length-replicate, length-take}
 use lib.Seq.{getD-take}
-use lib.Pow.{pow-pos}
 use lib.Dec.{eqb, ltb}
 use borrow.Author.Tests.{eq-eqb, ne-eqb, ltb-true, ltb-false}
 use Rattle.records.specs.paper.Sets.{size, subset}
 use Rattle.records.specs.paper.Fields.{Verdict, fine, refused}
 use Rattle.records.specs.paper.Plan.{Plan, Heading, checkedPlan}
 use Rattle.records.specs.paper.Case.{Case, CaseHeading, readCase, caseHeading}
-use Rattle.records.specs.promises.Sound.{All, Sound, SoundHeading, SoundCase}
+use Rattle.records.specs.promises.Sound.{All, Sound, SoundCase}
 use Rattle.records.specs.code.Check.{checkedOf}
-use Rattle.records.specs.code.Decoded.{planOf, caseOf, caseHeadingOf, given}
+use Rattle.records.specs.code.Decoded.{planOf, caseOf, caseHeadingOf, ifGiven}
 use Rattle.records.specs.code.PlanRead.{planReadOf}
 use Rattle.records.specs.code.CaseRead.{caseReadOf}
 use Rattle.records.specs.declared.plan.Plan.{Plan as Coded}
@@ -26,9 +25,8 @@ use Rattle.records.specs.declared.plan.reading.PlanRead.{PlanRead}
 use Rattle.records.specs.declared.case.reading.CaseRead.{CaseRead}
 use Rattle.records.specs.declared.checked.Checked.the-variants as checked
 use Rattle.records.proofs.Accepted.{accepted}
-use Rattle.records.proofs.AcceptedCase.{accepted-case}
+use Rattle.records.proofs.AcceptedCase.{accepted-case, heading-of}
 use Rattle.records.proofs.CheckLaws.{refused-is}
-use Rattle.records.proofs.Every.{all-getD}
 use Rattle.expressions.specs.paper.Rules.{rulePersons}
 use Rattle.expressions.specs.paper.Influence.{Frame, openDecisions}
 use Rattle.expressions.specs.paper.Bindings.{Bound, bindings, bindingsBy, bindingAt, bindable, frameOf}
@@ -144,7 +142,7 @@ module _ (plan : Coded) (c : CodedCase) (sound : Sound (planOf plan)) (sane : So
   relation-is : plan .relation ≡ relationOf Pl
   unfolding planOf
   relation-is =
-      let h : Heading = record { relation = plan .relation; chain = given (plan .chained) (plan .chain) } in
+      let h : Heading = record { relation = plan .relation; chain = ifGiven (plan .chained) (plan .chain) } in
       let l = length-take (plan .headings) (h ∷ []) in
       ap (λ (h : Heading). h .relation) (sym (getD-take (plan .headings) (h ∷ []) 0 (record { relation = 0; chain = [] }) (omega (arith, l, sound .heading))))
 
@@ -192,11 +190,11 @@ module _ (plan : Coded) (c : CodedCase) (sound : Sound (planOf plan)) (sane : So
 
       -- by whether the roster is complete
       by-complete : (b : Bool) → c .heading .complete ≡ b
-          → bound Pl Ca ≡ cond (eqb (length (given b (c .heading .evidence))) 0) (incomplete (c .heading .roster)) (judged plan c)
+          → bound Pl Ca ≡ cond (eqb (length (ifGiven b (c .heading .evidence))) 0) (incomplete (c .heading .roster)) (judged plan c)
       unfolding bound judged caseHeadingOf
       by-complete b e =
           ap (λ (h : CaseHeading). cond (eqb (length (h .complete)) 0) (incomplete (h .roster)) (judged plan c)) headed-by
-          ∙ ap (λ (b : Bool). cond (eqb (length (given b (c .heading .evidence))) 0) (incomplete (c .heading .roster)) (judged plan c)) e
+          ∙ ap (λ (b : Bool). cond (eqb (length (ifGiven b (c .heading .evidence))) 0) (incomplete (c .heading .roster)) (judged plan c)) e
 
       pub roster-complete : c .heading .complete ≡ true → judged plan c ≡ headed plan c room
       roster-complete e = sym (heading-passes ∙ by-complete true e)
@@ -258,7 +256,7 @@ module _ (plan : Coded) (c : CodedCase) (sound : Sound (planOf plan)) (sane : So
       unfolding caseHeading
       worlds-few h =
           let a = ltb-false (caseHeading Ca .mostWorlds) (worldCount Pl bs) (over-most ∙ h) in
-          let b : caseHeading Ca .mostWorlds ≤ 4096 = all-getD SoundHeading (Ca .headings) _ (sane .headings) (record { roster = pow-pos 64; mostWorlds = zero-le }) 0 .mostWorlds in
+          let b : caseHeading Ca .mostWorlds ≤ 4096 = heading-of sane .mostWorlds in
           omega (arith, a, b)
 
 -- ---- buffers that were cleared

@@ -18,7 +18,7 @@ use Rattle.records.proofs.LoopLaws.{all-at}
 use Rattle.records.proofs.Every.{all-then}
 use Rattle.records.specs.paper.Plan.{Plan, Cut, Heading}
 use Rattle.records.specs.promises.Sound.{All, Sound, SoundEdge, SoundDecision, SoundCut, SoundAttachment, SoundBar, SoundStatus}
-use Rattle.records.specs.code.Decoded.{given, planOf}
+use Rattle.records.specs.code.Decoded.{ifGiven, planOf}
 use Rattle.records.specs.declared.plan.Plan.{Plan as Coded}
 use Rattle.expressions.specs.paper.Rules.{edgeCount, cutCount, edge, cut, pair, chained, ruleSets, rulePersons}
 use Rattle.expressions.specs.paper.Influence.{openDecisions}
@@ -122,7 +122,7 @@ unfolding planOf chained
 chained-is plan sound =
     ap (λ (h : Heading). not (eqb (length (h .chain)) 0)) (first-heading (plan .headings) _ _ (sound .heading)) ∙ pick (plan .chained)
   where
-    pick : (b : Bool) → not (eqb (length (given b (plan .chain))) 0) ≡ b
+    pick : (b : Bool) → not (eqb (length (ifGiven b (plan .chain))) 0) ≡ b
     pick true = refl
     pick false = refl
 

@@ -9,10 +9,8 @@ use lib.ListN.{length, take}
 use Rattle.records.specs.paper.Sets.{allOf}
 use Rattle.records.specs.paper.Plan as paper
 use Rattle.records.specs.paper.Case as case
-use Rattle.records.specs.code.Decoded.{familyOf, booleanOf, relationOf}
-use Rattle.records.specs.code.PlanPasses.{factsOf}
-use Rattle.records.specs.code.CasePasses.{familiesOf, booleansOf, relationsOf, constraintsOf}
-use Rattle.records.specs.code.Named.{Tells}
+use Rattle.records.specs.code.Decoded.{familyOf, booleanOf, relationOf, factsOf, familiesOf, booleansOf, relationsOf, constraintsOf}
+use Rattle.records.specs.code.Named.{SaysFirst}
 use Rattle.records.specs.declared.plan.Facts.{Facts}
 use Rattle.records.specs.declared.case.Families.{Families}
 use Rattle.records.specs.declared.case.Relation.{Relation}
@@ -50,17 +48,17 @@ abbrev pub booleanFaults : paper.Plan → Booleans → List ℕ
 booleanFaults P x = paper.faults 4 (λ b. paper.booleanFact P (b .fact)) (booleansOf x)
 
 abbrev pub BooleansNamed : Facts → Booleans → ℕ → Checked → Type 0
-BooleansNamed fs x first r = (P : paper.Plan) (C : case.Case) → factsOf fs ≡ P .facts → Tells C first (booleanFaults P x) r
+BooleansNamed fs x first r = (P : paper.Plan) (C : case.Case) → factsOf fs ≡ P .facts → SaysFirst C first (booleanFaults P x) r
 
 abbrev pub relationFaults : paper.Plan → case.Case → Relations → List ℕ
 relationFaults P C x = paper.faults 4 (case.relationSound P C) (relationsOf x)
 
 abbrev pub RelationsNamed : Facts → Families → Relations → ℕ → Checked → Type 0
 RelationsNamed fs ms x first r =
-    (P : paper.Plan) (C : case.Case) → factsOf fs ≡ P .facts → familiesOf ms ≡ C .families → Tells C first (relationFaults P C x) r
+    (P : paper.Plan) (C : case.Case) → factsOf fs ≡ P .facts → familiesOf ms ≡ C .families → SaysFirst C first (relationFaults P C x) r
 
 abbrev pub constraintFaults : paper.Plan → Constraints → List ℕ
 constraintFaults P x = paper.faults 4 (λ i. ltb i (length (P .nodes))) (constraintsOf x)
 
 abbrev pub ConstraintsNamed : ℕ → Constraints → ℕ → Checked → Type 0
-ConstraintsNamed nodes x first r = (P : paper.Plan) (C : case.Case) → nodes ≡ length (P .nodes) → Tells C first (constraintFaults P x) r
+ConstraintsNamed nodes x first r = (P : paper.Plan) (C : case.Case) → nodes ≡ length (P .nodes) → SaysFirst C first (constraintFaults P x) r

@@ -1,4 +1,5 @@
--- The answer of reading a case: the case, or the refusal.
+-- The answer of reading a case: number 0 and the case, or the refusal's number and record. Free, since document 01 says nothing of them: in a
+-- refusal the case, which is some case of the code and stands for nothing; in a success the record, which is some number. No caller reads them.
 use mathlib.Core.Bool.{cond}
 use lib.Dec.{eqb}
 use Rattle.records.specs.paper.Fields.{Verdict, fine, refused}

@@ -4,9 +4,7 @@ use mathlib.Core.Path.{_≡_}
 use mathlib.Core.Bool.{Bool, _&&_, not, cond}
 use mathlib.Core.List.{List, [], _∷_}
 use Prim.Native.Nat.{ℕ, _+_}
-use lib.Dec.{eqb}
-use Rattle.records.specs.paper.Sets.{anyOf}
-use Rattle.records.specs.paper.Plan.{Plan, Cut, Edge, Decision, faults, crosses, crossingsDecided}
+use Rattle.records.specs.paper.Plan.{Plan, Cut, Edge, Decision, faults, decidedIn, crosses, crossingsDecided}
 use Rattle.records.specs.code.Decoded.{cutOf, edgeOf}
 use Rattle.records.specs.declared.plan.Cut as cut
 use Rattle.records.specs.declared.plan.Edge as edge
@@ -14,13 +12,10 @@ use Rattle.records.specs.declared.plan.Decisions as decisions
 use Rattle.records.specs.declared.plan.checks.crossing.Crossing.{Crossing}
 use Rattle.records.specs.declared.plan.checks.crossing.Crossing.the-variants.{At, Nowhere}
 
-abbrev pub decides : List Decision → ℕ → Bool
-decides ds e = anyOf (λ d. eqb (d .edge) e) ds
-
 module _ (P : Plan) where
   -- the edge of this number crosses the cut without a decision
   unfoldable pub isOpen : Cut → ℕ → Edge → Bool
-  isOpen c k e = crosses P c e && not (decides (c .decisions) k)
+  isOpen c k e = crosses P c e && not (decidedIn (c .decisions) k)
 
   -- the first such edge of a cut, from edge k on; else what the later cuts have
   unfoldable pub edgesFrom : Cut → ℕ → ℕ → List Edge → Crossing → Crossing

@@ -16,23 +16,34 @@ use Rattle.records.specs.declared.plan.Cut.{Cut}
 use Rattle.records.specs.declared.plan.Attachment.{Attachment}
 use Rattle.records.specs.declared.plan.Bar.{Bar}
 use Rattle.records.specs.declared.plan.Status.{Status}
+use Rattle.records.specs.declared.plan.Facts.{Facts}
+use Rattle.records.specs.declared.plan.Nodes.{Nodes}
+use Rattle.records.specs.declared.plan.Edges.{Edges}
+use Rattle.records.specs.declared.plan.Cuts.{Cuts}
+use Rattle.records.specs.declared.plan.Attachments.{Attachments}
+use Rattle.records.specs.declared.plan.Bars.{Bars}
+use Rattle.records.specs.declared.plan.Statuses.{Statuses}
 use Rattle.records.specs.declared.plan.Plan.{Plan}
 use Rattle.records.specs.declared.case.CaseHeading.{CaseHeading}
 use Rattle.records.specs.declared.case.Family.{Family}
 use Rattle.records.specs.declared.case.Observations.{Observations}
 use Rattle.records.specs.declared.case.Boolean.{Boolean}
 use Rattle.records.specs.declared.case.Relation.{Relation}
+use Rattle.records.specs.declared.case.Families.{Families}
+use Rattle.records.specs.declared.case.Booleans.{Booleans}
+use Rattle.records.specs.declared.case.Relations.{Relations}
+use Rattle.records.specs.declared.case.Constraints.{Constraints}
 use Rattle.records.specs.declared.case.Case.{Case}
 
 -- none, or one
-abbrev pub given : {A : Type 0} → Bool → A → List A
-given b x = cond b (x ∷ []) []
+abbrev pub ifGiven : {A : Type 0} → Bool → A → List A
+ifGiven b x = cond b (x ∷ []) []
 
 unfoldable pub numbersOf : Numbers → List ℕ
 numbersOf n = take (n .count) (n .items)
 
 unfoldable pub factOf : Fact → paper.Fact
-factOf f = record { family = given (not (f .boolean)) (f .family); tuple = take (f .count) (f .tuple) }
+factOf f = record { family = ifGiven (not (f .boolean)) (f .family); tuple = take (f .count) (f .tuple) }
 
 unfoldable pub nodeBy : ℕ → ℕ → List ℕ → paper.Node
 nodeBy zero n is = paper.literal n
@@ -52,7 +63,7 @@ abbrev pub noElection : Election
 noElection = record { given = false; fact = 0; actor = 0; policy = 0; citation = 0 }
 
 unfoldable pub electionOf : Election → List paper.Election
-electionOf e = given (e .given) (record { fact = e .fact; actor = e .actor; policy = e .policy; citation = e .citation })
+electionOf e = ifGiven (e .given) (record { fact = e .fact; actor = e .actor; policy = e .policy; citation = e .citation })
 
 unfoldable pub decisionsOf : Decisions → List paper.Decision
 decisionsOf d = below (d .count) (λ i. record { edge = getD (d .edges) i 0; verdict = getD (d .verdicts) i 0 })
@@ -77,17 +88,44 @@ barOf b = record { members = b .members; condition = b .condition; citation = b 
 unfoldable pub statusOf : Status → paper.Status
 statusOf t = record { person = t .person; condition = t .condition; citation = t .citation }
 
+-- ---- the records of a kind
+
+-- so many headings, at most one
+abbrev pub headingsOf : ℕ → ℕ → Bool → ℕ → List paper.Heading
+headingsOf n relation chained chain = take n (record { relation = relation; chain = ifGiven chained chain } ∷ [])
+
+abbrev pub factsOf : Facts → List paper.Fact
+factsOf x = map factOf (take (x .count) (x .items))
+
+abbrev pub nodesOf : Nodes → List paper.Node
+nodesOf x = map nodeOf (take (x .count) (x .items))
+
+abbrev pub edgesOf : Edges → List paper.Edge
+edgesOf x = map edgeOf (take (x .count) (x .items))
+
+abbrev pub cutsOf : Cuts → List paper.Cut
+cutsOf x = map cutOf (take (x .count) (x .items))
+
+abbrev pub attachmentsOf : Attachments → List paper.Attachment
+attachmentsOf x = map attachmentOf (take (x .count) (x .items))
+
+abbrev pub barsOf : Bars → List paper.Bar
+barsOf x = map barOf (take (x .count) (x .items))
+
+abbrev pub statusesOf : Statuses → List paper.Status
+statusesOf x = map statusOf (take (x .count) (x .items))
+
 -- THE PLAN that a struct stands for
 unfoldable pub planOf : Plan → paper.Plan
 planOf p = record {
-  headings = take (p .headings) (record { relation = p .relation; chain = given (p .chained) (p .chain) } ∷ []);
-  facts = map factOf (take (p .facts .count) (p .facts .items));
-  nodes = map nodeOf (take (p .nodes .count) (p .nodes .items));
-  edges = map edgeOf (take (p .edges .count) (p .edges .items));
-  cuts = map cutOf (take (p .cuts .count) (p .cuts .items));
-  attachments = map attachmentOf (take (p .attachments .count) (p .attachments .items));
-  bars = map barOf (take (p .bars .count) (p .bars .items));
-  statuses = map statusOf (take (p .statuses .count) (p .statuses .items));
+  headings = headingsOf (p .headings) (p .relation) (p .chained) (p .chain);
+  facts = factsOf (p .facts);
+  nodes = nodesOf (p .nodes);
+  edges = edgesOf (p .edges);
+  cuts = cutsOf (p .cuts);
+  attachments = attachmentsOf (p .attachments);
+  bars = barsOf (p .bars);
+  statuses = statusesOf (p .statuses);
 }
 
 unfoldable pub caseHeadingOf : CaseHeading → case.CaseHeading
@@ -97,28 +135,43 @@ caseHeadingOf h = record {
   segment = h .segment;
   segmentComplete = h .«segment_complete»;
   roster = h .roster;
-  complete = given (h .complete) (h .evidence);
+  complete = ifGiven (h .complete) (h .evidence);
   mostWorlds = h .«most_worlds»;
 }
 
 unfoldable pub familyOf : Family → case.Family
-familyOf m = record { number = m .number; scope = m .scope; complete = given (m .complete) (m .evidence) }
+familyOf m = record { number = m .number; scope = m .scope; complete = ifGiven (m .complete) (m .evidence) }
 
 unfoldable pub observationsOf : Observations → List case.Observation
 observationsOf o = below (o .count) (λ i. record { value = getD (o .values) i 0; evidence = getD (o .evidence) i 0 })
 
 unfoldable pub booleanOf : Boolean → case.Boolean
-booleanOf b = record { fact = b .fact; unknown = given (b .unknown) (b .evidence); observations = observationsOf (b .observations) }
+booleanOf b = record { fact = b .fact; unknown = ifGiven (b .unknown) (b .evidence); observations = observationsOf (b .observations) }
 
 unfoldable pub relationOf : Relation → case.Relation
 relationOf r = record { fact = r .fact; observation = record { value = r .value; evidence = r .evidence } }
 
+abbrev pub caseHeadingsOf : ℕ → CaseHeading → List case.CaseHeading
+caseHeadingsOf n h = take n (caseHeadingOf h ∷ [])
+
+abbrev pub familiesOf : Families → List case.Family
+familiesOf x = map familyOf (take (x .count) (x .items))
+
+abbrev pub booleansOf : Booleans → List case.Boolean
+booleansOf x = map booleanOf (take (x .count) (x .items))
+
+abbrev pub relationsOf : Relations → List case.Relation
+relationsOf x = map relationOf (take (x .count) (x .items))
+
+abbrev pub constraintsOf : Constraints → List ℕ
+constraintsOf x = take (x .count) (x .items)
+
 -- THE CASE that a struct stands for
 unfoldable pub caseOf : Case → case.Case
 caseOf c = record {
-  headings = take (c .headings) (caseHeadingOf (c .heading) ∷ []);
-  families = map familyOf (take (c .families .count) (c .families .items));
-  booleans = map booleanOf (take (c .booleans .count) (c .booleans .items));
-  relations = map relationOf (take (c .relations .count) (c .relations .items));
-  constraints = take (c .constraints .count) (c .constraints .items);
+  headings = caseHeadingsOf (c .headings) (c .heading);
+  families = familiesOf (c .families);
+  booleans = booleansOf (c .booleans);
+  relations = relationsOf (c .relations);
+  constraints = constraintsOf (c .constraints);
 }

@@ -9,8 +9,7 @@ use Rattle.records.specs.paper.Sets.{allOf}
 use Rattle.records.specs.paper.Plan as paper
 use Rattle.records.specs.paper.Fields.{fault, fine, firstFault}
 use Rattle.records.specs.code.Check.{checkedOf}
-use Rattle.records.specs.code.Decoded.{factOf, nodeOf, edgeOf, electionOf, cutOf, attachmentOf, barOf, statusOf}
-use Rattle.records.specs.code.PlanPasses.{factsOf, nodesOf, edgesOf, cutsOf, attachmentsOf, barsOf, statusesOf}
+use Rattle.records.specs.code.Decoded.{factOf, nodeOf, edgeOf, electionOf, cutOf, attachmentOf, barOf, statusOf, factsOf, nodesOf, edgesOf, cutsOf, attachmentsOf, barsOf, statusesOf}
 use Rattle.records.specs.declared.plan.counts.Counts.{Counts}
 use Rattle.records.specs.declared.plan.Facts.{Facts}
 use Rattle.records.specs.declared.checked.Checked.{Checked}
@@ -74,41 +73,41 @@ AttachmentSound fs nodes a r =
 
 -- ---- the first of a kind's records that names what is not there; the kind begins at record `first`
 
-abbrev pub Tells : {A : Type 0} → A → ℕ → List ℕ → Checked → Type 0
-Tells a first fs r = r ≡ checkedOf (firstFault first fs (fine a))
+abbrev pub SaysFirst : {A : Type 0} → A → ℕ → List ℕ → Checked → Type 0
+SaysFirst a first fs r = r ≡ checkedOf (firstFault first fs (fine a))
 
 abbrev pub nodeFaults : paper.Plan → Nodes → List ℕ
 nodeFaults P x = paper.eachFrom (λ k n. fault 4 (paper.nodeSound P k n)) 0 (nodesOf x)
 
 abbrev pub NodesNamed : ℕ → Nodes → ℕ → Checked → Type 0
-NodesNamed facts x first r = (P : paper.Plan) → facts ≡ length (P .facts) → Tells P first (nodeFaults P x) r
+NodesNamed facts x first r = (P : paper.Plan) → facts ≡ length (P .facts) → SaysFirst P first (nodeFaults P x) r
 
 abbrev pub edgeFaults : paper.Plan → Edges → List ℕ
 edgeFaults P x = paper.faults 4 (paper.edgeSound P) (edgesOf x)
 
 abbrev pub EdgesNamed : ℕ → Edges → ℕ → Checked → Type 0
-EdgesNamed nodes x first r = (P : paper.Plan) → nodes ≡ length (P .nodes) → Tells P first (edgeFaults P x) r
+EdgesNamed nodes x first r = (P : paper.Plan) → nodes ≡ length (P .nodes) → SaysFirst P first (edgeFaults P x) r
 
 abbrev pub cutFaults : paper.Plan → Cuts → List ℕ
 cutFaults P x = paper.faults 4 (paper.cutSound P) (cutsOf x)
 
 abbrev pub CutsNamed : Facts → Counts → Cuts → ℕ → Checked → Type 0
-CutsNamed fs n x first r = (P : paper.Plan) → factsOf fs ≡ P .facts → CountsOf P n → Tells P first (cutFaults P x) r
+CutsNamed fs n x first r = (P : paper.Plan) → factsOf fs ≡ P .facts → CountsOf P n → SaysFirst P first (cutFaults P x) r
 
 abbrev pub attachmentFaults : paper.Plan → Attachments → List ℕ
 attachmentFaults P x = paper.faults 4 (paper.attachmentSound P) (attachmentsOf x)
 
 abbrev pub AttachmentsNamed : Facts → ℕ → Attachments → ℕ → Checked → Type 0
-AttachmentsNamed fs nodes x first r = (P : paper.Plan) → factsOf fs ≡ P .facts → nodes ≡ length (P .nodes) → Tells P first (attachmentFaults P x) r
+AttachmentsNamed fs nodes x first r = (P : paper.Plan) → factsOf fs ≡ P .facts → nodes ≡ length (P .nodes) → SaysFirst P first (attachmentFaults P x) r
 
 abbrev pub barFaults : paper.Plan → Bars → List ℕ
 barFaults P x = paper.faults 4 (λ b. paper.nodeNumber P (b .condition)) (barsOf x)
 
 abbrev pub BarsNamed : ℕ → Bars → ℕ → Checked → Type 0
-BarsNamed nodes x first r = (P : paper.Plan) → nodes ≡ length (P .nodes) → Tells P first (barFaults P x) r
+BarsNamed nodes x first r = (P : paper.Plan) → nodes ≡ length (P .nodes) → SaysFirst P first (barFaults P x) r
 
 abbrev pub statusFaults : paper.Plan → Statuses → List ℕ
 statusFaults P x = paper.faults 4 (λ t. paper.nodeNumber P (t .condition)) (statusesOf x)
 
 abbrev pub StatusesNamed : ℕ → Statuses → ℕ → Checked → Type 0
-StatusesNamed nodes x first r = (P : paper.Plan) → nodes ≡ length (P .nodes) → Tells P first (statusFaults P x) r
+StatusesNamed nodes x first r = (P : paper.Plan) → nodes ≡ length (P .nodes) → SaysFirst P first (statusFaults P x) r

@@ -1,4 +1,4 @@
--- Reading a file kind by kind: what a pass over the records of one kind stands for. Contracts of src/read_*.rt cite it.
+-- Reading a file kind by kind: what a pass over the records of one kind stands for. Contracts of src/plan/reading/ and src/case/reading/ cite it.
 use mathlib.Core.Path.{_≡_}
 use mathlib.Core.Bool.{Bool, _||_, cond}
 use mathlib.Core.List.{List, []}
@@ -14,12 +14,12 @@ rawOf formats kind s at =
     andThen (fieldsAt s q bits (formatOf formats kind .fields)) (λ values r. got (record { kind = kind; bits = bits; fields = values }) r))
 
 -- a record with its bits
-pub record Seen (A : Type 0) : Type 0 where
+pub record WithBits (A : Type 0) : Type 0 where
   pub bits : ℕ
   pub item : A
 
-abbrev pub seenBy : {A : Type 0} → (Raw → A) → Raw → Seen A
-seenBy make w = record { bits = w .bits; item = make w }
+abbrev pub withBits : {A : Type 0} → (Raw → A) → Raw → WithBits A
+withBits make w = record { bits = w .bits; item = make w }
 
 -- how a file is read: the first three as in `readFrom`; `Clean headed a`: nothing is wrong with a, and it has a heading, or none
 pub record Reading (F : Type 0) : Type 1 where

@@ -1,41 +1,34 @@
--- The passes over a plan: what each kind's reader and its list stand for. Contracts of src/read_*.rt cite it.
+-- The passes over a plan: what each kind's reader stands for. Contracts of src/plan/reading/ cite it.
 use mathlib.Core.Path.{_≡_}
 use mathlib.Core.Bool.{Bool, true, false, _||_, not, cond}
 use mathlib.Core.List.{List, [], _∷_, map}
 use Prim.Native.Nat.{ℕ, _+_, _-_, _*_, _/_, _%_, _≤_}
-use lib.ListN.{length, getD, take}
+use lib.ListN.{length, getD}
 use lib.Dec.{eqb, ltb}
 use Rattle.records.specs.paper.Sets.{has, allOf, numbers}
 use Rattle.records.specs.paper.Fields.{field, num, wide, Read, got, bad, Raw}
-use Rattle.records.specs.paper.Plan.{Plan, Heading, Fact, Node, literal, conj, disj, neg, Edge, Decision, Cut, Attachment, Bar, Status, planFormats, addToPlan, judgePlan, factsRise, decidedOnce, unresolved, decisionsOf}
+use Rattle.records.specs.paper.Plan.{Plan, Heading, Fact, Node, literal, conj, disj, neg, Edge, Decision, Cut, Attachment, Bar, Status, planFormats, addToPlan, judgePlan, factsRise, decidedOnce, unresolved, decisionsFrom}
 use Rattle.records.specs.paper.Plan as paper
 use Rattle.records.specs.code.Decoded as decoded
-use Rattle.records.specs.code.Decoded.{given}
-use Rattle.records.specs.code.Readers.{span}
-use Rattle.records.specs.code.Passes.{Seen, Reading}
-use Rattle.records.specs.declared.plan.Edges.{Edges}
+use Rattle.records.specs.code.Decoded.{ifGiven}
+use Rattle.records.specs.code.Readers.{bytesFrom}
+use Rattle.records.specs.code.Passes.{WithBits, Reading}
 use Rattle.records.specs.declared.plan.reading.edges.EdgeFields.{EdgeFields}
 use Rattle.records.specs.declared.plan.reading.edges.EdgeSeen.{EdgeSeen}
 use Rattle.records.specs.declared.plan.reading.edges.EdgeSeen.the-variants as edge
-use Rattle.records.specs.declared.plan.Bars.{Bars}
 use Rattle.records.specs.declared.plan.reading.bars.BarSeen.{BarSeen}
 use Rattle.records.specs.declared.plan.reading.bars.BarSeen.the-variants as bar
-use Rattle.records.specs.declared.plan.Statuses.{Statuses}
 use Rattle.records.specs.declared.plan.reading.statuses.StatusSeen.{StatusSeen}
 use Rattle.records.specs.declared.plan.reading.statuses.StatusSeen.the-variants as status
-use Rattle.records.specs.declared.plan.Attachments.{Attachments}
 use Rattle.records.specs.declared.plan.reading.attachments.AttachmentSeen.{AttachmentSeen}
 use Rattle.records.specs.declared.plan.reading.attachments.AttachmentSeen.the-variants as attachment
 use Rattle.records.specs.declared.plan.reading.heading.HeadingSeen.{HeadingSeen}
 use Rattle.records.specs.declared.plan.reading.heading.HeadingSeen.the-variants as heading
-use Rattle.records.specs.declared.plan.Facts.{Facts}
 use Rattle.records.specs.declared.plan.reading.facts.FactSeen.{FactSeen}
 use Rattle.records.specs.declared.plan.reading.facts.FactSeen.the-variants as fact
-use Rattle.records.specs.declared.plan.Nodes.{Nodes}
 use Rattle.records.specs.declared.plan.reading.nodes.NodeFields.{NodeFields}
 use Rattle.records.specs.declared.plan.reading.nodes.NodeSeen.{NodeSeen}
 use Rattle.records.specs.declared.plan.reading.nodes.NodeSeen.the-variants as node
-use Rattle.records.specs.declared.plan.Cuts.{Cuts}
 use Rattle.records.specs.declared.plan.reading.cuts.CutFields.{CutFields}
 use Rattle.records.specs.declared.plan.reading.cuts.CutSeen.{CutSeen}
 use Rattle.records.specs.declared.plan.reading.cuts.CutSeen.the-variants as cut
@@ -56,14 +49,11 @@ planReading = record { formats = planFormats; add = addToPlan; judge = judgePlan
 abbrev pub withEdges : Plan → List Edge → Plan
 withEdges P es = record { headings = P .headings; facts = P .facts; nodes = P .nodes; edges = es; cuts = P .cuts; attachments = P .attachments; bars = P .bars; statuses = P .statuses }
 
-abbrev pub edgesOf : Edges → List Edge
-edgesOf x = map decoded.edgeOf (take (x .count) (x .items))
-
 abbrev pub edgeSeen : List ℕ → ℕ → EdgeFields → Edge
 edgeSeen s bits x =
-    record { left = x .left; right = x .right; condition = x .condition; citation = x .citation; defeaters = span s (x .first) (x .count); combination = has bits 5 }
+    record { left = x .left; right = x .right; condition = x .condition; citation = x .citation; defeaters = bytesFrom s (x .first) (x .count); combination = has bits 5 }
 
-abbrev pub edgeRead : List ℕ → EdgeSeen → Read (Seen Edge)
+abbrev pub edgeRead : List ℕ → EdgeSeen → Read (WithBits Edge)
 edgeRead s (edge.Got bits x n) = got (record { bits = bits; item = edgeSeen s bits x }) n
 edgeRead s edge.Bad = bad
 
@@ -79,10 +69,7 @@ edgeAnswerFits s edge.Bad = Unit {0}
 abbrev pub withBars : Plan → List Bar → Plan
 withBars P xs = record { headings = P .headings; facts = P .facts; nodes = P .nodes; edges = P .edges; cuts = P .cuts; attachments = P .attachments; bars = xs; statuses = P .statuses }
 
-abbrev pub barsOf : Bars → List Bar
-barsOf x = map decoded.barOf (take (x .count) (x .items))
-
-abbrev pub barRead : BarSeen → Read (Seen Bar)
+abbrev pub barRead : BarSeen → Read (WithBits Bar)
 barRead (bar.Got bits x n) = got (record { bits = bits; item = decoded.barOf x }) n
 barRead bar.Bad = bad
 
@@ -91,10 +78,7 @@ barRead bar.Bad = bad
 abbrev pub withStatuses : Plan → List Status → Plan
 withStatuses P xs = record { headings = P .headings; facts = P .facts; nodes = P .nodes; edges = P .edges; cuts = P .cuts; attachments = P .attachments; bars = P .bars; statuses = xs }
 
-abbrev pub statusesOf : Statuses → List Status
-statusesOf x = map decoded.statusOf (take (x .count) (x .items))
-
-abbrev pub statusRead : StatusSeen → Read (Seen Status)
+abbrev pub statusRead : StatusSeen → Read (WithBits Status)
 statusRead (status.Got bits x n) = got (record { bits = bits; item = decoded.statusOf x }) n
 statusRead status.Bad = bad
 
@@ -103,10 +87,7 @@ statusRead status.Bad = bad
 abbrev pub withAttachments : Plan → List Attachment → Plan
 withAttachments P xs = record { headings = P .headings; facts = P .facts; nodes = P .nodes; edges = P .edges; cuts = P .cuts; attachments = xs; bars = P .bars; statuses = P .statuses }
 
-abbrev pub attachmentsOf : Attachments → List Attachment
-attachmentsOf x = map decoded.attachmentOf (take (x .count) (x .items))
-
-abbrev pub attachmentRead : AttachmentSeen → Read (Seen Attachment)
+abbrev pub attachmentRead : AttachmentSeen → Read (WithBits Attachment)
 attachmentRead (attachment.Got bits x n) = got (record { bits = bits; item = decoded.attachmentOf x }) n
 attachmentRead attachment.Bad = bad
 
@@ -115,11 +96,8 @@ attachmentRead attachment.Bad = bad
 abbrev pub withHeadings : Plan → List Heading → Plan
 withHeadings P xs = record { headings = xs; facts = P .facts; nodes = P .nodes; edges = P .edges; cuts = P .cuts; attachments = P .attachments; bars = P .bars; statuses = P .statuses }
 
-abbrev pub headingsBy : ℕ → ℕ → Bool → ℕ → List Heading
-headingsBy n relation chained chain = take n (record { relation = relation; chain = given chained chain } ∷ [])
-
-abbrev pub headingRead : HeadingSeen → Read (Seen Heading)
-headingRead (heading.Got bits relation chain n) = got (record { bits = bits; item = record { relation = relation; chain = given (eqb (bits / 2 % 2) 1) chain } }) n
+abbrev pub headingRead : HeadingSeen → Read (WithBits Heading)
+headingRead (heading.Got bits relation chain n) = got (record { bits = bits; item = record { relation = relation; chain = ifGiven (eqb (bits / 2 % 2) 1) chain } }) n
 headingRead heading.Bad = bad
 
 -- ---- facts
@@ -127,11 +105,8 @@ headingRead heading.Bad = bad
 abbrev pub withFacts : Plan → List Fact → Plan
 withFacts P xs = record { headings = P .headings; facts = xs; nodes = P .nodes; edges = P .edges; cuts = P .cuts; attachments = P .attachments; bars = P .bars; statuses = P .statuses }
 
-abbrev pub factsOf : Facts → List Fact
-factsOf x = map decoded.factOf (take (x .count) (x .items))
-
-abbrev pub factRead : List ℕ → FactSeen → Read (Seen Fact)
-factRead s (fact.Got bits family at k n) = got (record { bits = bits; item = record { family = given (eqb (bits % 2) 1) family; tuple = span s at k } }) n
+abbrev pub factRead : List ℕ → FactSeen → Read (WithBits Fact)
+factRead s (fact.Got bits family at k n) = got (record { bits = bits; item = record { family = ifGiven (eqb (bits % 2) 1) family; tuple = bytesFrom s at k } }) n
 factRead s fact.Bad = bad
 
 abbrev pub factFits : List ℕ → FactSeen → Type 0
@@ -143,15 +118,12 @@ factFits s fact.Bad = Unit {0}
 abbrev pub withNodes : Plan → List Node → Plan
 withNodes P xs = record { headings = P .headings; facts = P .facts; nodes = xs; edges = P .edges; cuts = P .cuts; attachments = P .attachments; bars = P .bars; statuses = P .statuses }
 
-abbrev pub nodesOf : Nodes → List Node
-nodesOf x = map decoded.nodeOf (take (x .count) (x .items))
-
 abbrev pub nodeSeen : List ℕ → ℕ → NodeFields → Node
 nodeSeen s bits x =
     cond (has bits 0) (literal (x .literal))
-    (cond (has bits 1) (paper.fact (x .fact)) (cond (has bits 2) (conj (span s (x .ands) (x .conjuncts))) (cond (has bits 3) (disj (span s (x .ors) (x .disjuncts))) (neg (x .negated)))))
+    (cond (has bits 1) (paper.fact (x .fact)) (cond (has bits 2) (conj (bytesFrom s (x .ands) (x .conjuncts))) (cond (has bits 3) (disj (bytesFrom s (x .ors) (x .disjuncts))) (neg (x .negated)))))
 
-abbrev pub nodeRead : List ℕ → NodeSeen → Read (Seen Node)
+abbrev pub nodeRead : List ℕ → NodeSeen → Read (WithBits Node)
 nodeRead s (node.Got bits x n) = got (record { bits = bits; item = nodeSeen s bits x }) n
 nodeRead s node.Bad = bad
 
@@ -167,20 +139,17 @@ nodeAnswerFits s node.Bad = Unit {0}
 abbrev pub withCuts : Plan → List Cut → Plan
 withCuts P xs = record { headings = P .headings; facts = P .facts; nodes = P .nodes; edges = P .edges; cuts = xs; attachments = P .attachments; bars = P .bars; statuses = P .statuses }
 
-abbrev pub cutsOf : Cuts → List Cut
-cutsOf x = map decoded.cutOf (take (x .count) (x .items))
-
 abbrev pub cutSeen : List ℕ → CutFields → Cut
 cutSeen s x = record {
   members = x .members;
   condition = x .condition;
   citation = x .citation;
   election = decoded.electionOf (x .election);
-  decisions = decisionsOf (span s (x .pairs) (x .decided * 2));
-  precedes = span s (x .first) (x .count);
+  decisions = decisionsFrom (bytesFrom s (x .pairs) (x .decided * 2));
+  precedes = bytesFrom s (x .first) (x .count);
 }
 
-abbrev pub cutRead : List ℕ → CutSeen → Read (Seen Cut)
+abbrev pub cutRead : List ℕ → CutSeen → Read (WithBits Cut)
 cutRead s (cut.Got bits x n) = got (record { bits = bits; item = cutSeen s x }) n
 cutRead s cut.Bad = bad
 
@@ -192,5 +161,5 @@ cutAnswerFits s (cut.Got bits x n) = cutFits s x
 cutAnswerFits s cut.Bad = Unit {0}
 
 -- the decisions from number i on
-abbrev pub decisionsFrom : Decisions → ℕ → List Decision
-decisionsFrom d i = map (λ j. record { edge = getD (d .edges) j 0; verdict = getD (d .verdicts) j 0 }) (numbers (d .count - i) i)
+abbrev pub decisionsLeft : Decisions → ℕ → List Decision
+decisionsLeft d i = map (λ j. record { edge = getD (d .edges) j 0; verdict = getD (d .verdicts) j 0 }) (numbers (d .count - i) i)

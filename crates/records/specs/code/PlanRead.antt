@@ -1,4 +1,5 @@
--- The answer of reading a plan: the plan, or the refusal.
+-- The answer of reading a plan: number 0 and the plan, or the refusal's number and record. Free, since document 01 says nothing of them: in a
+-- refusal the plan, which is some plan of the code and stands for nothing; in a success the record, which is some number. No caller reads them.
 use mathlib.Core.Bool.{cond}
 use lib.Dec.{eqb}
 use Rattle.records.specs.paper.Fields.{Verdict, fine, refused}

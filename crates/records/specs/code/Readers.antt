@@ -3,7 +3,7 @@ use mathlib.Core.Bool.{Bool, true, false, cond}
 use mathlib.Core.List.{List, [], _∷_}
 use Prim.Native.Nat.{ℕ, zero, suc, _+_, _*_, _≤_}
 use lib.ListN.{length, getD}
-use Rattle.records.specs.paper.Fields.{upTo, number, actor, citation, Shape, bytes, Read, got, bad, fieldAt}
+use Rattle.records.specs.paper.Fields.{Shape, Read, got, bad, fieldAt}
 use Rattle.records.specs.paper.Plan as paper
 use Rattle.records.specs.code.Decoded.{electionOf}
 use Rattle.records.specs.declared.fields.Field.{Field}
@@ -30,19 +30,13 @@ abbrev pub first : List ℕ → ℕ
 first bs = getD bs 0 0
 
 -- n bytes from a place on
-unfoldable pub span : List ℕ → ℕ → ℕ → List ℕ
-span s at zero = []
-span s at (suc n) = getD s at 0 ∷ span s (at + 1) n
+unfoldable pub bytesFrom : List ℕ → ℕ → ℕ → List ℕ
+bytesFrom s at zero = []
+bytesFrom s at (suc n) = getD s at 0 ∷ bytesFrom s (at + 1) n
 
 -- a field whose bit stands, or an absent one
 abbrev pub fieldIf : Bool → List ℕ → ℕ → Shape → Read (List ℕ)
 fieldIf present s at f = cond present (fieldAt s at f) (got [] at)
-
-abbrev pub mask : Shape
-mask = bytes (number ∷ number ∷ number ∷ number ∷ number ∷ number ∷ number ∷ number ∷ [])
-
-abbrev pub election : Shape
-election = bytes (number ∷ actor ∷ upTo 2 ∷ citation ∷ [])
 
 -- ---- the answers
 
@@ -64,7 +58,7 @@ electionRead elected.Bad = bad
 
 -- a list of entries of one byte, not more than the most, within the bytes
 abbrev pub listRead : List ℕ → Listed → Read (List ℕ)
-listRead s (listed.Got at k n) = got (span s at k) n
+listRead s (listed.Got at k n) = got (bytesFrom s at k) n
 listRead s listed.Bad = bad
 
 abbrev pub listFits : ℕ → List ℕ → Listed → Type 0
@@ -73,7 +67,7 @@ listFits top s listed.Bad = Unit {0}
 
 -- and of two bytes
 abbrev pub pairsRead : List ℕ → Listed → Read (List ℕ)
-pairsRead s (listed.Got at k n) = got (span s at (k * 2)) n
+pairsRead s (listed.Got at k n) = got (bytesFrom s at (k * 2)) n
 pairsRead s listed.Bad = bad
 
 abbrev pub pairsFit : ℕ → List ℕ → Listed → Type 0

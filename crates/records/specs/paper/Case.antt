@@ -5,7 +5,7 @@ use Prim.Native.Nat.{ℕ, _+_, _-_}
 use lib.ListN.{length, getD}
 use lib.Dec.{eqb, ltb}
 use Rattle.records.specs.paper.Sets.{has, allOf, anyOf}
-use Rattle.records.specs.paper.Fields.{upTo, evidence, number, Shape, bytes, list, most, Format, needs, Raw, field, num, wide, formatOf, Verdict, fine, onFine, readFrom, firstFault}
+use Rattle.records.specs.paper.Fields.{upTo, evidence, number, byte, bytes, mask, list, most, Format, needs, Raw, field, num, wide, formatOf, Verdict, fine, onFine, readFrom, firstFault}
 use Rattle.records.specs.paper.Plan.{Plan, getFact, isBoolean, booleanFact, joined, faults}
 
 pub record CaseHeading : Type 0 where
@@ -51,46 +51,43 @@ pub record Case : Type 0 where
 unfoldable pub caseFormats : List Format
 caseFormats =
     -- 1 heading (one): 0 relation=, 1 scope, 2 segment, 3 no field: segment complete, 4 roster mask=, 5 completeness evidence, 6 most worlds=
-    record { limit = 1; fits = needs 0b1010001; fields = byte ∷ byte ∷ byte ∷ bytes [] ∷ bytes (number ∷ number ∷ number ∷ number ∷ number ∷ number ∷ number ∷ number ∷ []) ∷ bytes (evidence ∷ []) ∷ most ∷ [] } ∷
+    record { limit = 1; fits = needs 0b1010001; fields = byte number ∷ byte number ∷ byte number ∷ bytes [] ∷ mask ∷ byte evidence ∷ most ∷ [] } ∷
     -- 2 family (16): 0 number=, 1 scope, 2 completeness evidence
-    record { limit = 16; fits = needs 0b1; fields = byte ∷ byte ∷ bytes (evidence ∷ []) ∷ [] } ∷
+    record { limit = 16; fits = needs 0b1; fields = byte number ∷ byte number ∷ byte evidence ∷ [] } ∷
     -- 3 boolean (64): 0 fact=, 1 explicit-unknown evidence, 2 list (0–16) of value and evidence
-    record { limit = 64; fits = needs 0b1; fields = byte ∷ bytes (evidence ∷ []) ∷ list 16 (upTo 1 ∷ evidence ∷ []) ∷ [] } ∷
+    record { limit = 64; fits = needs 0b1; fields = byte number ∷ byte evidence ∷ list 16 (upTo 1 ∷ evidence ∷ []) ∷ [] } ∷
     -- 4 relation (256): 0 fact=, 1 value=, 2 evidence=
-    record { limit = 256; fits = needs 0b111; fields = byte ∷ bytes (upTo 1 ∷ []) ∷ bytes (evidence ∷ []) ∷ [] } ∷
+    record { limit = 256; fits = needs 0b111; fields = byte number ∷ byte (upTo 1) ∷ byte evidence ∷ [] } ∷
     -- 5 constraint (16): 0 node=
-    record { limit = 16; fits = needs 0b1; fields = byte ∷ [] } ∷ []
-  where
-    byte : Shape
-    byte = bytes (number ∷ [])
+    record { limit = 16; fits = needs 0b1; fields = byte number ∷ [] } ∷ []
 
-unfoldable pub observationsOf : List ℕ → List Observation
-observationsOf [] = []
-observationsOf (v ∷ []) = []
-observationsOf (v ∷ e ∷ bs) = record { value = v; evidence = e } ∷ observationsOf bs
+unfoldable pub observationsFrom : List ℕ → List Observation
+observationsFrom [] = []
+observationsFrom (v ∷ []) = []
+observationsFrom (v ∷ e ∷ bs) = record { value = v; evidence = e } ∷ observationsFrom bs
 
-abbrev pub headingOf : Raw → CaseHeading
-headingOf r = record { relation = num r 0; scope = num r 1; segment = num r 2; segmentComplete = has (r .bits) 3; roster = wide r 4; complete = field r 5; mostWorlds = wide r 6 }
+abbrev pub caseHeadingFrom : Raw → CaseHeading
+caseHeadingFrom r = record { relation = num r 0; scope = num r 1; segment = num r 2; segmentComplete = has (r .bits) 3; roster = wide r 4; complete = field r 5; mostWorlds = wide r 6 }
 
-abbrev pub familyBy : Raw → Family
-familyBy r = record { number = num r 0; scope = num r 1; complete = field r 2 }
+abbrev pub familyFrom : Raw → Family
+familyFrom r = record { number = num r 0; scope = num r 1; complete = field r 2 }
 
-abbrev pub booleanBy : Raw → Boolean
-booleanBy r = record { fact = num r 0; unknown = field r 1; observations = observationsOf (field r 2) }
+abbrev pub booleanFrom : Raw → Boolean
+booleanFrom r = record { fact = num r 0; unknown = field r 1; observations = observationsFrom (field r 2) }
 
-abbrev pub relationBy : Raw → Relation
-relationBy r = record { fact = num r 0; observation = record { value = num r 1; evidence = num r 2 } }
+abbrev pub relationFrom : Raw → Relation
+relationFrom r = record { fact = num r 0; observation = record { value = num r 1; evidence = num r 2 } }
 
-abbrev pub constraintBy : Raw → ℕ
-constraintBy r = num r 0
+abbrev pub constraintFrom : Raw → ℕ
+constraintFrom r = num r 0
 
 unfoldable pub addToCase : Raw → Case → Case
 addToCase r C = record {
-  headings = joined 1 headingOf r (C .headings);
-  families = joined 2 familyBy r (C .families);
-  booleans = joined 3 booleanBy r (C .booleans);
-  relations = joined 4 relationBy r (C .relations);
-  constraints = joined 5 constraintBy r (C .constraints);
+  headings = joined 1 caseHeadingFrom r (C .headings);
+  families = joined 2 familyFrom r (C .families);
+  booleans = joined 3 booleanFrom r (C .booleans);
+  relations = joined 4 relationFrom r (C .relations);
+  constraints = joined 5 constraintFrom r (C .constraints);
 }
 
 unfoldable pub caseCounts : Case → List ℕ

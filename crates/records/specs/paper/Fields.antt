@@ -40,6 +40,18 @@ pub data Shape : Type 0 where
   -- "2 bytes, 0–4,096"
   most : Shape
 
+-- a field of one byte
+abbrev pub byte : Range → Shape
+byte r = bytes (r ∷ [])
+
+-- "A mask is 8 bytes"
+abbrev pub mask : Shape
+mask = bytes (number ∷ number ∷ number ∷ number ∷ number ∷ number ∷ number ∷ number ∷ [])
+
+-- "An election is boolean fact, actor, policy (0 unknown, 1 default false, 2 default true), citation"
+abbrev pub election : Shape
+election = bytes (number ∷ actor ∷ upTo 2 ∷ citation ∷ [])
+
 -- ---- reading
 
 pub data Read (A : Type 0) : Type 0 where

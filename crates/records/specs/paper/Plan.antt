@@ -5,7 +5,7 @@ use Prim.Native.Nat.{ℕ, _+_, _-_}
 use lib.ListN.{length, getD}
 use lib.Dec.{eqb, ltb}
 use Rattle.records.specs.paper.Sets.{has, lexLess, allOf, anyOf}
-use Rattle.records.specs.paper.Fields.{upTo, person, citation, number, actor, Shape, bytes, list, Format, needs, single, Raw, field, num, wide, formatOf, Verdict, fine, onFine, readFrom, firstFault, fault}
+use Rattle.records.specs.paper.Fields.{upTo, person, citation, number, actor, byte, bytes, mask, election, list, Format, needs, single, Raw, field, num, wide, formatOf, Verdict, fine, onFine, readFrom, firstFault, fault}
 
 -- ---- what a plan holds
 
@@ -34,7 +34,6 @@ pub record Edge : Type 0 where
   pub defeaters : List ℕ
   pub combination : Bool
 
--- "An election is boolean fact, actor, policy (0 unknown, 1 default false, 2 default true), citation"
 pub record Election : Type 0 where
   pub fact : ℕ
   pub actor : ℕ
@@ -93,50 +92,44 @@ factBits bits = eqb bits 3 || eqb bits 0
 unfoldable pub planFormats : List Format
 planFormats =
     -- 1 heading (one): 0 roster relation=, 1 base-chain citation
-    record { limit = 1; fits = needs 0b1; fields = bytes (number ∷ []) ∷ bytes (citation ∷ []) ∷ [] } ∷
+    record { limit = 1; fits = needs 0b1; fields = byte number ∷ byte citation ∷ [] } ∷
     -- 2 fact (64): 0 family, 1 tuple list of persons (0–4); both bits or neither
-    record { limit = 64; fits = factBits; fields = bytes (number ∷ []) ∷ list 4 (person ∷ []) ∷ [] } ∷
+    record { limit = 64; fits = factBits; fields = byte number ∷ list 4 (person ∷ []) ∷ [] } ∷
     -- 3 node (256), just one bit: 0 literal 0/1, 1 fact, 2 And list (0–16), 3 Or list (0–16), 4 Not
-    record { limit = 256; fits = single; fields = bytes (upTo 1 ∷ []) ∷ bytes (number ∷ []) ∷ list 16 (number ∷ []) ∷ list 16 (number ∷ []) ∷ bytes (number ∷ []) ∷ [] } ∷
+    record { limit = 256; fits = single; fields = byte (upTo 1) ∷ byte number ∷ list 16 (number ∷ []) ∷ list 16 (number ∷ []) ∷ byte number ∷ [] } ∷
     -- 4 edge (64): 0 left=, 1 right=, 2 condition node=, 3 citation=, 4 defeater nodes (0–16), 5 no field: Combination
-    record { limit = 64; fits = needs 0b1111; fields = bytes (person ∷ []) ∷ bytes (person ∷ []) ∷ bytes (number ∷ []) ∷ bytes (citation ∷ []) ∷ list 16 (number ∷ []) ∷ bytes [] ∷ [] } ∷
+    record { limit = 64; fits = needs 0b1111; fields = byte person ∷ byte person ∷ byte number ∷ byte citation ∷ list 16 (number ∷ []) ∷ bytes [] ∷ [] } ∷
     -- 5 cut (16): 0 members mask=, 1 condition=, 2 citation=, 3 election, 4 list (0–64) of edge and decision, 5 list (0–16) of cuts it precedes
-    record { limit = 16; fits = needs 0b111; fields = mask ∷ bytes (number ∷ []) ∷ bytes (citation ∷ []) ∷ election ∷ list 64 (number ∷ record { low = 1; top = 3 } ∷ []) ∷ list 16 (number ∷ []) ∷ [] } ∷
+    record { limit = 16; fits = needs 0b111; fields = mask ∷ byte number ∷ byte citation ∷ election ∷ list 64 (number ∷ record { low = 1; top = 3 } ∷ []) ∷ list 16 (number ∷ []) ∷ [] } ∷
     -- 6 attachment (32): 0 members mask=, 1 anchor=, 2 condition=, 3 citation=, 4 actor=, 5 election
-    record { limit = 32; fits = needs 0b11111; fields = mask ∷ bytes (person ∷ []) ∷ bytes (number ∷ []) ∷ bytes (citation ∷ []) ∷ bytes (actor ∷ []) ∷ election ∷ [] } ∷
+    record { limit = 32; fits = needs 0b11111; fields = mask ∷ byte person ∷ byte number ∷ byte citation ∷ byte actor ∷ election ∷ [] } ∷
     -- 7 bar (32): 0 members mask=, 1 condition=, 2 citation=
-    record { limit = 32; fits = needs 0b111; fields = mask ∷ bytes (number ∷ []) ∷ bytes (citation ∷ []) ∷ [] } ∷
+    record { limit = 32; fits = needs 0b111; fields = mask ∷ byte number ∷ byte citation ∷ [] } ∷
     -- 8 status (32): 0 person=, 1 condition=, 2 citation=
-    record { limit = 32; fits = needs 0b111; fields = bytes (person ∷ []) ∷ bytes (number ∷ []) ∷ bytes (citation ∷ []) ∷ [] } ∷ []
-  where
-    mask : Shape
-    mask = bytes (number ∷ number ∷ number ∷ number ∷ number ∷ number ∷ number ∷ number ∷ [])
+    record { limit = 32; fits = needs 0b111; fields = byte person ∷ byte number ∷ byte citation ∷ [] } ∷ []
 
-    election : Shape
-    election = bytes (number ∷ actor ∷ upTo 2 ∷ citation ∷ [])
-
-unfoldable pub nodeOf : Raw → Node
-nodeOf r =
+unfoldable pub nodeFrom : Raw → Node
+nodeFrom r =
     cond (has (r .bits) 0) (literal (num r 0))
     (cond (has (r .bits) 1) (fact (num r 1)) (cond (has (r .bits) 2) (conj (field r 2)) (cond (has (r .bits) 3) (disj (field r 3)) (neg (num r 4)))))
 
-unfoldable pub electionOf : List ℕ → List Election
-electionOf [] = []
-electionOf (f ∷ bs) = record { fact = f; actor = getD bs 0 0; policy = getD bs 1 0; citation = getD bs 2 0 } ∷ []
+unfoldable pub electionFrom : List ℕ → List Election
+electionFrom [] = []
+electionFrom (f ∷ bs) = record { fact = f; actor = getD bs 0 0; policy = getD bs 1 0; citation = getD bs 2 0 } ∷ []
 
-unfoldable pub decisionsOf : List ℕ → List Decision
-decisionsOf [] = []
-decisionsOf (e ∷ []) = []
-decisionsOf (e ∷ d ∷ bs) = record { edge = e; verdict = d } ∷ decisionsOf bs
+unfoldable pub decisionsFrom : List ℕ → List Decision
+decisionsFrom [] = []
+decisionsFrom (e ∷ []) = []
+decisionsFrom (e ∷ d ∷ bs) = record { edge = e; verdict = d } ∷ decisionsFrom bs
 
-abbrev pub edgeOf : Raw → Edge
-edgeOf r = record { left = num r 0; right = num r 1; condition = num r 2; citation = num r 3; defeaters = field r 4; combination = has (r .bits) 5 }
+abbrev pub edgeFrom : Raw → Edge
+edgeFrom r = record { left = num r 0; right = num r 1; condition = num r 2; citation = num r 3; defeaters = field r 4; combination = has (r .bits) 5 }
 
-abbrev pub cutOf : Raw → Cut
-cutOf r = record { members = wide r 0; condition = num r 1; citation = num r 2; election = electionOf (field r 3); decisions = decisionsOf (field r 4); precedes = field r 5 }
+abbrev pub cutFrom : Raw → Cut
+cutFrom r = record { members = wide r 0; condition = num r 1; citation = num r 2; election = electionFrom (field r 3); decisions = decisionsFrom (field r 4); precedes = field r 5 }
 
-abbrev pub attachmentOf : Raw → Attachment
-attachmentOf r = record { members = wide r 0; anchor = num r 1; condition = num r 2; citation = num r 3; actor = num r 4; election = electionOf (field r 5) }
+abbrev pub attachmentFrom : Raw → Attachment
+attachmentFrom r = record { members = wide r 0; anchor = num r 1; condition = num r 2; citation = num r 3; actor = num r 4; election = electionFrom (field r 5) }
 
 abbrev pub headingFrom : Raw → Heading
 headingFrom r = record { relation = num r 0; chain = field r 1 }
@@ -158,10 +151,10 @@ unfoldable pub addToPlan : Raw → Plan → Plan
 addToPlan r P = record {
   headings = joined 1 headingFrom r (P .headings);
   facts = joined 2 factFrom r (P .facts);
-  nodes = joined 3 nodeOf r (P .nodes);
-  edges = joined 4 edgeOf r (P .edges);
-  cuts = joined 5 cutOf r (P .cuts);
-  attachments = joined 6 attachmentOf r (P .attachments);
+  nodes = joined 3 nodeFrom r (P .nodes);
+  edges = joined 4 edgeFrom r (P .edges);
+  cuts = joined 5 cutFrom r (P .cuts);
+  attachments = joined 6 attachmentFrom r (P .attachments);
   bars = joined 7 barFrom r (P .bars);
   statuses = joined 8 statusFrom r (P .statuses);
 }
@@ -185,10 +178,13 @@ factsRise [] = true
 factsRise (f ∷ []) = true
 factsRise (f ∷ g ∷ fs) = rises f g && factsRise (g ∷ fs)
 
+abbrev pub decidedIn : List Decision → ℕ → Bool
+decidedIn ds e = anyOf (λ d. eqb (d .edge) e) ds
+
 -- "an edge decided twice in a cut"
 unfoldable pub decidedOnce : List Decision → Bool
 decidedOnce [] = true
-decidedOnce (d ∷ ds) = not (anyOf (λ e. eqb (e .edge) (d .edge)) ds) && decidedOnce ds
+decidedOnce (d ∷ ds) = not (decidedIn ds (d .edge)) && decidedOnce ds
 
 unfoldable pub unresolvedIn : List Decision → ℕ
 unresolvedIn [] = 0
@@ -264,11 +260,8 @@ module _ (P : Plan) where
   unfoldable pub crosses : Cut → Edge → Bool
   crosses c e = e .combination && not (Bool·beq (has (c .members) (e .left)) (has (c .members) (e .right)))
 
-  abbrev pub decidedIn : Cut → ℕ → Bool
-  decidedIn c e = anyOf (λ d. eqb (d .edge) e) (c .decisions)
-
   unfoldable pub crossingsDecided : Cut → Bool
-  crossingsDecided c = allOf (λ ok. ok) (eachFrom (λ e edge. not (crosses c edge) || decidedIn c e) 0 (P .edges))
+  crossingsDecided c = allOf (λ ok. ok) (eachFrom (λ e edge. not (crosses c edge) || decidedIn (c .decisions) e) 0 (P .edges))
 
 -- "7 elections for one fact, unequal in any byte"
 unfoldable pub sameElection : Election → Election → Bool

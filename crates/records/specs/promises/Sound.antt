@@ -1,12 +1,13 @@
--- What the check gives of every accepted plan, and reading of every accepted case: numbers name what they should, and stay within the limits.
+-- What the check gives of every accepted plan, and reading of every accepted case: all that refusals 1 to 7 of document 01 rule out. Every
+-- number is in its range and names what it should, records and lists stay within their limits, and no later check found a fault.
 -- Contracts above cite it as one property; proofs/Accepted.antt shows it of `checkedPlan`, proofs/AcceptedCase.antt of `readCase`.
 use mathlib.Core.Path.{_≡_}
 use mathlib.Core.Bool.{true}
 use mathlib.Core.List.{List, [], _∷_}
 use Prim.Native.Nat.{ℕ, suc, _^_, _≤_, _<_}
 use lib.ListN.{length}
-use Rattle.records.specs.paper.Plan.{Plan, Fact, Node, literal, fact, conj, disj, neg, Edge, Election, Decision, Cut, Attachment, Bar, Status, factsRise, decidedOnce, unresolved, booleanFact}
-use Rattle.records.specs.paper.Case.{Case, CaseHeading, Boolean, Relation, Observation, relationSound}
+use Rattle.records.specs.paper.Plan.{Plan, Heading, Fact, Node, literal, fact, conj, disj, neg, Edge, Election, Decision, Cut, Attachment, Bar, Status, isBoolean, factsRise, decidedOnce, unresolved, booleanFact, crossingsDecided, electionFaults, electionRecords}
+use Rattle.records.specs.paper.Case.{Case, CaseHeading, Family, Boolean, Relation, Observation, relationSound}
 
 -- of each entry of a list
 abbrev pub All : {A : Type 0} → (A → Type 0) → List A → Type 0
@@ -15,6 +16,22 @@ All Q (x ∷ xs) = Q x × All Q xs
 
 abbrev pub Numbers : ℕ → ℕ → List ℕ → Type 0
 Numbers most bound ns = (length ns ≤ most) × All (λ n. n < bound) ns
+
+-- "actors 1–255"
+abbrev pub Actor : ℕ → Type 0
+Actor n = (1 ≤ n) × (n < 256)
+
+-- ---- the records of a plan
+
+pub record SoundHeading (h : Heading) : Type 0 where
+  pub relation : h .relation < 256
+  pub chain : Numbers 1 64 (h .chain)
+
+-- a boolean fact has neither family nor tuple
+pub record SoundFact (f : Fact) : Type 0 where
+  pub family : Numbers 1 256 (f .family)
+  pub tuple : Numbers 4 64 (f .tuple)
+  pub both : isBoolean f ≡ true → f .tuple ≡ []
 
 module _ (P : Plan) where
   -- the node of number k: its fact is one, its children are lower
@@ -31,7 +48,7 @@ module _ (P : Plan) where
 
   pub record SoundElection (e : Election) : Type 0 where
     pub fact : booleanFact P (e .fact) ≡ true
-    pub actor : e .actor < 256
+    pub actor : Actor (e .actor)
     pub policy : e .policy < 3
     pub citation : e .citation < 64
 
@@ -44,25 +61,29 @@ module _ (P : Plan) where
 
   pub record SoundDecision (d : Decision) : Type 0 where
     pub edge : d .edge < length (P .edges)
-    pub verdict : d .verdict < 4
+    pub verdict : (1 ≤ d .verdict) × (d .verdict < 4)
 
   pub record SoundCut (c : Cut) : Type 0 where
     pub members : c .members < 2 ^ 64
     pub condition : c .condition < length (P .nodes)
     pub citation : c .citation < 64
     pub election : All SoundElection (c .election)
+    pub one : length (c .election) ≤ 1
     pub few : length (c .decisions) ≤ 64
     pub decisions : All SoundDecision (c .decisions)
     pub once : decidedOnce (c .decisions) ≡ true
     pub precedes : Numbers 16 (length (P .cuts)) (c .precedes)
+    -- check 6
+    pub crossings : crossingsDecided P c ≡ true
 
   pub record SoundAttachment (a : Attachment) : Type 0 where
     pub members : a .members < 2 ^ 64
     pub anchor : a .anchor < 64
     pub condition : a .condition < length (P .nodes)
     pub citation : a .citation < 64
-    pub actor : a .actor < 256
+    pub actor : Actor (a .actor)
     pub election : All SoundElection (a .election)
+    pub one : length (a .election) ≤ 1
 
   pub record SoundBar (b : Bar) : Type 0 where
     pub members : b .members < 2 ^ 64
@@ -74,13 +95,10 @@ module _ (P : Plan) where
     pub condition : t .condition < length (P .nodes)
     pub citation : t .citation < 64
 
--- the tuple of a fact
-abbrev pub SoundFact : Fact → Type 0
-SoundFact f = Numbers 4 64 (f .tuple)
-
 -- WHAT AN ACCEPTED PLAN IS
 pub record Sound (P : Plan) : Type 0 where
   pub heading : length (P .headings) ≡ 1
+  pub headings : All SoundHeading (P .headings)
   pub factLimit : length (P .facts) ≤ 64
   pub facts : All SoundFact (P .facts)
   pub rise : factsRise (P .facts) ≡ true
@@ -97,10 +115,23 @@ pub record Sound (P : Plan) : Type 0 where
   pub bars : All (SoundBar P) (P .bars)
   pub statusLimit : length (P .statuses) ≤ 32
   pub statuses : All (SoundStatus P) (P .statuses)
+  -- check 7
+  pub elections : All (λ n. n ≡ 0) (electionFaults [] (electionRecords P))
 
-pub record SoundHeading (h : CaseHeading) : Type 0 where
+-- ---- the records of a case
+
+pub record SoundCaseHeading (h : CaseHeading) : Type 0 where
+  pub relation : h .relation < 256
+  pub scope : h .scope < 256
+  pub segment : h .segment < 256
   pub roster : h .roster < 2 ^ 64
+  pub complete : Numbers 1 64 (h .complete)
   pub mostWorlds : h .mostWorlds ≤ 4096
+
+pub record SoundFamily (m : Family) : Type 0 where
+  pub number : m .number < 256
+  pub scope : m .scope < 256
+  pub complete : Numbers 1 64 (m .complete)
 
 pub record SoundObservation (o : Observation) : Type 0 where
   pub value : o .value < 2
@@ -119,8 +150,9 @@ pub record SoundRelation (P : Plan) (C : Case) (r : Relation) : Type 0 where
 -- WHAT AN ACCEPTED CASE IS, over its plan
 pub record SoundCase (P : Plan) (C : Case) : Type 0 where
   pub heading : length (C .headings) ≡ 1
-  pub headings : All SoundHeading (C .headings)
+  pub headings : All SoundCaseHeading (C .headings)
   pub familyLimit : length (C .families) ≤ 16
+  pub families : All SoundFamily (C .families)
   pub booleanLimit : length (C .booleans) ≤ 64
   pub booleans : All (SoundBoolean P) (C .booleans)
   pub relationLimit : length (C .relations) ≤ 256

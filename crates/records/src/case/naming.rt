@@ -18,9 +18,8 @@ ghost use Prim.Native.Nat.{_≤_};
 ghost use Rattle.records.specs.paper.Sets.{anyOf};
 ghost use Rattle.records.specs.paper.Fields.{fine, firstFault};
 ghost use Rattle.records.specs.paper.Case.{caseNamingFaults, booleansAt};
-ghost use Rattle.records.specs.code.Decoded.{planOf, caseOf};
+ghost use Rattle.records.specs.code.Decoded.{planOf, caseOf, familiesOf};
 ghost use Rattle.records.specs.code.Check.{checkedOf};
-ghost use Rattle.records.specs.code.CasePasses.{familiesOf};
 ghost use Rattle.records.specs.code.CaseNamed.{CaseCountsOf, CaseCountLimits, sameFamily, RelationSound, BooleansNamed, RelationsNamed, ConstraintsNamed};
 
 // How many records of each kind a case has, whatever its count fields say.

@@ -24,7 +24,7 @@ ghost use Rattle.records.specs.paper.Case.{caseRecords, readCase};
 ghost use Rattle.records.specs.code.Decoded.{planOf};
 ghost use Rattle.records.specs.code.CaseRead.{caseReadOf};
 
-// number 0: read; else the refusal and its record
+// number 0: the case was read, and the record is free; else the refusal's number and record, and the case is free
 pub struct CaseRead {
     pub number: u8,
     pub record: usize,

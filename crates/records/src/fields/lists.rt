@@ -9,11 +9,11 @@ ghost use lib.ListN.{length, take};
 ghost use Rattle.records.specs.paper.Case as case;
 ghost use Rattle.records.specs.paper.Plan as paper;
 ghost use Rattle.records.specs.code.Decoded.{numbersOf, decisionsOf, observationsOf};
-ghost use Rattle.records.specs.code.Readers.{span};
+ghost use Rattle.records.specs.code.Readers.{bytesFrom};
 
 pub fn numbers_from(s: &[u8], first: usize, count: u8) -> Numbers
     requires { ⌜ (count ≤ 16) × (first + count ≤ length (now s)) ⌝ }
-    ensures { λ r. ⌜ numbersOf r ≡ span (now (s .entry)) first count ⌝ }
+    ensures { λ r. ⌜ numbersOf r ≡ bytesFrom (now (s .entry)) first count ⌝ }
 {
     let n = to_index(count);
     let mut items = [0u8; 16];
@@ -30,7 +30,7 @@ pub fn numbers_from(s: &[u8], first: usize, count: u8) -> Numbers
 
 pub fn tuple_from(s: &[u8], first: usize, count: u8) -> [u8; 4]
     requires { ⌜ (count ≤ 4) × (first + count ≤ length (now s)) ⌝ }
-    ensures { λ r. ⌜ take count r ≡ span (now (s .entry)) first count ⌝ }
+    ensures { λ r. ⌜ take count r ≡ bytesFrom (now (s .entry)) first count ⌝ }
 {
     let n = to_index(count);
     let mut items = [0u8; 4];
@@ -44,7 +44,7 @@ pub fn tuple_from(s: &[u8], first: usize, count: u8) -> [u8; 4]
 
 pub fn decisions_from(s: &[u8], first: usize, count: u8) -> Decisions
     requires { ⌜ (count ≤ 64) × (first + count * 2 ≤ length (now s)) ⌝ }
-    ensures { λ r. ⌜ (decisionsOf r ≡ paper.decisionsOf (span (now (s .entry)) first (count * 2))) × (r .count ≡ count) ⌝ }
+    ensures { λ r. ⌜ (decisionsOf r ≡ paper.decisionsFrom (bytesFrom (now (s .entry)) first (count * 2))) × (r .count ≡ count) ⌝ }
 {
     let n = to_index(count);
     let mut edges = [0u8; 64];
@@ -64,7 +64,7 @@ pub fn decisions_from(s: &[u8], first: usize, count: u8) -> Decisions
 
 pub fn observations_from(s: &[u8], first: usize, count: u8) -> Observations
     requires { ⌜ (count ≤ 16) × (first + count * 2 ≤ length (now s)) ⌝ }
-    ensures { λ r. ⌜ observationsOf r ≡ case.observationsOf (span (now (s .entry)) first (count * 2)) ⌝ }
+    ensures { λ r. ⌜ observationsOf r ≡ case.observationsFrom (bytesFrom (now (s .entry)) first (count * 2)) ⌝ }
 {
     let n = to_index(count);
     let mut values = [0u8; 16];

@@ -28,7 +28,7 @@ ghost use mathlib.Core.Path.{_≡_};
 ghost use Rattle.records.specs.paper.Plan as paper;
 ghost use Rattle.records.specs.code.PlanRead.{planReadOf};
 
-// number 0: the plan was read; else the refusal's number and record
+// number 0: the plan was read, and the record is free; else the refusal's number and record, and the plan is free
 pub struct PlanRead {
     pub number: u8,
     pub record: usize,

@@ -2,7 +2,7 @@
 use mathlib.Core.Path.{ap}
 use borrow.Author.Tests.{not-true, not-false}
 use Rattle.records.specs.paper.Fields.{fieldAt, bytesAt}
-use Rattle.records.specs.paper.Plan.{electionOf}
+use Rattle.records.specs.paper.Plan.{electionFrom}
 use Rattle.records.specs.code.Decoded as decoded
 use Rattle.records.specs.code.Readers.{fieldRead}
 use Rattle.records.proofs.Reading.{seen}
@@ -14,7 +14,7 @@ no-election-requires : tie.Need-no-election-requires
 no-election-requires c κs = search needs
 
 returns : tie.Need-returns
-unfolding electionOf decoded.electionOf
+unfolding electionFrom decoded.electionOf
 returns c = rw (not-true (c .before .before .before .args .present) (c .before .if1 .taken), ap decoded.electionOf (c .no-election .ensures))
 
 byte-at-requires : tie.Need-byte-at-requires
@@ -27,7 +27,7 @@ enum-told : tie.Need-enum-told
 enum-told c = search needs
 
 returns-2 : tie.Need-returns-2
-unfolding fieldAt bytesAt electionOf
+unfolding fieldAt bytesAt electionFrom
 returns-2 c = rw (not-false (c .before .before .before .before .before .args .present) (c .before .before .before .if1 .left), seen fieldRead (c .before .before .byte-at .ensures) (c .enum-told .given .1))
 
 byte-at-requires-2 : tie.Need-byte-at-requires-2
@@ -40,7 +40,7 @@ enum-told-2 : tie.Need-enum-told-2
 enum-told-2 c = search needs
 
 returns-3 : tie.Need-returns-3
-unfolding fieldAt bytesAt electionOf
+unfolding fieldAt bytesAt electionFrom
 returns-3 c = rw (not-false (c .before .before .before .before .before .before .before .before .before .args .present) (c .before .before .before .before .before .before .before .if1 .left), seen fieldRead (c .before .before .before .before .before .before .byte-at .ensures) (c .before .before .before .before .fact .given .1), seen fieldRead (c .before .before .byte-at2 .ensures) (c .enum-told2 .given .1))
 
 byte-at-requires-3 : tie.Need-byte-at-requires-3
@@ -53,7 +53,7 @@ enum-told-3 : tie.Need-enum-told-3
 enum-told-3 c = search needs
 
 returns-4 : tie.Need-returns-4
-unfolding fieldAt bytesAt electionOf
+unfolding fieldAt bytesAt electionFrom
 returns-4 c = rw (not-false (c .before .before .before .before .before .before .before .before .before .before .before .before .before .args .present) (c .before .before .before .before .before .before .before .before .before .before .before .if1 .left), seen fieldRead (c .before .before .before .before .before .before .before .before .before .before .byte-at .ensures) (c .before .before .before .before .before .before .before .before .fact .given .1), seen fieldRead (c .before .before .before .before .before .before .byte-at2 .ensures) (c .before .before .before .before .actor .given .1), seen fieldRead (c .before .before .byte-at3 .ensures) (c .enum-told3 .given .1))
 
 byte-at-requires-4 : tie.Need-byte-at-requires-4
@@ -66,11 +66,11 @@ enum-told-4 : tie.Need-enum-told-4
 enum-told-4 c = search needs
 
 returns-5 : tie.Need-returns-5
-unfolding fieldAt bytesAt electionOf
+unfolding fieldAt bytesAt electionFrom
 returns-5 c = rw (not-false (c .before .before .before .before .before .before .before .before .before .before .before .before .before .before .before .before .before .args .present) (c .before .before .before .before .before .before .before .before .before .before .before .before .before .before .before .if1 .left), seen fieldRead (c .before .before .before .before .before .before .before .before .before .before .before .before .before .before .byte-at .ensures) (c .before .before .before .before .before .before .before .before .before .before .before .before .fact .given .1), seen fieldRead (c .before .before .before .before .before .before .before .before .before .before .byte-at2 .ensures) (c .before .before .before .before .before .before .before .before .actor .given .1), seen fieldRead (c .before .before .before .before .before .before .byte-at3 .ensures) (c .before .before .before .before .policy .given .1), seen fieldRead (c .before .before .byte-at4 .ensures) (c .enum-told4 .given .1))
 
 returns-6 : tie.Need-returns-6
-unfolding fieldAt bytesAt electionOf decoded.electionOf
+unfolding fieldAt bytesAt electionFrom decoded.electionOf
 returns-6 c = rw (not-false (c .before .before .before .before .before .before .before .before .before .before .before .before .before .before .before .before .before .before .args .present) (c .before .before .before .before .before .before .before .before .before .before .before .before .before .before .before .before .if1 .left), seen fieldRead (c .before .before .before .before .before .before .before .before .before .before .before .before .before .before .before .byte-at .ensures) (c .before .before .before .before .before .before .before .before .before .before .before .before .before .fact .given .1), seen fieldRead (c .before .before .before .before .before .before .before .before .before .before .before .byte-at2 .ensures) (c .before .before .before .before .before .before .before .before .before .actor .given .1), seen fieldRead (c .before .before .before .before .before .before .before .byte-at3 .ensures) (c .before .before .before .before .before .policy .given .1), seen fieldRead (c .before .before .before .byte-at4 .ensures) (c .before .citation .given .1))
 
 pub election-at-spec : {M : Type 1} → statement M

@@ -7,14 +7,14 @@ use denote.Ref.{now}
 use lib.ListN.{length}
 use borrow.Author.Tests.{not-true, not-false}
 use Rattle.records.specs.paper.Fields.{got, bytesAt, repeat, upTo}
-use Rattle.records.specs.code.Readers.{fieldRead, isGot, span}
+use Rattle.records.specs.code.Readers.{fieldRead, isGot, bytesFrom}
 use Rattle.records.proofs.Reading.{seen, list-bad, list-stands, list-stands-not}
 use borrow.Author.Needs.{needs}
 use Rattle.records.proofs.fields.pairs_at.Statement.{statement}
 use Rattle.records.proofs.fields.pairs_at.Tie as tie
 
 returns : tie.Need-returns
-unfolding span
+unfolding bytesFrom
 returns c = (rw (not-true (c .before .before .args .present) (c .if1 .taken)), (omega arith, omega arith))
 
 byte-at-requires : tie.Need-byte-at-requires
@@ -55,7 +55,7 @@ returns-3 c =
     let n = c .before .before .to-index .ensures .0 in
     let h = list-stands (now (a .s)) (a .at) (a .limit) rs (seen fieldRead (c .before .before .before .before .before .before .byte-at .ensures) (c .before .before .before .before .count .given .1))
     (sym (c .if2 .taken) ∙ c .before .pairs-stand .ensures ∙ ap (λ (k : ℕ). isGot (bytesAt (now (a .s)) (c .before .before .before .before .count .given .0 .1 .0) (repeat k rs))) n) in
-    (rw (not-false (a .present) (c .before .before .before .before .before .before .before .if1 .left)) (ap (got (span (now (a .s)) (c .before .before .before .before .count .given .0 .1 .0) (c .before .before .before .before .count .given .0 .0 * 2))) (omega (arith, n)) ∙ h .0), (h .1, h .2))
+    (rw (not-false (a .present) (c .before .before .before .before .before .before .before .if1 .left)) (ap (got (bytesFrom (now (a .s)) (c .before .before .before .before .count .given .0 .1 .0) (c .before .before .before .before .count .given .0 .0 * 2))) (omega (arith, n)) ∙ h .0), (h .1, h .2))
 
 returns-4 : tie.Need-returns-4
 returns-4 c =

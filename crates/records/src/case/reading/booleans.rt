@@ -15,9 +15,10 @@ ghost use Prim.Native.Nat.{_≤_, _+_};
 ghost use lib.ListN.{length};
 ghost use Rattle.records.specs.paper.Case.{caseFormats};
 ghost use Rattle.records.specs.code.Readers.{mapRead};
-ghost use Rattle.records.specs.code.Passes.{rawOf, seenBy, Passed};
-ghost use Rattle.records.specs.paper.Case.{booleanBy};
-ghost use Rattle.records.specs.code.CasePasses.{caseReading, booleanRead, booleanFits, booleansOf, withBooleans};
+ghost use Rattle.records.specs.code.Passes.{rawOf, withBits, Passed};
+ghost use Rattle.records.specs.paper.Case.{booleanFrom};
+ghost use Rattle.records.specs.code.CasePasses.{caseReading, booleanRead, booleanFits, withBooleans};
+ghost use Rattle.records.specs.code.Decoded.{booleansOf};
 
 // The bits, the fact, the evidence of its being unknown, where the observations stand and how many there are, and the place after them.
 pub enum BooleanSeen {
@@ -26,7 +27,7 @@ pub enum BooleanSeen {
 }
 
 pub fn boolean_at(s: &[u8], at: usize) -> BooleanSeen
-    ensures { λ r. ⌜ (booleanRead (now (s .entry)) r ≡ mapRead (seenBy booleanBy) (rawOf caseFormats 3 (now (s .entry)) at)) × booleanFits (now (s .entry)) r ⌝ }
+    ensures { λ r. ⌜ (booleanRead (now (s .entry)) r ≡ mapRead (withBits booleanFrom) (rawOf caseFormats 3 (now (s .entry)) at)) × booleanFits (now (s .entry)) r ⌝ }
 {
     let Field::Got(bits, p) = byte_at(s, at, 0, 255) else {
         return BooleanSeen::Bad;

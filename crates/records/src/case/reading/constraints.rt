@@ -10,9 +10,10 @@ ghost use Prim.Native.Nat.{_≤_, _+_};
 ghost use lib.ListN.{length};
 ghost use Rattle.records.specs.paper.Case.{caseFormats};
 ghost use Rattle.records.specs.code.Readers.{mapRead};
-ghost use Rattle.records.specs.code.Passes.{rawOf, seenBy, Passed};
-ghost use Rattle.records.specs.paper.Case.{constraintBy};
-ghost use Rattle.records.specs.code.CasePasses.{caseReading, constraintRead, constraintsOf, withConstraints};
+ghost use Rattle.records.specs.code.Passes.{rawOf, withBits, Passed};
+ghost use Rattle.records.specs.paper.Case.{constraintFrom};
+ghost use Rattle.records.specs.code.CasePasses.{caseReading, constraintRead, withConstraints};
+ghost use Rattle.records.specs.code.Decoded.{constraintsOf};
 
 // The bits, the node, and the place after it.
 pub enum ConstraintSeen {
@@ -21,7 +22,7 @@ pub enum ConstraintSeen {
 }
 
 pub fn constraint_at(s: &[u8], at: usize) -> ConstraintSeen
-    ensures { λ r. ⌜ constraintRead r ≡ mapRead (seenBy constraintBy) (rawOf caseFormats 5 (now (s .entry)) at) ⌝ }
+    ensures { λ r. ⌜ constraintRead r ≡ mapRead (withBits constraintFrom) (rawOf caseFormats 5 (now (s .entry)) at) ⌝ }
 {
     let Field::Got(bits, p) = byte_at(s, at, 0, 255) else {
         return ConstraintSeen::Bad;

@@ -11,9 +11,10 @@ ghost use Prim.Native.Nat.{_≤_, _+_};
 ghost use lib.ListN.{length};
 ghost use Rattle.records.specs.paper.Case.{caseFormats};
 ghost use Rattle.records.specs.code.Readers.{mapRead};
-ghost use Rattle.records.specs.code.Passes.{rawOf, seenBy, Passed};
-ghost use Rattle.records.specs.paper.Case.{familyBy};
-ghost use Rattle.records.specs.code.CasePasses.{caseReading, familyRead, familiesOf, withFamilies};
+ghost use Rattle.records.specs.code.Passes.{rawOf, withBits, Passed};
+ghost use Rattle.records.specs.paper.Case.{familyFrom};
+ghost use Rattle.records.specs.code.CasePasses.{caseReading, familyRead, withFamilies};
+ghost use Rattle.records.specs.code.Decoded.{familiesOf};
 
 // The bits, the family, and the place after it.
 pub enum FamilySeen {
@@ -22,7 +23,7 @@ pub enum FamilySeen {
 }
 
 pub fn family_at(s: &[u8], at: usize) -> FamilySeen
-    ensures { λ r. ⌜ familyRead r ≡ mapRead (seenBy familyBy) (rawOf caseFormats 2 (now (s .entry)) at) ⌝ }
+    ensures { λ r. ⌜ familyRead r ≡ mapRead (withBits familyFrom) (rawOf caseFormats 2 (now (s .entry)) at) ⌝ }
 {
     let Field::Got(bits, p) = byte_at(s, at, 0, 255) else {
         return FamilySeen::Bad;

@@ -11,11 +11,11 @@ use crate::fields::short_at;
 ghost use mathlib.Core.Path.{_≡_};
 ghost use mathlib.Core.Bool.{false};
 ghost use Prim.Native.Nat.{_≤_};
-ghost use Rattle.records.specs.paper.Case.{caseFormats, headingOf, caseHeading, emptyCase};
-ghost use Rattle.records.specs.code.Decoded.{caseHeadingOf};
+ghost use Rattle.records.specs.paper.Case.{caseFormats, caseHeadingFrom, caseHeading, emptyCase};
+ghost use Rattle.records.specs.code.Decoded.{caseHeadingOf, caseHeadingsOf};
 ghost use Rattle.records.specs.code.Readers.{mapRead};
-ghost use Rattle.records.specs.code.Passes.{rawOf, seenBy, Passed};
-ghost use Rattle.records.specs.code.CasePasses.{caseReading, headingRead, headingsBy, withHeadings};
+ghost use Rattle.records.specs.code.Passes.{rawOf, withBits, Passed};
+ghost use Rattle.records.specs.code.CasePasses.{caseReading, caseHeadingRead, withCaseHeadings};
 
 // The bits, the heading, and the place after it.
 pub enum HeadingSeen {
@@ -24,7 +24,7 @@ pub enum HeadingSeen {
 }
 
 pub fn heading_at(s: &[u8], at: usize) -> HeadingSeen
-    ensures { λ r. ⌜ headingRead r ≡ mapRead (seenBy headingOf) (rawOf caseFormats 1 (now (s .entry)) at) ⌝ }
+    ensures { λ r. ⌜ caseHeadingRead r ≡ mapRead (withBits caseHeadingFrom) (rawOf caseFormats 1 (now (s .entry)) at) ⌝ }
 {
     let Field::Got(bits, p) = byte_at(s, at, 0, 255) else {
         return HeadingSeen::Bad;
@@ -89,7 +89,7 @@ pub fn no_heading() -> CaseHeading
 
 pub fn read_case_heading(s: &[u8]) -> CaseHeadingRead
     ensures { λ r.
-        ⌜ Passed caseReading withHeadings 1 (now (s .entry)) false 0 0 (r .number) (r .record) (r .at) (headingsBy (r .headings) (r .heading))
+        ⌜ Passed caseReading withCaseHeadings 1 (now (s .entry)) false 0 0 (r .number) (r .record) (r .at) (caseHeadingsOf (r .headings) (r .heading))
         × (r .record ≤ r .at) × (r .headings ≤ 1) ⌝ }
 {
     let mut headings: usize = 0;

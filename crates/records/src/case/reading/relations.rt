@@ -11,9 +11,10 @@ ghost use Prim.Native.Nat.{_≤_, _+_};
 ghost use lib.ListN.{length};
 ghost use Rattle.records.specs.paper.Case.{caseFormats};
 ghost use Rattle.records.specs.code.Readers.{mapRead};
-ghost use Rattle.records.specs.code.Passes.{rawOf, seenBy, Passed};
-ghost use Rattle.records.specs.paper.Case.{relationBy};
-ghost use Rattle.records.specs.code.CasePasses.{caseReading, relationRead, relationsOf, withRelations};
+ghost use Rattle.records.specs.code.Passes.{rawOf, withBits, Passed};
+ghost use Rattle.records.specs.paper.Case.{relationFrom};
+ghost use Rattle.records.specs.code.CasePasses.{caseReading, relationRead, withRelations};
+ghost use Rattle.records.specs.code.Decoded.{relationsOf};
 
 // The bits, the relation, and the place after it.
 pub enum RelationSeen {
@@ -22,7 +23,7 @@ pub enum RelationSeen {
 }
 
 pub fn relation_at(s: &[u8], at: usize) -> RelationSeen
-    ensures { λ r. ⌜ relationRead r ≡ mapRead (seenBy relationBy) (rawOf caseFormats 4 (now (s .entry)) at) ⌝ }
+    ensures { λ r. ⌜ relationRead r ≡ mapRead (withBits relationFrom) (rawOf caseFormats 4 (now (s .entry)) at) ⌝ }
 {
     let Field::Got(bits, p) = byte_at(s, at, 0, 255) else {
         return RelationSeen::Bad;

@@ -12,10 +12,10 @@ use crate::sets::contains;
 ghost use mathlib.Core.Path.{_≡_};
 ghost use Prim.Native.Nat.{ℕ, _<_, _≤_};
 ghost use Rattle.records.specs.paper.Fields.{fine, firstFault};
-ghost use Rattle.records.specs.paper.Plan.{cutsAt};
+ghost use Rattle.records.specs.paper.Plan.{decidedIn, cutsAt};
 ghost use Rattle.records.specs.code.Decoded.{planOf, decisionsOf};
 ghost use Rattle.records.specs.code.Check.{checkedOf};
-ghost use Rattle.records.specs.code.Crossings.{decides, IsOpen, firstCrossing, crossingFaults};
+ghost use Rattle.records.specs.code.Crossings.{IsOpen, firstCrossing, crossingFaults};
 
 pub enum Crossing {
     At { cut: usize, edge: usize },
@@ -23,7 +23,7 @@ pub enum Crossing {
 }
 
 pub fn decided(decisions: Decisions, edge: usize) -> bool
-    ensures { λ r. ⌜ r ≡ decides (decisionsOf decisions) edge ⌝ }
+    ensures { λ r. ⌜ r ≡ decidedIn (decisionsOf decisions) edge ⌝ }
 {
     let list = decisions.edges;
     let count = wide(decisions.count);

@@ -7,12 +7,12 @@ ghost use lib.Dec.{eqb};
 ghost use Rattle.records.specs.paper.Sets.{anyOf, numbers};
 ghost use Rattle.records.specs.paper.Plan.{decidedOnce, unresolvedIn};
 ghost use Rattle.records.specs.code.Decoded.{decisionsOf};
-ghost use Rattle.records.specs.code.PlanPasses.{decisionsFrom};
+ghost use Rattle.records.specs.code.PlanPasses.{decisionsLeft};
 
 // whether one of the decisions from number i on is of this edge
 fn decided_from(d: Decisions, edge: u8, i: usize) -> bool
     requires { ⌜ (d .count ≤ 64) × (i ≤ d .count) ⌝ }
-    ensures { λ r. ⌜ r ≡ anyOf (λ e. eqb (e .edge) edge) (decisionsFrom d i) ⌝ }
+    ensures { λ r. ⌜ r ≡ anyOf (λ e. eqb (e .edge) edge) (decisionsLeft d i) ⌝ }
 {
     let n = to_index(d.count);
     let mut j = i;

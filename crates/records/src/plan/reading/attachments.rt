@@ -16,8 +16,9 @@ ghost use Prim.Native.Nat.{_≤_, _+_};
 ghost use lib.ListN.{length};
 ghost use Rattle.records.specs.paper.Plan as paper;
 ghost use Rattle.records.specs.code.Readers.{mapRead};
-ghost use Rattle.records.specs.code.Passes.{rawOf, seenBy, Passed};
-ghost use Rattle.records.specs.code.PlanPasses.{planReading, attachmentRead, attachmentsOf, withAttachments};
+ghost use Rattle.records.specs.code.Passes.{rawOf, withBits, Passed};
+ghost use Rattle.records.specs.code.PlanPasses.{planReading, attachmentRead, withAttachments};
+ghost use Rattle.records.specs.code.Decoded.{attachmentsOf};
 
 // The bits, the attachment, and the place after it.
 pub enum AttachmentSeen {
@@ -26,7 +27,7 @@ pub enum AttachmentSeen {
 }
 
 pub fn attachment_at(s: &[u8], at: usize) -> AttachmentSeen
-    ensures { λ r. ⌜ attachmentRead r ≡ mapRead (seenBy paper.attachmentOf) (rawOf paper.planFormats 6 (now (s .entry)) at) ⌝ }
+    ensures { λ r. ⌜ attachmentRead r ≡ mapRead (withBits paper.attachmentFrom) (rawOf paper.planFormats 6 (now (s .entry)) at) ⌝ }
 {
     let Field::Got(bits, p) = byte_at(s, at, 0, 255) else {
         return AttachmentSeen::Bad;

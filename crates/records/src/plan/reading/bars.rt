@@ -13,9 +13,10 @@ ghost use Prim.Native.Nat.{_≤_, _+_};
 ghost use lib.ListN.{length};
 ghost use Rattle.records.specs.paper.Plan.{planFormats};
 ghost use Rattle.records.specs.code.Readers.{mapRead};
-ghost use Rattle.records.specs.code.Passes.{rawOf, seenBy, Passed};
+ghost use Rattle.records.specs.code.Passes.{rawOf, withBits, Passed};
 ghost use Rattle.records.specs.paper.Plan.{barFrom};
-ghost use Rattle.records.specs.code.PlanPasses.{planReading, barRead, barsOf, withBars};
+ghost use Rattle.records.specs.code.PlanPasses.{planReading, barRead, withBars};
+ghost use Rattle.records.specs.code.Decoded.{barsOf};
 
 // The bits, the bar, and the place after it.
 pub enum BarSeen {
@@ -24,7 +25,7 @@ pub enum BarSeen {
 }
 
 pub fn bar_at(s: &[u8], at: usize) -> BarSeen
-    ensures { λ r. ⌜ barRead r ≡ mapRead (seenBy barFrom) (rawOf planFormats 7 (now (s .entry)) at) ⌝ }
+    ensures { λ r. ⌜ barRead r ≡ mapRead (withBits barFrom) (rawOf planFormats 7 (now (s .entry)) at) ⌝ }
 {
     let Field::Got(bits, p) = byte_at(s, at, 0, 255) else {
         return BarSeen::Bad;

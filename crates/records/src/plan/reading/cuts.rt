@@ -29,9 +29,9 @@ ghost use lib.Dec.{ltb};
 ghost use Rattle.records.specs.paper.Sets.{allOf};
 ghost use Rattle.records.specs.paper.Plan as paper;
 ghost use Rattle.records.specs.code.Readers.{mapRead};
-ghost use Rattle.records.specs.code.Passes.{rawOf, seenBy, Passed};
-ghost use Rattle.records.specs.code.Decoded.{cutOf};
-ghost use Rattle.records.specs.code.PlanPasses.{planReading, cutRead, cutFits, cutsOf, withCuts, cutSeen, cutAnswerFits};
+ghost use Rattle.records.specs.code.Passes.{rawOf, withBits, Passed};
+ghost use Rattle.records.specs.code.Decoded.{cutOf, cutsOf};
+ghost use Rattle.records.specs.code.PlanPasses.{planReading, cutRead, cutFits, withCuts, cutSeen, cutAnswerFits};
 
 // The fields of a cut; where the decisions stand and how many there are, the same of the cuts that it precedes.
 pub struct CutFields {
@@ -52,7 +52,7 @@ pub enum CutSeen {
 }
 
 pub fn cut_at(s: &[u8], at: usize) -> CutSeen
-    ensures { λ r. ⌜ (cutRead (now (s .entry)) r ≡ mapRead (seenBy paper.cutOf) (rawOf paper.planFormats 5 (now (s .entry)) at)) × cutAnswerFits (now (s .entry)) r ⌝ }
+    ensures { λ r. ⌜ (cutRead (now (s .entry)) r ≡ mapRead (withBits paper.cutFrom) (rawOf paper.planFormats 5 (now (s .entry)) at)) × cutAnswerFits (now (s .entry)) r ⌝ }
 {
     let Field::Got(bits, p) = byte_at(s, at, 0, 255) else {
         return CutSeen::Bad;

@@ -15,9 +15,9 @@ ghost use Prim.Native.Nat.{_≤_, _+_};
 ghost use lib.ListN.{length};
 ghost use Rattle.records.specs.paper.Plan as paper;
 ghost use Rattle.records.specs.code.Readers.{mapRead};
-ghost use Rattle.records.specs.code.Passes.{rawOf, seenBy, Passed};
-ghost use Rattle.records.specs.code.Decoded.{edgeOf};
-ghost use Rattle.records.specs.code.PlanPasses.{planReading, edgeRead, edgeFits, edgesOf, withEdges, edgeSeen, edgeAnswerFits};
+ghost use Rattle.records.specs.code.Passes.{rawOf, withBits, Passed};
+ghost use Rattle.records.specs.code.Decoded.{edgeOf, edgesOf};
+ghost use Rattle.records.specs.code.PlanPasses.{planReading, edgeRead, edgeFits, withEdges, edgeSeen, edgeAnswerFits};
 
 // The fields of an edge; `first` and `count`: where the defeaters stand, and how many there are.
 pub struct EdgeFields {
@@ -36,7 +36,7 @@ pub enum EdgeSeen {
 }
 
 pub fn edge_at(s: &[u8], at: usize) -> EdgeSeen
-    ensures { λ r. ⌜ (edgeRead (now (s .entry)) r ≡ mapRead (seenBy paper.edgeOf) (rawOf paper.planFormats 4 (now (s .entry)) at)) × edgeAnswerFits (now (s .entry)) r ⌝ }
+    ensures { λ r. ⌜ (edgeRead (now (s .entry)) r ≡ mapRead (withBits paper.edgeFrom) (rawOf paper.planFormats 4 (now (s .entry)) at)) × edgeAnswerFits (now (s .entry)) r ⌝ }
 {
     let Field::Got(bits, p) = byte_at(s, at, 0, 255) else {
         return EdgeSeen::Bad;

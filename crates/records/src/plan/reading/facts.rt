@@ -16,9 +16,10 @@ ghost use Prim.Native.Nat.{_≤_};
 ghost use lib.ListN.{length};
 ghost use Rattle.records.specs.paper.Plan as paper;
 ghost use Rattle.records.specs.code.Readers.{mapRead};
-ghost use Rattle.records.specs.code.Passes.{rawOf, seenBy, Passed};
+ghost use Rattle.records.specs.code.Passes.{rawOf, withBits, Passed};
 ghost use Rattle.records.specs.paper.Plan.{factBits, factFrom};
-ghost use Rattle.records.specs.code.PlanPasses.{planReading, factRead, factFits, factsOf, withFacts};
+ghost use Rattle.records.specs.code.PlanPasses.{planReading, factRead, factFits, withFacts};
+ghost use Rattle.records.specs.code.Decoded.{factsOf};
 
 // The bits, the family, where the tuple stands and how long it is, and the place after it.
 pub enum FactSeen {
@@ -27,7 +28,7 @@ pub enum FactSeen {
 }
 
 pub fn fact_at(s: &[u8], at: usize) -> FactSeen
-    ensures { λ r. ⌜ (factRead (now (s .entry)) r ≡ mapRead (seenBy factFrom) (rawOf paper.planFormats 2 (now (s .entry)) at)) × factFits (now (s .entry)) r ⌝ }
+    ensures { λ r. ⌜ (factRead (now (s .entry)) r ≡ mapRead (withBits factFrom) (rawOf paper.planFormats 2 (now (s .entry)) at)) × factFits (now (s .entry)) r ⌝ }
 {
     let Field::Got(bits, p) = byte_at(s, at, 0, 255) else {
         return FactSeen::Bad;

@@ -8,9 +8,10 @@ ghost use mathlib.Core.Bool.{false};
 ghost use Prim.Native.Nat.{_≤_};
 ghost use Rattle.records.specs.paper.Plan.{planFormats};
 ghost use Rattle.records.specs.code.Readers.{mapRead};
-ghost use Rattle.records.specs.code.Passes.{rawOf, seenBy, Passed};
+ghost use Rattle.records.specs.code.Passes.{rawOf, withBits, Passed};
 ghost use Rattle.records.specs.paper.Plan.{headingFrom};
-ghost use Rattle.records.specs.code.PlanPasses.{planReading, headingRead, headingsBy, withHeadings};
+ghost use Rattle.records.specs.code.PlanPasses.{planReading, headingRead, withHeadings};
+ghost use Rattle.records.specs.code.Decoded.{headingsOf};
 
 // The bits, the roster relation, the base-chain citation, and the place after it.
 pub enum HeadingSeen {
@@ -19,7 +20,7 @@ pub enum HeadingSeen {
 }
 
 pub fn heading_at(s: &[u8], at: usize) -> HeadingSeen
-    ensures { λ r. ⌜ headingRead r ≡ mapRead (seenBy headingFrom) (rawOf planFormats 1 (now (s .entry)) at) ⌝ }
+    ensures { λ r. ⌜ headingRead r ≡ mapRead (withBits headingFrom) (rawOf planFormats 1 (now (s .entry)) at) ⌝ }
 {
     let Field::Got(bits, p) = byte_at(s, at, 0, 255) else {
         return HeadingSeen::Bad;
@@ -49,7 +50,7 @@ pub struct HeadingRead {
 
 pub fn read_heading(s: &[u8]) -> HeadingRead
     ensures { λ r.
-        ⌜ Passed planReading withHeadings 1 (now (s .entry)) false 0 0 (r .number) (r .record) (r .at) (headingsBy (r .headings) (r .relation) (r .chained) (r .chain))
+        ⌜ Passed planReading withHeadings 1 (now (s .entry)) false 0 0 (r .number) (r .record) (r .at) (headingsOf (r .headings) (r .relation) (r .chained) (r .chain))
         × (r .record ≤ r .at) × (r .headings ≤ 1) ⌝ }
 {
     let mut headings: usize = 0;

@@ -18,8 +18,9 @@ ghost use Rattle.records.specs.paper.Fields.{single};
 ghost use Rattle.records.specs.paper.Plan as paper;
 ghost use Rattle.records.specs.code.Decoded as decoded;
 ghost use Rattle.records.specs.code.Readers.{mapRead};
-ghost use Rattle.records.specs.code.Passes.{rawOf, seenBy, Passed};
-ghost use Rattle.records.specs.code.PlanPasses.{planReading, nodeSeen, nodeRead, nodeFits, nodeAnswerFits, nodesOf, withNodes};
+ghost use Rattle.records.specs.code.Passes.{rawOf, withBits, Passed};
+ghost use Rattle.records.specs.code.PlanPasses.{planReading, nodeSeen, nodeRead, nodeFits, nodeAnswerFits, withNodes};
+ghost use Rattle.records.specs.code.Decoded.{nodesOf};
 
 // The fields of a node, each 0 without its bit; where the children of And and of Or stand, and how many there are.
 pub struct NodeFields {
@@ -39,7 +40,7 @@ pub enum NodeSeen {
 }
 
 pub fn node_at(s: &[u8], at: usize) -> NodeSeen
-    ensures { λ r. ⌜ (nodeRead (now (s .entry)) r ≡ mapRead (seenBy paper.nodeOf) (rawOf paper.planFormats 3 (now (s .entry)) at)) × nodeAnswerFits (now (s .entry)) r ⌝ }
+    ensures { λ r. ⌜ (nodeRead (now (s .entry)) r ≡ mapRead (withBits paper.nodeFrom) (rawOf paper.planFormats 3 (now (s .entry)) at)) × nodeAnswerFits (now (s .entry)) r ⌝ }
 {
     let Field::Got(bits, p) = byte_at(s, at, 0, 255) else {
         return NodeSeen::Bad;

@@ -11,9 +11,10 @@ ghost use Prim.Native.Nat.{_≤_, _+_};
 ghost use lib.ListN.{length};
 ghost use Rattle.records.specs.paper.Plan.{planFormats};
 ghost use Rattle.records.specs.code.Readers.{mapRead};
-ghost use Rattle.records.specs.code.Passes.{rawOf, seenBy, Passed};
+ghost use Rattle.records.specs.code.Passes.{rawOf, withBits, Passed};
 ghost use Rattle.records.specs.paper.Plan.{statusFrom};
-ghost use Rattle.records.specs.code.PlanPasses.{planReading, statusRead, statusesOf, withStatuses};
+ghost use Rattle.records.specs.code.PlanPasses.{planReading, statusRead, withStatuses};
+ghost use Rattle.records.specs.code.Decoded.{statusesOf};
 
 // The bits, the status, and the place after it.
 pub enum StatusSeen {
@@ -22,7 +23,7 @@ pub enum StatusSeen {
 }
 
 pub fn status_at(s: &[u8], at: usize) -> StatusSeen
-    ensures { λ r. ⌜ statusRead r ≡ mapRead (seenBy statusFrom) (rawOf planFormats 8 (now (s .entry)) at) ⌝ }
+    ensures { λ r. ⌜ statusRead r ≡ mapRead (withBits statusFrom) (rawOf planFormats 8 (now (s .entry)) at) ⌝ }
 {
     let Field::Got(bits, p) = byte_at(s, at, 0, 255) else {
         return StatusSeen::Bad;

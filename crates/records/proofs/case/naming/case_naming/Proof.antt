@@ -10,7 +10,7 @@ use Rattle.records.specs.paper.Plan as paper
 use Rattle.records.specs.paper.Case as case
 use Rattle.records.specs.code.Decoded.{planOf, caseOf}
 use Rattle.records.specs.code.Check.{checkedOf}
-use Rattle.records.specs.code.Named.{Tells}
+use Rattle.records.specs.code.Named.{SaysFirst}
 use Rattle.records.specs.code.CaseNamed.{CaseCountsOf, booleanFaults, relationFaults, constraintFaults}
 use Rattle.records.specs.declared.case.Case.{Case}
 use Rattle.records.specs.declared.case.naming.CaseCounts.{CaseCounts}
@@ -42,22 +42,22 @@ module _ (P : paper.Plan) (p : Case) (n : CaseCounts) (h : CaseCountsOf (caseOf 
   unfolding caseOf
   long-relations = ap (λ (i : ℕ). at-relations + i) (h .relations ∙ sym (length-map (C .relations) _))
 
-  all : {s : Checked} → Tells C at-booleans (booleanFaults P (p .booleans) ++ from-relations) s → Tells C (case.booleansAt C) (case.caseNamingFaults P C) s
+  all : {s : Checked} → SaysFirst C at-booleans (booleanFaults P (p .booleans) ++ from-relations) s → SaysFirst C (case.booleansAt C) (case.caseNamingFaults P C) s
   unfolding caseOf case.caseNamingFaults
   all e = let z : at-booleans ≡ case.booleansAt C = omega (arith, h .headings, h .families) in e ∙ ap (λ (i : ℕ). checkedOf (firstFault i (case.caseNamingFaults P C) (fine C))) z
 
-  boolean-refused : {r : Checked} {i j : ℕ} → r ≡ Refused i j → Tells C at-booleans (booleanFaults P (p .booleans)) r → Tells C (case.booleansAt C) (case.caseNamingFaults P C) r
+  boolean-refused : {r : Checked} {i j : ℕ} → r ≡ Refused i j → SaysFirst C at-booleans (booleanFaults P (p .booleans)) r → SaysFirst C (case.booleansAt C) (case.caseNamingFaults P C) r
   boolean-refused {r = r} e is = all (kind-refused at-booleans at-relations (booleanFaults P (p .booleans)) from-relations C r long-booleans is e)
 
-  relation-refused : {r : Checked} {i j : ℕ} → r ≡ Refused i j → Tells C at-relations (relationFaults P C (p .relations)) r → Tells C at-relations from-relations r
+  relation-refused : {r : Checked} {i j : ℕ} → r ≡ Refused i j → SaysFirst C at-relations (relationFaults P C (p .relations)) r → SaysFirst C at-relations from-relations r
   relation-refused {r = r} e is = kind-refused at-relations (at-relations + n .relations) (relationFaults P C (p .relations)) (constraintFaults P (p .constraints)) C r long-relations is e
 
   -- a kind in which nothing was found: what is said of the kinds after it is said of it and them
   module _ {r s : Checked} (e : r ≡ Accepted) where
-    over-booleans : Tells C at-booleans (booleanFaults P (p .booleans)) r → Tells C at-relations from-relations s → Tells C (case.booleansAt C) (case.caseNamingFaults P C) s
+    over-booleans : SaysFirst C at-booleans (booleanFaults P (p .booleans)) r → SaysFirst C at-relations from-relations s → SaysFirst C (case.booleansAt C) (case.caseNamingFaults P C) s
     over-booleans is z = all (kind-passed at-booleans at-relations (booleanFaults P (p .booleans)) from-relations C r long-booleans is e z)
 
-    over-relations : Tells C at-relations (relationFaults P C (p .relations)) r → Tells C (at-relations + n .relations) (constraintFaults P (p .constraints)) s → Tells C at-relations from-relations s
+    over-relations : SaysFirst C at-relations (relationFaults P C (p .relations)) r → SaysFirst C (at-relations + n .relations) (constraintFaults P (p .constraints)) s → SaysFirst C at-relations from-relations s
     over-relations is z = kind-passed at-relations (at-relations + n .relations) (relationFaults P C (p .relations)) (constraintFaults P (p .constraints)) C r long-relations is e z
 
 count-records-requires : tie.Need-count-records-requires

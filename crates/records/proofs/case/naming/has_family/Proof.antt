@@ -7,8 +7,7 @@ use native.Mathlib.Omega.{arith}
 use lib.ListN.{length, getD, drop, length-map}
 use borrow.Author.Needs.{needs}
 use Rattle.records.specs.paper.Sets.{anyOf}
-use Rattle.records.specs.code.Decoded.{familyOf}
-use Rattle.records.specs.code.CasePasses.{familiesOf}
+use Rattle.records.specs.code.Decoded.{familyOf, familiesOf}
 use Rattle.records.specs.code.CaseNamed.{sameFamily}
 use Rattle.records.specs.declared.case.Family.{Family}
 use Rattle.records.proofs.ListLaws.{length-front, getD-front}

@@ -5,9 +5,9 @@ use native.Mathlib.Omega.{arith}
 use denote.Ref.{now}
 use lib.Dec.{eqb}
 use Rattle.records.specs.paper.Case.{Case, emptyCase, caseRecords}
-use Rattle.records.specs.code.Decoded.{caseOf, caseHeadingOf}
+use Rattle.records.specs.code.Decoded.{caseOf, caseHeadingOf, caseHeadingsOf, familiesOf, booleansOf, relationsOf, constraintsOf}
 use Rattle.records.specs.code.CaseRead.{caseReadOf}
-use Rattle.records.specs.code.CasePasses.{Clean, caseReading, headingsBy, withHeadings, familiesOf, withFamilies, booleansOf, withBooleans, relationsOf, withRelations, constraintsOf, withConstraints}
+use Rattle.records.specs.code.CasePasses.{CleanCase, caseReading, withCaseHeadings, withFamilies, withBooleans, withRelations, withConstraints}
 use Rattle.records.proofs.Passing.{Reached, next-pass, answer-stops, answer-more, answer-none, answer-fine}
 use Rattle.records.proofs.CaseKinds.{case-kinds, clean-heading, first-pass}
 use borrow.Author.Needs.{needs}
@@ -20,15 +20,15 @@ abbrev bytes : tie.After-read-case-heading → List ℕ
 bytes c = now (c .before .before .args .s)
 
 abbrev case1 : tie.After-read-case-heading → Case
-case1 c = withHeadings emptyCase (headingsBy (c .read-case-heading .result .headings) (c .read-case-heading .result .heading))
+case1 c = withCaseHeadings emptyCase (caseHeadingsOf (c .read-case-heading .result .headings) (c .read-case-heading .result .heading))
 
 reached1 : (c : tie.After-read-case-heading) → Reached caseReading (bytes c) (caseRecords (bytes c)) 2 (c .read-case-heading .result .number) (c .read-case-heading .result .«record») (c .read-case-heading .result .at) (case1 c)
 reached1 c =
     let h = c .read-case-heading .result in
-    first-pass (bytes c) (h .number) (h .«record») (h .at) (headingsBy (h .headings) (h .heading)) (c .read-case-heading .ensures .0)
+    first-pass (bytes c) (h .number) (h .«record») (h .at) (caseHeadingsOf (h .headings) (h .heading)) (c .read-case-heading .ensures .0)
 
 -- the later passes leave the heading as it is
-clean : (c : tie.After-read-case-heading) → Clean (eqb (c .read-case-heading .result .headings) 1) (case1 c)
+clean : (c : tie.After-read-case-heading) → CleanCase (eqb (c .read-case-heading .result .headings) 1) (case1 c)
 clean c = clean-heading (c .read-case-heading .result .headings) (caseHeadingOf (c .read-case-heading .result .heading)) (c .read-case-heading .ensures .2)
 
 abbrev case2 : tie.After-read-families → Case

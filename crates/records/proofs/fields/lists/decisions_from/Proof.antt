@@ -7,7 +7,7 @@ use lib.ListN.{length, length-set}
 use Rattle.records.specs.paper.Sets.{below}
 use Rattle.records.specs.paper.Plan as paper
 use Rattle.records.specs.code.Decoded.{decisionsOf}
-use Rattle.records.specs.code.Readers.{span}
+use Rattle.records.specs.code.Readers.{bytesFrom}
 use Rattle.records.proofs.Listing.{decided, pair-copied}
 use borrow.Author.Needs.{needs}
 use Rattle.records.proofs.fields.lists.decisions_from.Statement.{statement}
@@ -15,7 +15,7 @@ use Rattle.records.proofs.fields.lists.decisions_from.Tie as tie
 
 abbrev Inv-loop : tie.InvT-loop
 Inv-loop s first count n edges₀ verdicts₀ i₀ edges verdicts i =
-    (i ≤ n) × (length edges ≡ 64) × (length verdicts ≡ 64) × (below i (decided edges verdicts) ≡ paper.decisionsOf (span s first (i * 2)))
+    (i ≤ n) × (length edges ≡ 64) × (length verdicts ≡ 64) × (below i (decided edges verdicts) ≡ paper.decisionsFrom (bytesFrom s first (i * 2)))
 
 abbrev μ-loop : tie.MeasureT-loop
 μ-loop s first count n edges₀ verdicts₀ i₀ edges verdicts i = n - i
@@ -24,7 +24,7 @@ to-index-requires : tie.Need-to-index-requires Inv-loop μ-loop
 to-index-requires c κs = search needs
 
 loop-holds : tie.Need-loop-holds Inv-loop μ-loop
-unfolding span below Rattle.records.specs.paper.Sets.numbers paper.decisionsOf
+unfolding bytesFrom below Rattle.records.specs.paper.Sets.numbers paper.decisionsFrom
 loop-holds c = (omega arith, refl, refl, refl)
 
 mul-edges : tie.Need-mul-edges Inv-loop μ-loop
@@ -70,7 +70,7 @@ unfolding decisionsOf
 returns c =
     let l = c .before .loop in
     let e : l .i ≡ c .before .before .before .before .args .count = omega arith in
-    (ap (λ (k : ℕ). below k (decided (l .edges) (l .verdicts))) (sym e) ∙ l .inv .3 ∙ ap (λ (k : ℕ). paper.decisionsOf (span (now (c .before .before .before .before .args .s)) (c .before .before .before .before .args .first) (k * 2))) e, refl)
+    (ap (λ (k : ℕ). below k (decided (l .edges) (l .verdicts))) (sym e) ∙ l .inv .3 ∙ ap (λ (k : ℕ). paper.decisionsFrom (bytesFrom (now (c .before .before .before .before .args .s)) (c .before .before .before .before .args .first) (k * 2))) e, refl)
 
 pub decisions-from-spec : {M : Type 1} → statement M
 decisions-from-spec =

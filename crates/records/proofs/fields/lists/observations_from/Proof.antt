@@ -8,7 +8,7 @@ use lib.ListN.{length, getD, length-set}
 use Rattle.records.specs.paper.Sets.{below}
 use Rattle.records.specs.paper.Case as paper
 use Rattle.records.specs.code.Decoded.{observationsOf}
-use Rattle.records.specs.code.Readers.{span}
+use Rattle.records.specs.code.Readers.{bytesFrom}
 use Rattle.records.proofs.Pairs.{copied}
 use borrow.Author.Needs.{needs}
 use Rattle.records.proofs.fields.lists.observations_from.Statement.{statement}
@@ -22,7 +22,7 @@ observed vs es i = mk (getD vs i 0) (getD es i 0)
 
 abbrev Inv-loop : tie.InvT-loop
 Inv-loop s first count n values₀ evidence₀ i₀ values evidence i =
-    (i ≤ n) × (length values ≡ 16) × (length evidence ≡ 16) × (below i (observed values evidence) ≡ paper.observationsOf (span s first (i * 2)))
+    (i ≤ n) × (length values ≡ 16) × (length evidence ≡ 16) × (below i (observed values evidence) ≡ paper.observationsFrom (bytesFrom s first (i * 2)))
 
 abbrev μ-loop : tie.MeasureT-loop
 μ-loop s first count n values₀ evidence₀ i₀ values evidence i = n - i
@@ -31,7 +31,7 @@ to-index-requires : tie.Need-to-index-requires Inv-loop μ-loop
 to-index-requires c κs = search needs
 
 loop-holds : tie.Need-loop-holds Inv-loop μ-loop
-unfolding span below Rattle.records.specs.paper.Sets.numbers paper.observationsOf
+unfolding bytesFrom below Rattle.records.specs.paper.Sets.numbers paper.observationsFrom
 loop-holds c = (omega arith, refl, refl, refl)
 
 mul-values : tie.Need-mul-values Inv-loop μ-loop
@@ -68,17 +68,17 @@ loop-less : tie.Need-loop-less Inv-loop μ-loop
 loop-less c = search needs
 
 loop-again : tie.Need-loop-again Inv-loop μ-loop
-unfolding paper.observationsOf
+unfolding paper.observationsFrom
 loop-again c =
     let l = c .before .before .before .loop in
-    (omega arith, rw length-set (l .inv .1), rw length-set (l .inv .2), copied mk paper.observationsOf refl (λ x y bs. refl) (now (c .before .before .before .before .before .before .args .s)) (l .values) (l .evidence) (c .before .before .before .before .before .before .args .first) (l .i) (omega arith) (omega arith) (l .inv .3))
+    (omega arith, rw length-set (l .inv .1), rw length-set (l .inv .2), copied mk paper.observationsFrom refl (λ x y bs. refl) (now (c .before .before .before .before .before .before .args .s)) (l .values) (l .evidence) (c .before .before .before .before .before .before .args .first) (l .i) (omega arith) (omega arith) (l .inv .3))
 
 returns : tie.Need-returns Inv-loop μ-loop
 unfolding observationsOf
 returns c =
     let l = c .before .loop in
     let e : l .i ≡ c .before .before .before .before .args .count = omega arith in
-    ap (λ (k : ℕ). below k (observed (l .values) (l .evidence))) (sym e) ∙ l .inv .3 ∙ ap (λ (k : ℕ). paper.observationsOf (span (now (c .before .before .before .before .args .s)) (c .before .before .before .before .args .first) (k * 2))) e
+    ap (λ (k : ℕ). below k (observed (l .values) (l .evidence))) (sym e) ∙ l .inv .3 ∙ ap (λ (k : ℕ). paper.observationsFrom (bytesFrom (now (c .before .before .before .before .args .s)) (c .before .before .before .before .args .first) (k * 2))) e
 
 pub observations-from-spec : {M : Type 1} → statement M
 observations-from-spec =

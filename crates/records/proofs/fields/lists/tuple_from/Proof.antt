@@ -4,14 +4,14 @@ use Prim.Native.Nat.{ℕ, _-_, _≤_}
 use native.Mathlib.Omega.{arith}
 use denote.Ref.{now}
 use lib.ListN.{length, take, length-set}
-use Rattle.records.specs.code.Readers.{span}
+use Rattle.records.specs.code.Readers.{bytesFrom}
 use Rattle.records.proofs.Listing.{copied}
 use borrow.Author.Needs.{needs}
 use Rattle.records.proofs.fields.lists.tuple_from.Statement.{statement}
 use Rattle.records.proofs.fields.lists.tuple_from.Tie as tie
 
 abbrev Inv-loop : tie.InvT-loop
-Inv-loop s first count n items₀ i₀ items i = (i ≤ n) × (length items ≡ 4) × (take i items ≡ span s first i)
+Inv-loop s first count n items₀ i₀ items i = (i ≤ n) × (length items ≡ 4) × (take i items ≡ bytesFrom s first i)
 
 abbrev μ-loop : tie.MeasureT-loop
 μ-loop s first count n items₀ i₀ items i = n - i
@@ -20,7 +20,7 @@ to-index-requires : tie.Need-to-index-requires Inv-loop μ-loop
 to-index-requires c κs = search needs
 
 loop-holds : tie.Need-loop-holds Inv-loop μ-loop
-unfolding span
+unfolding bytesFrom
 loop-holds c = (omega arith, refl, refl)
 
 add-items : tie.Need-add-items Inv-loop μ-loop
@@ -47,7 +47,7 @@ returns : tie.Need-returns Inv-loop μ-loop
 returns c =
     let l = c .before .loop in
     let e : l .i ≡ c .before .before .before .before .args .count = omega arith in
-    ap (λ (k : ℕ). take k (l .items)) (sym e) ∙ l .inv .2 ∙ ap (span (now (c .before .before .before .before .args .s)) (c .before .before .before .before .args .first)) e
+    ap (λ (k : ℕ). take k (l .items)) (sym e) ∙ l .inv .2 ∙ ap (bytesFrom (now (c .before .before .before .before .args .s)) (c .before .before .before .before .args .first)) e
 
 pub tuple-from-spec : {M : Type 1} → statement M
 tuple-from-spec =

@@ -5,9 +5,9 @@ use native.Mathlib.Omega.{arith}
 use denote.Ref.{now}
 use lib.Dec.{eqb}
 use Rattle.records.specs.paper.Plan.{Plan, Heading, emptyPlan, planRecords}
-use Rattle.records.specs.code.Decoded.{given, planOf}
+use Rattle.records.specs.code.Decoded.{ifGiven, planOf, headingsOf, factsOf, nodesOf, edgesOf, cutsOf, attachmentsOf, barsOf, statusesOf}
 use Rattle.records.specs.code.PlanRead.{planReadOf}
-use Rattle.records.specs.code.PlanPasses.{Clean, planReading, headingsBy, withHeadings, withFacts, withNodes, withEdges, withCuts, withAttachments, withBars, withStatuses, factsOf, nodesOf, edgesOf, cutsOf, attachmentsOf, barsOf, statusesOf}
+use Rattle.records.specs.code.PlanPasses.{Clean, planReading, withHeadings, withFacts, withNodes, withEdges, withCuts, withAttachments, withBars, withStatuses}
 use Rattle.records.proofs.Passing.{Reached, next-pass, answer-stops, answer-more, answer-none, answer-fine}
 use Rattle.records.proofs.KindLaws.{plan-kinds}
 use Rattle.records.proofs.PlanLaws.{clean-heading, clean-facts, clean-nodes, clean-edges, clean-cuts, clean-attachments, clean-bars, first-pass}
@@ -21,7 +21,7 @@ abbrev bytes : tie.After-read-heading → List ℕ
 bytes c = now (c .before .before .args .s)
 
 abbrev headings : tie.After-read-heading → List Heading
-headings c = let h = c .read-heading .result in headingsBy (h .headings) (h .relation) (h .chained) (h .chain)
+headings c = let h = c .read-heading .result in headingsOf (h .headings) (h .relation) (h .chained) (h .chain)
 
 abbrev plan1 : tie.After-read-heading → Plan
 plan1 c = withHeadings emptyPlan (headings c)
@@ -30,7 +30,7 @@ reached1 : (c : tie.After-read-heading) → Reached planReading (bytes c) (planR
 reached1 c = let h = c .read-heading .result in first-pass (bytes c) (h .number) (h .«record») (h .at) (headings c) (c .read-heading .ensures .0)
 
 clean1 : (c : tie.After-read-heading) → Clean (eqb (c .read-heading .result .headings) 1) (plan1 c)
-clean1 c = let h = c .read-heading .result in clean-heading (h .headings) (record { relation = h .relation; chain = given (h .chained) (h .chain) }) (c .read-heading .ensures .2)
+clean1 c = let h = c .read-heading .result in clean-heading (h .headings) (record { relation = h .relation; chain = ifGiven (h .chained) (h .chain) }) (c .read-heading .ensures .2)
 
 abbrev plan2 : tie.After-read-facts → Plan
 plan2 c = withFacts (plan1 (c .before .before .before .before)) (factsOf (c .read-facts .result .facts))

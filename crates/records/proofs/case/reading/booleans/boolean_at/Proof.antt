@@ -5,8 +5,8 @@ use lib.Dec.{eqb}
 use denote.Ref.{now}
 use Rattle.records.specs.paper.Case.{caseFormats}
 use Rattle.records.specs.code.Readers.{fieldRead, pairsRead, mapRead, first}
-use Rattle.records.specs.code.Passes.{seenBy}
-use Rattle.records.specs.paper.Case.{booleanBy}
+use Rattle.records.specs.code.Passes.{withBits}
+use Rattle.records.specs.paper.Case.{booleanFrom}
 use Rattle.records.proofs.Reading.{seen, found, none}
 use Rattle.records.proofs.Chain.{more, skip, stop, last, unknown, half-of, raw-got, raw-bits, raw-bad, given-of}
 use borrow.Author.Needs.{needs}
@@ -23,7 +23,7 @@ enum-told : tie.Need-enum-told
 enum-told c = search needs
 
 returns : tie.Need-returns
-returns c = (sym (ap (mapRead (seenBy booleanBy)) (raw-bits caseFormats 3 (now (c .before .before .before .before .args .s)) (c .before .before .before .before .args .at) (seen fieldRead (c .before .before .byte-at .ensures) (c .enum-told .given .1)))), tt)
+returns c = (sym (ap (mapRead (withBits booleanFrom)) (raw-bits caseFormats 3 (now (c .before .before .before .before .args .s)) (c .before .before .before .before .args .at) (seen fieldRead (c .before .before .byte-at .ensures) (c .enum-told .given .1)))), tt)
 
 opt-at-requires : tie.Need-opt-at-requires
 opt-at-requires c κs = search needs
@@ -37,7 +37,7 @@ enum-told-2 c = search needs
 returns-2 : tie.Need-returns-2
 unfolding caseFormats
 returns-2 c = (
-  sym (ap (mapRead (seenBy booleanBy)) (raw-bad caseFormats 3 (now (c .before .before .before .before .before .before .before .before .args .s)) (c .before .before .before .before .before .before .before .before .args .at) (seen fieldRead (c .before .before .before .before .before .before .byte-at .ensures) (c .before .before .before .before .bits .given .1))
+  sym (ap (mapRead (withBits booleanFrom)) (raw-bad caseFormats 3 (now (c .before .before .before .before .before .before .before .before .args .s)) (c .before .before .before .before .before .before .before .before .args .at) (seen fieldRead (c .before .before .before .before .before .before .byte-at .ensures) (c .before .before .before .before .bits .given .1))
       (stop _ _ _ _ refl _ _ (none first _ (seen fieldRead (c .before .before .opt-at .ensures) (c .enum-told2 .given .1)))))),
   tt,
 )
@@ -54,7 +54,7 @@ enum-told-3 c = search needs
 returns-3 : tie.Need-returns-3
 unfolding caseFormats
 returns-3 c = (
-  sym (ap (mapRead (seenBy booleanBy)) (raw-bad caseFormats 3 (now (c .before .before .before .before .before .before .before .before .before .before .before .before .args .s)) (c .before .before .before .before .before .before .before .before .before .before .before .before .args .at) (seen fieldRead (c .before .before .before .before .before .before .before .before .before .before .byte-at .ensures) (c .before .before .before .before .before .before .before .before .bits .given .1))
+  sym (ap (mapRead (withBits booleanFrom)) (raw-bad caseFormats 3 (now (c .before .before .before .before .before .before .before .before .before .before .before .before .args .s)) (c .before .before .before .before .before .before .before .before .before .before .before .before .args .at) (seen fieldRead (c .before .before .before .before .before .before .before .before .before .before .byte-at .ensures) (c .before .before .before .before .before .before .before .before .bits .given .1))
       (skip _ _ _ _ refl _ _ (found first _ (seen fieldRead (c .before .before .before .before .before .before .opt-at .ensures) (c .before .before .before .before .fact .given .1)) .is)
       (stop _ _ _ _ (half-of _ 2) _ _ (none first _ (seen fieldRead (c .before .before .opt-at2 .ensures) (c .enum-told3 .given .1))))))),
   tt,
@@ -72,7 +72,7 @@ enum-told-4 c = search needs
 returns-4 : tie.Need-returns-4
 unfolding caseFormats
 returns-4 c = (
-  sym (ap (mapRead (seenBy booleanBy)) (raw-bad caseFormats 3 (now (c .before .before .before .before .before .before .before .before .before .before .before .before .before .before .before .before .args .s)) (c .before .before .before .before .before .before .before .before .before .before .before .before .before .before .before .before .args .at) (seen fieldRead (c .before .before .before .before .before .before .before .before .before .before .before .before .before .before .byte-at .ensures) (c .before .before .before .before .before .before .before .before .before .before .before .before .bits .given .1))
+  sym (ap (mapRead (withBits booleanFrom)) (raw-bad caseFormats 3 (now (c .before .before .before .before .before .before .before .before .before .before .before .before .before .before .before .before .args .s)) (c .before .before .before .before .before .before .before .before .before .before .before .before .before .before .before .before .args .at) (seen fieldRead (c .before .before .before .before .before .before .before .before .before .before .before .before .before .before .byte-at .ensures) (c .before .before .before .before .before .before .before .before .before .before .before .before .bits .given .1))
       (skip _ _ _ _ refl _ _ (found first _ (seen fieldRead (c .before .before .before .before .before .before .before .before .before .before .opt-at .ensures) (c .before .before .before .before .before .before .before .before .fact .given .1)) .is)
       (skip _ _ _ _ (half-of _ 2) _ _ (given-of (eqb (c .before .before .before .before .before .before .before .before .before .before .before .before .bits .given .0 .0 / 2 % 2) 1) (now (c .before .before .before .before .before .before .before .before .before .before .before .before .before .before .before .before .args .s)) (c .before .before .before .before .before .before .before .before .fact .given .0 .1 .0) (record { low = 0; top = 63 }) (seen fieldRead (c .before .before .before .before .before .before .opt-at2 .ensures) (c .before .before .before .before .evidence .given .1)))
       (stop _ _ _ _ (half-of _ 4) _ _ (seen (pairsRead (now (c .before .before .before .before .before .before .before .before .before .before .before .before .before .before .before .before .args .s))) (c .before .before .pairs-at .ensures .0) (c .enum-told4 .given .1))))))),
@@ -97,7 +97,7 @@ returns-5 c =
 returns-6 : tie.Need-returns-6
 unfolding caseFormats
 returns-6 c = (
-  sym (ap (mapRead (seenBy booleanBy)) (raw-bad caseFormats 3 (now (c .before .before .before .before .before .before .before .before .before .before .before .before .before .before .before .before .before .before .args .s)) (c .before .before .before .before .before .before .before .before .before .before .before .before .before .before .before .before .before .before .args .at) (seen fieldRead (c .before .before .before .before .before .before .before .before .before .before .before .before .before .before .before .before .byte-at .ensures) (c .before .before .before .before .before .before .before .before .before .before .before .before .before .before .bits .given .1))
+  sym (ap (mapRead (withBits booleanFrom)) (raw-bad caseFormats 3 (now (c .before .before .before .before .before .before .before .before .before .before .before .before .before .before .before .before .before .before .args .s)) (c .before .before .before .before .before .before .before .before .before .before .before .before .before .before .before .before .before .before .args .at) (seen fieldRead (c .before .before .before .before .before .before .before .before .before .before .before .before .before .before .before .before .byte-at .ensures) (c .before .before .before .before .before .before .before .before .before .before .before .before .before .before .bits .given .1))
       (skip _ _ _ _ refl _ _ (found first _ (seen fieldRead (c .before .before .before .before .before .before .before .before .before .before .before .before .opt-at .ensures) (c .before .before .before .before .before .before .before .before .before .before .fact .given .1)) .is)
       (skip _ _ _ _ (half-of _ 2) _ _ (given-of (eqb (c .before .before .before .before .before .before .before .before .before .before .before .before .before .before .bits .given .0 .0 / 2 % 2) 1) (now (c .before .before .before .before .before .before .before .before .before .before .before .before .before .before .before .before .before .before .args .s)) (c .before .before .before .before .before .before .before .before .before .before .fact .given .0 .1 .0) (record { low = 0; top = 63 }) (seen fieldRead (c .before .before .before .before .before .before .before .before .opt-at2 .ensures) (c .before .before .before .before .before .before .evidence .given .1)))
       (skip _ _ _ _ (half-of _ 4) _ _ (seen (pairsRead (now (c .before .before .before .before .before .before .before .before .before .before .before .before .before .before .before .before .before .before .args .s))) (c .before .before .before .before .pairs-at .ensures .0) (c .before .before .first .given .1))

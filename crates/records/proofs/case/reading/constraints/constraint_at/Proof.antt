@@ -3,8 +3,8 @@ use mathlib.Core.Path.{refl, sym, ap}
 use denote.Ref.{now}
 use Rattle.records.specs.paper.Case.{caseFormats}
 use Rattle.records.specs.code.Readers.{fieldRead, mapRead, first}
-use Rattle.records.specs.code.Passes.{seenBy}
-use Rattle.records.specs.paper.Case.{constraintBy}
+use Rattle.records.specs.code.Passes.{withBits}
+use Rattle.records.specs.paper.Case.{constraintFrom}
 use Rattle.records.proofs.Reading.{seen, found, none}
 use Rattle.records.proofs.Chain.{more, skip, stop, last, unknown, raw-got, raw-bits, raw-bad}
 use borrow.Author.Needs.{needs}
@@ -21,7 +21,7 @@ enum-told : tie.Need-enum-told
 enum-told c = search needs
 
 returns : tie.Need-returns
-returns c = sym (ap (mapRead (seenBy constraintBy)) (raw-bits caseFormats 5 (now (c .before .before .before .before .args .s)) (c .before .before .before .before .args .at) (seen fieldRead (c .before .before .byte-at .ensures) (c .enum-told .given .1))))
+returns c = sym (ap (mapRead (withBits constraintFrom)) (raw-bits caseFormats 5 (now (c .before .before .before .before .args .s)) (c .before .before .before .before .args .at) (seen fieldRead (c .before .before .byte-at .ensures) (c .enum-told .given .1))))
 
 opt-at-requires : tie.Need-opt-at-requires
 opt-at-requires c κs = search needs
@@ -34,7 +34,7 @@ enum-told-2 c = search needs
 
 returns-2 : tie.Need-returns-2
 unfolding caseFormats
-returns-2 c = sym (ap (mapRead (seenBy constraintBy)) (raw-bad caseFormats 5 (now (c .before .before .before .before .before .before .before .before .args .s)) (c .before .before .before .before .before .before .before .before .args .at) (seen fieldRead (c .before .before .before .before .before .before .byte-at .ensures) (c .before .before .before .before .bits .given .1))
+returns-2 c = sym (ap (mapRead (withBits constraintFrom)) (raw-bad caseFormats 5 (now (c .before .before .before .before .before .before .before .before .args .s)) (c .before .before .before .before .before .before .before .before .args .at) (seen fieldRead (c .before .before .before .before .before .before .byte-at .ensures) (c .before .before .before .before .bits .given .1))
     (stop _ _ _ _ refl _ _ (none first _ (seen fieldRead (c .before .before .opt-at .ensures) (c .enum-told2 .given .1))))))
 
 returns-3 : tie.Need-returns-3
@@ -48,7 +48,7 @@ returns-3 c = rw (
 
 returns-4 : tie.Need-returns-4
 unfolding caseFormats
-returns-4 c = sym (ap (mapRead (seenBy constraintBy)) (raw-bad caseFormats 5 (now (c .before .before .before .before .before .before .before .before .before .before .args .s)) (c .before .before .before .before .before .before .before .before .before .before .args .at) (seen fieldRead (c .before .before .before .before .before .before .before .before .byte-at .ensures) (c .before .before .before .before .before .before .bits .given .1))
+returns-4 c = sym (ap (mapRead (withBits constraintFrom)) (raw-bad caseFormats 5 (now (c .before .before .before .before .before .before .before .before .before .before .args .s)) (c .before .before .before .before .before .before .before .before .before .before .args .at) (seen fieldRead (c .before .before .before .before .before .before .before .before .byte-at .ensures) (c .before .before .before .before .before .before .bits .given .1))
     (skip _ _ _ _ refl _ _ (found first _ (seen fieldRead (c .before .before .before .before .opt-at .ensures) (c .before .before .node .given .1)) .is)
     (unknown _ _ _ (c .if1 .left)))))
 

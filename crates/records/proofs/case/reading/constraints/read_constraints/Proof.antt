@@ -7,7 +7,8 @@ use denote.Ref.{now}
 use lib.ListN.{length, length-set}
 use lib.Seq.{length-take-le}
 use Rattle.records.specs.paper.Fields as fields
-use Rattle.records.specs.code.CasePasses.{constraintsOf, constraintRead}
+use Rattle.records.specs.code.CasePasses.{constraintRead}
+use Rattle.records.specs.code.Decoded.{constraintsOf}
 use Rattle.records.proofs.Reading.{seen}
 use Rattle.records.proofs.Passing.{Going, going, ends-short, ends-other, refused-bad, refused-judged, goes-on, goes-later}
 use Rattle.records.proofs.KindLaws.{needs-test, take-more, judge-same}

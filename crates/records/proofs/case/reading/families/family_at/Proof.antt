@@ -6,8 +6,8 @@ use denote.Ref.{now}
 use Rattle.records.specs.paper.Case.{caseFormats}
 use Rattle.records.specs.code.Decoded.{familyOf}
 use Rattle.records.specs.code.Readers.{fieldRead, mapRead, first}
-use Rattle.records.specs.code.Passes.{seenBy}
-use Rattle.records.specs.paper.Case.{familyBy}
+use Rattle.records.specs.code.Passes.{withBits}
+use Rattle.records.specs.paper.Case.{familyFrom}
 use Rattle.records.proofs.Reading.{seen, found, none}
 use Rattle.records.proofs.Chain.{more, skip, stop, last, unknown, half-of, raw-got, raw-bits, raw-bad, given-of}
 use borrow.Author.Needs.{needs}
@@ -24,7 +24,7 @@ enum-told : tie.Need-enum-told
 enum-told c = search needs
 
 returns : tie.Need-returns
-returns c = sym (ap (mapRead (seenBy familyBy)) (raw-bits caseFormats 2 (now (c .before .before .before .before .args .s)) (c .before .before .before .before .args .at) (seen fieldRead (c .before .before .byte-at .ensures) (c .enum-told .given .1))))
+returns c = sym (ap (mapRead (withBits familyFrom)) (raw-bits caseFormats 2 (now (c .before .before .before .before .args .s)) (c .before .before .before .before .args .at) (seen fieldRead (c .before .before .byte-at .ensures) (c .enum-told .given .1))))
 
 opt-at-requires : tie.Need-opt-at-requires
 opt-at-requires c κs = search needs
@@ -37,7 +37,7 @@ enum-told-2 c = search needs
 
 returns-2 : tie.Need-returns-2
 unfolding caseFormats
-returns-2 c = sym (ap (mapRead (seenBy familyBy)) (raw-bad caseFormats 2 (now (c .before .before .before .before .before .before .before .before .args .s)) (c .before .before .before .before .before .before .before .before .args .at) (seen fieldRead (c .before .before .before .before .before .before .byte-at .ensures) (c .before .before .before .before .bits .given .1))
+returns-2 c = sym (ap (mapRead (withBits familyFrom)) (raw-bad caseFormats 2 (now (c .before .before .before .before .before .before .before .before .args .s)) (c .before .before .before .before .before .before .before .before .args .at) (seen fieldRead (c .before .before .before .before .before .before .byte-at .ensures) (c .before .before .before .before .bits .given .1))
     (stop _ _ _ _ refl _ _ (none first _ (seen fieldRead (c .before .before .opt-at .ensures) (c .enum-told2 .given .1))))))
 
 opt-at-requires-2 : tie.Need-opt-at-requires-2
@@ -51,7 +51,7 @@ enum-told-3 c = search needs
 
 returns-3 : tie.Need-returns-3
 unfolding caseFormats
-returns-3 c = sym (ap (mapRead (seenBy familyBy)) (raw-bad caseFormats 2 (now (c .before .before .before .before .before .before .before .before .before .before .before .before .args .s)) (c .before .before .before .before .before .before .before .before .before .before .before .before .args .at) (seen fieldRead (c .before .before .before .before .before .before .before .before .before .before .byte-at .ensures) (c .before .before .before .before .before .before .before .before .bits .given .1))
+returns-3 c = sym (ap (mapRead (withBits familyFrom)) (raw-bad caseFormats 2 (now (c .before .before .before .before .before .before .before .before .before .before .before .before .args .s)) (c .before .before .before .before .before .before .before .before .before .before .before .before .args .at) (seen fieldRead (c .before .before .before .before .before .before .before .before .before .before .byte-at .ensures) (c .before .before .before .before .before .before .before .before .bits .given .1))
     (skip _ _ _ _ refl _ _ (found first _ (seen fieldRead (c .before .before .before .before .before .before .opt-at .ensures) (c .before .before .before .before .number .given .1)) .is)
     (stop _ _ _ _ (half-of _ 2) _ _ (none first _ (seen fieldRead (c .before .before .opt-at2 .ensures) (c .enum-told3 .given .1)))))))
 
@@ -66,7 +66,7 @@ enum-told-4 c = search needs
 
 returns-4 : tie.Need-returns-4
 unfolding caseFormats
-returns-4 c = sym (ap (mapRead (seenBy familyBy)) (raw-bad caseFormats 2 (now (c .before .before .before .before .before .before .before .before .before .before .before .before .before .before .before .before .args .s)) (c .before .before .before .before .before .before .before .before .before .before .before .before .before .before .before .before .args .at) (seen fieldRead (c .before .before .before .before .before .before .before .before .before .before .before .before .before .before .byte-at .ensures) (c .before .before .before .before .before .before .before .before .before .before .before .before .bits .given .1))
+returns-4 c = sym (ap (mapRead (withBits familyFrom)) (raw-bad caseFormats 2 (now (c .before .before .before .before .before .before .before .before .before .before .before .before .before .before .before .before .args .s)) (c .before .before .before .before .before .before .before .before .before .before .before .before .before .before .before .before .args .at) (seen fieldRead (c .before .before .before .before .before .before .before .before .before .before .before .before .before .before .byte-at .ensures) (c .before .before .before .before .before .before .before .before .before .before .before .before .bits .given .1))
     (skip _ _ _ _ refl _ _ (found first _ (seen fieldRead (c .before .before .before .before .before .before .before .before .before .before .opt-at .ensures) (c .before .before .before .before .before .before .before .before .number .given .1)) .is)
     (skip _ _ _ _ (half-of _ 2) _ _ (found first _ (seen fieldRead (c .before .before .before .before .before .before .opt-at2 .ensures) (c .before .before .before .before .scope .given .1)) .is)
     (stop _ _ _ _ (half-of _ 4) _ _ (none first _ (seen fieldRead (c .before .before .opt-at3 .ensures) (c .enum-told4 .given .1))))))))
@@ -85,7 +85,7 @@ returns-5 c = rw (
 
 returns-6 : tie.Need-returns-6
 unfolding caseFormats
-returns-6 c = sym (ap (mapRead (seenBy familyBy)) (raw-bad caseFormats 2 (now (c .before .before .before .before .before .before .before .before .before .before .before .before .before .before .before .before .before .before .args .s)) (c .before .before .before .before .before .before .before .before .before .before .before .before .before .before .before .before .before .before .args .at) (seen fieldRead (c .before .before .before .before .before .before .before .before .before .before .before .before .before .before .before .before .byte-at .ensures) (c .before .before .before .before .before .before .before .before .before .before .before .before .before .before .bits .given .1))
+returns-6 c = sym (ap (mapRead (withBits familyFrom)) (raw-bad caseFormats 2 (now (c .before .before .before .before .before .before .before .before .before .before .before .before .before .before .before .before .before .before .args .s)) (c .before .before .before .before .before .before .before .before .before .before .before .before .before .before .before .before .before .before .args .at) (seen fieldRead (c .before .before .before .before .before .before .before .before .before .before .before .before .before .before .before .before .byte-at .ensures) (c .before .before .before .before .before .before .before .before .before .before .before .before .before .before .bits .given .1))
     (skip _ _ _ _ refl _ _ (found first _ (seen fieldRead (c .before .before .before .before .before .before .before .before .before .before .before .before .opt-at .ensures) (c .before .before .before .before .before .before .before .before .before .before .number .given .1)) .is)
     (skip _ _ _ _ (half-of _ 2) _ _ (found first _ (seen fieldRead (c .before .before .before .before .before .before .before .before .opt-at2 .ensures) (c .before .before .before .before .before .before .scope .given .1)) .is)
     (skip _ _ _ _ (half-of _ 4) _ _ (given-of (eqb (c .before .before .before .before .before .before .before .before .before .before .before .before .before .before .bits .given .0 .0 / 4 % 2) 1) (now (c .before .before .before .before .before .before .before .before .before .before .before .before .before .before .before .before .before .before .args .s)) (c .before .before .before .before .before .before .scope .given .0 .1 .0) (record { low = 0; top = 63 }) (seen fieldRead (c .before .before .before .before .opt-at3 .ensures) (c .before .before .evidence .given .1)))

@@ -6,8 +6,8 @@ use Prim.Native.Nat.{_-_, _≤_}
 use native.Mathlib.Omega.{arith}
 use denote.Ref.{now}
 use lib.ListN.{length}
-use Rattle.records.specs.code.Decoded.{caseHeadingOf}
-use Rattle.records.specs.code.CasePasses.{headingRead, headingsBy}
+use Rattle.records.specs.code.Decoded.{caseHeadingOf, caseHeadingsOf}
+use Rattle.records.specs.code.CasePasses.{caseHeadingRead}
 use Rattle.records.proofs.Reading.{seen}
 use Rattle.records.proofs.Passing.{Going, going, ends-short, ends-other, refused-bad, refused-judged, goes-on, goes-later}
 use Rattle.records.proofs.KindLaws.{needs-test, judge-same, heading-count, heading-none}
@@ -19,7 +19,7 @@ use Rattle.records.proofs.case.reading.heading.read_case_heading.Tie as
 
 abbrev Inv-loop : tie.InvT-loop
 Inv-loop s headings₀ heading₀ at₀ k₀ headings heading at k =
-    (k ≤ at) × (headings ≤ 1) × Going headingKind s false 0 0 k at (headingsBy headings heading)
+    (k ≤ at) × (headings ≤ 1) × Going headingKind s false 0 0 k at (caseHeadingsOf headings heading)
 
 abbrev μ-loop : tie.MeasureT-loop
 μ-loop s headings₀ heading₀ at₀ k₀ headings heading at k = length s - at
@@ -48,7 +48,7 @@ enum-told c = search needs
 returns : tie.Need-returns Inv-loop μ-loop
 returns c =
     let i = c .before .before .before .before .before .before .loop .inv in
-    (refused-bad headingKind _ _ _ _ (i .2) (i .0) (c .before .before .before .before .before .loop-test .taken) (c .before .before .before .if1 .left) (seen headingRead (c .before .before .heading-at .ensures) (c .enum-told .given .1)), i .0, i .1)
+    (refused-bad headingKind _ _ _ _ (i .2) (i .0) (c .before .before .before .before .before .loop-test .taken) (c .before .before .before .if1 .left) (seen caseHeadingRead (c .before .before .heading-at .ensures) (c .enum-told .given .1)), i .0, i .1)
 
 judged-requires : tie.Need-judged-requires Inv-loop μ-loop
 judged-requires c κs = search needs
@@ -58,8 +58,8 @@ returns-2 c =
     let l = c .before .before .before .before .before .before .before .before .before .loop in
     let i = l .inv in
     let x = caseHeadingOf (l .heading) in
-    let j = judge-same 1 (l .headings) (length (headingsBy (l .headings) (l .heading))) false false _ (fields.needs 81 (c .before .before .before .bits .given .0 .0)) true true true (c .before .judged .ensures .0) (heading-count (l .headings) x (i .1)) refl (needs-test (c .before .before .before .bits .given .0 .0) 81) refl in
-    (refused-judged headingKind _ _ _ _ (i .2) (i .0) (c .before .before .before .before .before .before .before .before .loop-test .taken) (c .before .before .before .before .before .before .if1 .left) tt (seen headingRead (c .before .before .before .before .before .heading-at .ensures) (c .before .before .before .bits .given .1)) _ j (c .if2 .taken), i .0, i .1)
+    let j = judge-same 1 (l .headings) (length (caseHeadingsOf (l .headings) (l .heading))) false false _ (fields.needs 81 (c .before .before .before .bits .given .0 .0)) true true true (c .before .judged .ensures .0) (heading-count (l .headings) x (i .1)) refl (needs-test (c .before .before .before .bits .given .0 .0) 81) refl in
+    (refused-judged headingKind _ _ _ _ (i .2) (i .0) (c .before .before .before .before .before .before .before .before .loop-test .taken) (c .before .before .before .before .before .before .if1 .left) tt (seen caseHeadingRead (c .before .before .before .before .before .heading-at .ensures) (c .before .before .before .bits .given .1)) _ j (c .if2 .taken), i .0, i .1)
 
 add-k : tie.Need-add-k Inv-loop μ-loop
 add-k c = search needs
@@ -67,7 +67,7 @@ add-k c = search needs
 loop-less : tie.Need-loop-less Inv-loop μ-loop
 loop-less c =
     let i = c .before .before .before .before .before .before .before .before .before .loop .inv in
-    let z = goes-later headingKind _ _ _ _ (i .2) (i .0) (c .before .before .before .before .before .before .before .before .loop-test .taken) (c .before .before .before .before .before .before .if1 .left) tt (seen headingRead (c .before .before .before .before .before .heading-at .ensures) (c .before .before .before .bits .given .1)) in
+    let z = goes-later headingKind _ _ _ _ (i .2) (i .0) (c .before .before .before .before .before .before .before .before .loop-test .taken) (c .before .before .before .before .before .before .if1 .left) tt (seen caseHeadingRead (c .before .before .before .before .before .heading-at .ensures) (c .before .before .before .bits .given .1)) in
     omega (arith, z)
 
 loop-again : tie.Need-loop-again Inv-loop μ-loop
@@ -76,10 +76,10 @@ loop-again c =
     let i = l .inv in
     let b = c .before .before .before .bits .given .0 .0 in
     let x = caseHeadingOf (l .heading) in
-    let f = seen headingRead (c .before .before .before .before .before .heading-at .ensures) (c .before .before .before .bits .given .1) in
+    let f = seen caseHeadingRead (c .before .before .before .before .before .heading-at .ensures) (c .before .before .before .bits .given .1) in
     let z = goes-later headingKind _ _ _ _ (i .2) (i .0) (c .before .before .before .before .before .before .before .before .loop-test .taken) (c .before .before .before .before .before .before .if1 .left) tt f in
     let h = c .before .judged .ensures .1 (c .if2 .left) in
-    let j = judge-same 1 (l .headings) (length (headingsBy (l .headings) (l .heading))) false false _ (fields.needs 81 b) true true true (c .before .judged .ensures .0) (heading-count (l .headings) x (i .1)) refl (needs-test b 81) refl in (
+    let j = judge-same 1 (l .headings) (length (caseHeadingsOf (l .headings) (l .heading))) false false _ (fields.needs 81 b) true true true (c .before .judged .ensures .0) (heading-count (l .headings) x (i .1)) refl (needs-test b 81) refl in (
       omega (arith, z),
       omega arith,
       goes-on headingKind _ _ _ _ (i .2) (i .0) (c .before .before .before .before .before .before .before .before .loop-test .taken) (c .before .before .before .before .before .before .if1 .left) tt f _ j (c .if2 .left) _ (rw (heading-none (l .headings) x h)),

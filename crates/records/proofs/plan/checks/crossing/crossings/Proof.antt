@@ -7,7 +7,7 @@ use Rattle.records.specs.paper.Fields.{fine, firstFault}
 use Rattle.records.specs.code.Decoded.{planOf}
 use Rattle.records.specs.code.Check.{checkedOf}
 use Rattle.records.specs.code.Crossings.{firstCrossing, crossingFaults}
-use Rattle.records.proofs.CrossingLaws.{refusal, cut-of, crossing-fault, crossing-within}
+use Rattle.records.proofs.CrossingLaws.{crossingRefusal, cut-of, crossing-fault, crossing-within}
 use borrow.Author.Needs.{needs}
 use Rattle.records.proofs.plan.checks.crossing.crossings.Statement.{statement}
 use Rattle.records.proofs.plan.checks.crossing.crossings.Tie as tie
@@ -44,7 +44,7 @@ returns c =
     let n = c .before .before .before .before .before .before .before .count-records in let P = planOf (c .before .before .before .before .before .before .before .before .args .plan) in
     let first = n .result .headings + n .result .facts + n .result .nodes + n .result .edges in
     let at : first ≡ cutsAt P = omega (arith, n .ensures .0) in
-    ap (refusal P first) (sym (c .before .found .given .1) ∙ c .before .before .before .first-crossing .ensures) ∙ crossing-fault P first
+    ap (crossingRefusal P first) (sym (c .before .found .given .1) ∙ c .before .before .before .first-crossing .ensures) ∙ crossing-fault P first
     ∙ ap (λ (i : ℕ). checkedOf (firstFault i (crossingFaults P) (fine P))) at
 
 returns-2 : tie.Need-returns-2
@@ -52,7 +52,7 @@ returns-2 c =
     let n = c .before .before .before .before .before .before .count-records in let P = planOf (c .before .before .before .before .before .before .before .args .plan) in
     let first = n .result .headings + n .result .facts + n .result .nodes + n .result .edges in
     let at : first ≡ cutsAt P = omega (arith, n .ensures .0) in
-    ap (refusal P first) (sym (c .enum-told .given .1) ∙ c .before .before .first-crossing .ensures) ∙ crossing-fault P first
+    ap (crossingRefusal P first) (sym (c .enum-told .given .1) ∙ c .before .before .first-crossing .ensures) ∙ crossing-fault P first
     ∙ ap (λ (i : ℕ). checkedOf (firstFault i (crossingFaults P) (fine P))) at
 
 pub crossings-spec : {M : Type 1} → statement M

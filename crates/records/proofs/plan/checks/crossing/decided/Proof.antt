@@ -1,6 +1,6 @@
 -- A loop over the edges of the decisions, left at the one that is looked for. Assumes nothing.
 use Rattle.records.specs.declared.plan.Decisions.{Decisions}
-use Rattle.records.specs.code.Crossings.{decides}
+use Rattle.records.specs.paper.Plan.{decidedIn}
 use mathlib.Core.Path.{_≡_, refl, sym, ap, _∙_}
 use mathlib.Core.Bool.{Bool, true, false, not}
 use Prim.Native.Nat.{ℕ, _≤_, _<_, _-_}
@@ -21,7 +21,7 @@ use Rattle.records.proofs.plan.checks.crossing.decided.Tie as tie
 abbrev other : ℕ → ℕ → Bool
 other edge x = not (eqb x edge)
 
-decides-not : (d : Decisions) (edge : ℕ) → not (allOf (other edge) (entries (d .edges) (d .count))) ≡ decides (decisionsOf d) edge
+decides-not : (d : Decisions) (edge : ℕ) → not (allOf (other edge) (entries (d .edges) (d .count))) ≡ decidedIn (decisionsOf d) edge
 decides-not d edge = ap not (sym (all-edges (other edge) d)) ∙ sym (any-not (λ (x : paper.Decision). eqb (x .edge) edge) (decisionsOf d))
 
 abbrev Inv-loop : tie.InvT-loop

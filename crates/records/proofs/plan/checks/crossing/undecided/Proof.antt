@@ -3,9 +3,9 @@ use mathlib.Core.Path.{_≡_, sym, ap, _∙_}
 use mathlib.Core.Bool.{true, false, not, Bool·beq}
 use borrow.Author.Needs.{needs}
 use borrow.Author.Tests.{not-true, not-false}
-use Rattle.records.specs.paper.Plan.{crosses}
+use Rattle.records.specs.paper.Plan.{decidedIn, crosses}
 use Rattle.records.specs.code.Decoded.{cutOf, edgeOf, decisionsOf}
-use Rattle.records.specs.code.Crossings.{decides, isOpen}
+use Rattle.records.specs.code.Crossings.{isOpen}
 use Rattle.records.proofs.plan.checks.crossing.undecided.Statement.{statement}
 use Rattle.records.proofs.plan.checks.crossing.undecided.Tie as tie
 
@@ -32,7 +32,7 @@ returns-3 : tie.Need-returns-3
 unfolding isOpen crosses cutOf edgeOf
 returns-3 c = λ P x m d. let s = c .before .before .before .before .before .before .args in
     let t : Bool·beq (c .before .before .before .contains .result) (c .before .before .contains2 .result) ≡ false = c .before .if2 .left in
-    rw (m, not-false (s .edge .combination) (c .before .before .before .before .if1 .left), ← c .before .before .before .contains .ensures, ← c .before .before .contains2 .ensures, t) (ap not (c .decided .ensures ∙ ap (λ z. decides (decisionsOf z) (s .number)) (sym d)))
+    rw (m, not-false (s .edge .combination) (c .before .before .before .before .if1 .left), ← c .before .before .before .contains .ensures, ← c .before .before .contains2 .ensures, t) (ap not (c .decided .ensures ∙ ap (λ z. decidedIn (decisionsOf z) (s .number)) (sym d)))
 
 pub undecided-spec : {M : Type 1} → statement M
 undecided-spec =

@@ -4,14 +4,14 @@ use Prim.Native.Nat.{_-_, _≤_}
 use native.Mathlib.Omega.{arith}
 use lib.Dec.{eqb}
 use Rattle.records.specs.paper.Sets.{anyOf}
-use Rattle.records.specs.code.PlanPasses.{decisionsFrom}
+use Rattle.records.specs.code.PlanPasses.{decisionsLeft}
 use Rattle.records.proofs.DecisionLaws.{any-here, any-later, any-none}
 use borrow.Author.Needs.{needs}
 use Rattle.records.proofs.plan.checks.decisions.decided_from.Statement.{statement}
 use Rattle.records.proofs.plan.checks.decisions.decided_from.Tie as tie
 
 abbrev Inv-loop : tie.InvT-loop
-Inv-loop edge i d n j₀ j = (j ≤ n) × (anyOf (λ e. eqb (e .edge) edge) (decisionsFrom d j) ≡ anyOf (λ e. eqb (e .edge) edge) (decisionsFrom d i))
+Inv-loop edge i d n j₀ j = (j ≤ n) × (anyOf (λ e. eqb (e .edge) edge) (decisionsLeft d j) ≡ anyOf (λ e. eqb (e .edge) edge) (decisionsLeft d i))
 
 abbrev μ-loop : tie.MeasureT-loop
 μ-loop edge i d n j₀ j = n - j

@@ -4,14 +4,14 @@ use Prim.Native.Nat.{_-_, _≤_}
 use native.Mathlib.Omega.{arith}
 use Rattle.records.specs.paper.Plan.{decidedOnce}
 use Rattle.records.specs.code.Decoded.{decisionsOf}
-use Rattle.records.specs.code.PlanPasses.{decisionsFrom}
+use Rattle.records.specs.code.PlanPasses.{decisionsLeft}
 use Rattle.records.proofs.DecisionLaws.{from-all, once-not, once-more, once-done}
 use borrow.Author.Needs.{needs}
 use Rattle.records.proofs.plan.checks.decisions.decided_once.Statement.{statement}
 use Rattle.records.proofs.plan.checks.decisions.decided_once.Tie as tie
 
 abbrev Inv-loop : tie.InvT-loop
-Inv-loop d n i₀ i = (i ≤ n) × (decidedOnce (decisionsFrom d i) ≡ decidedOnce (decisionsOf d))
+Inv-loop d n i₀ i = (i ≤ n) × (decidedOnce (decisionsLeft d i) ≡ decidedOnce (decisionsOf d))
 
 abbrev μ-loop : tie.MeasureT-loop
 μ-loop d n i₀ i = n - i

@@ -5,14 +5,14 @@ use Prim.Native.Nat.{_+_, _-_, _≤_, _<_}
 use native.Mathlib.Omega.{arith}
 use Rattle.records.specs.paper.Plan.{unresolvedIn}
 use Rattle.records.specs.code.Decoded.{decisionsOf}
-use Rattle.records.specs.code.PlanPasses.{decisionsFrom}
+use Rattle.records.specs.code.PlanPasses.{decisionsLeft}
 use Rattle.records.proofs.DecisionLaws.{from-all, open-some, open-other, open-done}
 use borrow.Author.Needs.{needs}
 use Rattle.records.proofs.plan.checks.decisions.unresolved_in.Statement.{statement}
 use Rattle.records.proofs.plan.checks.decisions.unresolved_in.Tie as tie
 
 abbrev Inv-loop : tie.InvT-loop
-Inv-loop d n total₀ i₀ total i = (i ≤ n) × (total ≤ i) × (total + unresolvedIn (decisionsFrom d i) ≡ unresolvedIn (decisionsOf d))
+Inv-loop d n total₀ i₀ total i = (i ≤ n) × (total ≤ i) × (total + unresolvedIn (decisionsLeft d i) ≡ unresolvedIn (decisionsOf d))
 
 abbrev μ-loop : tie.MeasureT-loop
 μ-loop d n total₀ i₀ total i = n - i

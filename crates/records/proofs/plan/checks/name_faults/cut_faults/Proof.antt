@@ -8,8 +8,7 @@ use lib.ListN.{length, length-map, take}
 use borrow.Author.Needs.{needs}
 use borrow.Author.Tests.{not-true, not-false}
 use Rattle.records.specs.paper.Plan as paper
-use Rattle.records.specs.code.Decoded.{cutOf}
-use Rattle.records.specs.code.PlanPasses.{factsOf}
+use Rattle.records.specs.code.Decoded.{cutOf, factsOf}
 use Rattle.records.specs.code.Named.{cutFaults, CountsOf}
 use Rattle.records.proofs.ListLaws.{length-front}
 use Rattle.records.proofs.FaultLaws.{Going, going, one-faulty, one-sound, none-left}

@@ -9,7 +9,7 @@ use Rattle.records.specs.paper.Fields.{fine, firstFault}
 use Rattle.records.specs.paper.Plan as paper
 use Rattle.records.specs.code.Decoded.{planOf}
 use Rattle.records.specs.code.Check.{checkedOf}
-use Rattle.records.specs.code.Named.{CountsOf, Tells, nodeFaults, edgeFaults, cutFaults, attachmentFaults, barFaults, statusFaults}
+use Rattle.records.specs.code.Named.{CountsOf, SaysFirst, nodeFaults, edgeFaults, cutFaults, attachmentFaults, barFaults, statusFaults}
 use Rattle.records.specs.declared.plan.counts.Counts.{Counts}
 use Rattle.records.specs.declared.checked.Checked.{Checked}
 use Rattle.records.specs.declared.checked.Checked.the-variants.{Accepted}
@@ -51,7 +51,7 @@ module _ (p : Plan) (n : Counts) (h : CountsOf (planOf p) n) where
   abbrev at-bars : ℕ
   at-bars = at-attachments + n .attachments
 
-  all : {s : Checked} → Tells P at-nodes (nodeFaults P (p .nodes) ++ from-edges) s → Tells P (paper.nodesAt P) (paper.namingFaults P) s
+  all : {s : Checked} → SaysFirst P at-nodes (nodeFaults P (p .nodes) ++ from-edges) s → SaysFirst P (paper.nodesAt P) (paper.namingFaults P) s
   unfolding planOf paper.namingFaults
   all e = let z : at-nodes ≡ paper.nodesAt P = omega (arith, h .headings, h .facts) in e ∙ ap (λ (i : ℕ). checkedOf (firstFault i (paper.namingFaults P) (fine P))) z
 
@@ -77,19 +77,19 @@ module _ (p : Plan) (n : Counts) (h : CountsOf (planOf p) n) where
 
   -- a kind in which nothing was found: what is said of the kinds after it is said of it and them
   module _ {r s : Checked} (e : r ≡ Accepted) where
-    over-nodes : Tells P at-nodes (nodeFaults P (p .nodes)) r → Tells P at-edges from-edges s → Tells P (paper.nodesAt P) (paper.namingFaults P) s
+    over-nodes : SaysFirst P at-nodes (nodeFaults P (p .nodes)) r → SaysFirst P at-edges from-edges s → SaysFirst P (paper.nodesAt P) (paper.namingFaults P) s
     over-nodes is z = all (kind-passed at-nodes at-edges (nodeFaults P (p .nodes)) from-edges P r long-nodes is e z)
 
-    over-edges : Tells P at-edges (edgeFaults P (p .edges)) r → Tells P at-cuts from-cuts s → Tells P at-edges from-edges s
+    over-edges : SaysFirst P at-edges (edgeFaults P (p .edges)) r → SaysFirst P at-cuts from-cuts s → SaysFirst P at-edges from-edges s
     over-edges is z = kind-passed at-edges at-cuts (edgeFaults P (p .edges)) from-cuts P r long-edges is e z
 
-    over-cuts : Tells P at-cuts (cutFaults P (p .cuts)) r → Tells P at-attachments from-attachments s → Tells P at-cuts from-cuts s
+    over-cuts : SaysFirst P at-cuts (cutFaults P (p .cuts)) r → SaysFirst P at-attachments from-attachments s → SaysFirst P at-cuts from-cuts s
     over-cuts is z = kind-passed at-cuts at-attachments (cutFaults P (p .cuts)) from-attachments P r long-cuts is e z
 
-    over-attachments : Tells P at-attachments (attachmentFaults P (p .attachments)) r → Tells P at-bars from-bars s → Tells P at-attachments from-attachments s
+    over-attachments : SaysFirst P at-attachments (attachmentFaults P (p .attachments)) r → SaysFirst P at-bars from-bars s → SaysFirst P at-attachments from-attachments s
     over-attachments is z = kind-passed at-attachments at-bars (attachmentFaults P (p .attachments)) from-bars P r long-attachments is e z
 
-    over-bars : Tells P at-bars (barFaults P (p .bars)) r → Tells P (at-bars + n .bars) (statusFaults P (p .statuses)) s → Tells P at-bars from-bars s
+    over-bars : SaysFirst P at-bars (barFaults P (p .bars)) r → SaysFirst P (at-bars + n .bars) (statusFaults P (p .statuses)) s → SaysFirst P at-bars from-bars s
     over-bars is z = kind-passed at-bars (at-bars + n .bars) (barFaults P (p .bars)) (statusFaults P (p .statuses)) P r long-bars is e z
 
 count-records-requires : tie.Need-count-records-requires

@@ -5,7 +5,7 @@ use Rattle.records.specs.paper.Fields.{little}
 use Rattle.records.specs.paper.Plan as paper
 use Rattle.records.specs.code.Decoded.{attachmentOf}
 use Rattle.records.specs.code.Readers.{fieldRead, wideRead, electionRead, mapRead, first}
-use Rattle.records.specs.code.Passes.{seenBy}
+use Rattle.records.specs.code.Passes.{withBits}
 use Rattle.records.proofs.Reading.{seen, found, none}
 use Rattle.records.proofs.Chain.{more, skip, stop, last, unknown, half-of, raw-got, raw-bits, raw-bad}
 use borrow.Author.Needs.{needs}
@@ -22,7 +22,7 @@ enum-told : tie.Need-enum-told
 enum-told c = search needs
 
 returns : tie.Need-returns
-returns c = sym (ap (mapRead (seenBy paper.attachmentOf)) (raw-bits paper.planFormats 6 (now (c .before .before .before .before .args .s)) (c .before .before .before .before .args .at) (seen fieldRead (c .before .before .byte-at .ensures) (c .enum-told .given .1))))
+returns c = sym (ap (mapRead (withBits paper.attachmentFrom)) (raw-bits paper.planFormats 6 (now (c .before .before .before .before .args .s)) (c .before .before .before .before .args .at) (seen fieldRead (c .before .before .byte-at .ensures) (c .enum-told .given .1))))
 
 mask-at-requires : tie.Need-mask-at-requires
 mask-at-requires c κs = search needs
@@ -36,7 +36,7 @@ enum-told-2 c = search needs
 returns-2 : tie.Need-returns-2
 unfolding paper.planFormats
 returns-2 c =
-    sym (ap (mapRead (seenBy paper.attachmentOf)) (raw-bad paper.planFormats 6 (now (c .before .before .before .before .before .before .before .before .args .s)) (c .before .before .before .before .before .before .before .before .args .at) (seen fieldRead (c .before .before .before .before .before .before .byte-at .ensures) (c .before .before .before .before .bits .given .1))
+    sym (ap (mapRead (withBits paper.attachmentFrom)) (raw-bad paper.planFormats 6 (now (c .before .before .before .before .before .before .before .before .args .s)) (c .before .before .before .before .before .before .before .before .args .at) (seen fieldRead (c .before .before .before .before .before .before .byte-at .ensures) (c .before .before .before .before .bits .given .1))
     (stop _ _ _ _ refl _ _ (none little _ (seen wideRead (c .before .before .mask-at .ensures) (c .enum-told2 .given .1))))))
 
 opt-at-requires : tie.Need-opt-at-requires
@@ -51,7 +51,7 @@ enum-told-3 c = search needs
 returns-3 : tie.Need-returns-3
 unfolding paper.planFormats
 returns-3 c =
-    sym (ap (mapRead (seenBy paper.attachmentOf)) (raw-bad paper.planFormats 6 (now (c .before .before .before .before .before .before .before .before .before .before .before .before .args .s)) (c .before .before .before .before .before .before .before .before .before .before .before .before .args .at) (seen fieldRead (c .before .before .before .before .before .before .before .before .before .before .byte-at .ensures) (c .before .before .before .before .before .before .before .before .bits .given .1))
+    sym (ap (mapRead (withBits paper.attachmentFrom)) (raw-bad paper.planFormats 6 (now (c .before .before .before .before .before .before .before .before .before .before .before .before .args .s)) (c .before .before .before .before .before .before .before .before .before .before .before .before .args .at) (seen fieldRead (c .before .before .before .before .before .before .before .before .before .before .byte-at .ensures) (c .before .before .before .before .before .before .before .before .bits .given .1))
     (skip _ _ _ _ refl _ _ (found little _ (seen wideRead (c .before .before .before .before .before .before .mask-at .ensures) (c .before .before .before .before .members .given .1)) .is)
     (stop _ _ _ _ (half-of _ 2) _ _ (none first _ (seen fieldRead (c .before .before .opt-at .ensures) (c .enum-told3 .given .1)))))))
 
@@ -67,7 +67,7 @@ enum-told-4 c = search needs
 returns-4 : tie.Need-returns-4
 unfolding paper.planFormats
 returns-4 c =
-    sym (ap (mapRead (seenBy paper.attachmentOf)) (raw-bad paper.planFormats 6 (now (c .before .before .before .before .before .before .before .before .before .before .before .before .before .before .before .before .args .s)) (c .before .before .before .before .before .before .before .before .before .before .before .before .before .before .before .before .args .at) (seen fieldRead (c .before .before .before .before .before .before .before .before .before .before .before .before .before .before .byte-at .ensures) (c .before .before .before .before .before .before .before .before .before .before .before .before .bits .given .1))
+    sym (ap (mapRead (withBits paper.attachmentFrom)) (raw-bad paper.planFormats 6 (now (c .before .before .before .before .before .before .before .before .before .before .before .before .before .before .before .before .args .s)) (c .before .before .before .before .before .before .before .before .before .before .before .before .before .before .before .before .args .at) (seen fieldRead (c .before .before .before .before .before .before .before .before .before .before .before .before .before .before .byte-at .ensures) (c .before .before .before .before .before .before .before .before .before .before .before .before .bits .given .1))
     (skip _ _ _ _ refl _ _ (found little _ (seen wideRead (c .before .before .before .before .before .before .before .before .before .before .mask-at .ensures) (c .before .before .before .before .before .before .before .before .members .given .1)) .is)
     (skip _ _ _ _ (half-of _ 2) _ _ (found first _ (seen fieldRead (c .before .before .before .before .before .before .opt-at .ensures) (c .before .before .before .before .anchor .given .1)) .is)
     (stop _ _ _ _ (half-of _ 4) _ _ (none first _ (seen fieldRead (c .before .before .opt-at2 .ensures) (c .enum-told4 .given .1))))))))
@@ -84,7 +84,7 @@ enum-told-5 c = search needs
 returns-5 : tie.Need-returns-5
 unfolding paper.planFormats
 returns-5 c =
-    sym (ap (mapRead (seenBy paper.attachmentOf)) (raw-bad paper.planFormats 6 (now (c .before .before .before .before .before .before .before .before .before .before .before .before .before .before .before .before .before .before .before .before .args .s)) (c .before .before .before .before .before .before .before .before .before .before .before .before .before .before .before .before .before .before .before .before .args .at) (seen fieldRead (c .before .before .before .before .before .before .before .before .before .before .before .before .before .before .before .before .before .before .byte-at .ensures) (c .before .before .before .before .before .before .before .before .before .before .before .before .before .before .before .before .bits .given .1))
+    sym (ap (mapRead (withBits paper.attachmentFrom)) (raw-bad paper.planFormats 6 (now (c .before .before .before .before .before .before .before .before .before .before .before .before .before .before .before .before .before .before .before .before .args .s)) (c .before .before .before .before .before .before .before .before .before .before .before .before .before .before .before .before .before .before .before .before .args .at) (seen fieldRead (c .before .before .before .before .before .before .before .before .before .before .before .before .before .before .before .before .before .before .byte-at .ensures) (c .before .before .before .before .before .before .before .before .before .before .before .before .before .before .before .before .bits .given .1))
     (skip _ _ _ _ refl _ _ (found little _ (seen wideRead (c .before .before .before .before .before .before .before .before .before .before .before .before .before .before .mask-at .ensures) (c .before .before .before .before .before .before .before .before .before .before .before .before .members .given .1)) .is)
     (skip _ _ _ _ (half-of _ 2) _ _ (found first _ (seen fieldRead (c .before .before .before .before .before .before .before .before .before .before .opt-at .ensures) (c .before .before .before .before .before .before .before .before .anchor .given .1)) .is)
     (skip _ _ _ _ (half-of _ 4) _ _ (found first _ (seen fieldRead (c .before .before .before .before .before .before .opt-at2 .ensures) (c .before .before .before .before .condition .given .1)) .is)
@@ -102,7 +102,7 @@ enum-told-6 c = search needs
 returns-6 : tie.Need-returns-6
 unfolding paper.planFormats
 returns-6 c =
-    sym (ap (mapRead (seenBy paper.attachmentOf)) (raw-bad paper.planFormats 6 (now (c .before .before .before .before .before .before .before .before .before .before .before .before .before .before .before .before .before .before .before .before .before .before .before .before .args .s)) (c .before .before .before .before .before .before .before .before .before .before .before .before .before .before .before .before .before .before .before .before .before .before .before .before .args .at) (seen fieldRead (c .before .before .before .before .before .before .before .before .before .before .before .before .before .before .before .before .before .before .before .before .before .before .byte-at .ensures) (c .before .before .before .before .before .before .before .before .before .before .before .before .before .before .before .before .before .before .before .before .bits .given .1))
+    sym (ap (mapRead (withBits paper.attachmentFrom)) (raw-bad paper.planFormats 6 (now (c .before .before .before .before .before .before .before .before .before .before .before .before .before .before .before .before .before .before .before .before .before .before .before .before .args .s)) (c .before .before .before .before .before .before .before .before .before .before .before .before .before .before .before .before .before .before .before .before .before .before .before .before .args .at) (seen fieldRead (c .before .before .before .before .before .before .before .before .before .before .before .before .before .before .before .before .before .before .before .before .before .before .byte-at .ensures) (c .before .before .before .before .before .before .before .before .before .before .before .before .before .before .before .before .before .before .before .before .bits .given .1))
     (skip _ _ _ _ refl _ _ (found little _ (seen wideRead (c .before .before .before .before .before .before .before .before .before .before .before .before .before .before .before .before .before .before .mask-at .ensures) (c .before .before .before .before .before .before .before .before .before .before .before .before .before .before .before .before .members .given .1)) .is)
     (skip _ _ _ _ (half-of _ 2) _ _ (found first _ (seen fieldRead (c .before .before .before .before .before .before .before .before .before .before .before .before .before .before .opt-at .ensures) (c .before .before .before .before .before .before .before .before .before .before .before .before .anchor .given .1)) .is)
     (skip _ _ _ _ (half-of _ 4) _ _ (found first _ (seen fieldRead (c .before .before .before .before .before .before .before .before .before .before .opt-at2 .ensures) (c .before .before .before .before .before .before .before .before .condition .given .1)) .is)
@@ -121,13 +121,13 @@ enum-told-7 c = search needs
 returns-7 : tie.Need-returns-7
 unfolding paper.planFormats
 returns-7 c =
-    sym (ap (mapRead (seenBy paper.attachmentOf)) (raw-bad paper.planFormats 6 (now (c .before .before .before .before .before .before .before .before .before .before .before .before .before .before .before .before .before .before .before .before .before .before .before .before .before .before .before .before .args .s)) (c .before .before .before .before .before .before .before .before .before .before .before .before .before .before .before .before .before .before .before .before .before .before .before .before .before .before .before .before .args .at) (seen fieldRead (c .before .before .before .before .before .before .before .before .before .before .before .before .before .before .before .before .before .before .before .before .before .before .before .before .before .before .byte-at .ensures) (c .before .before .before .before .before .before .before .before .before .before .before .before .before .before .before .before .before .before .before .before .before .before .before .before .bits .given .1))
+    sym (ap (mapRead (withBits paper.attachmentFrom)) (raw-bad paper.planFormats 6 (now (c .before .before .before .before .before .before .before .before .before .before .before .before .before .before .before .before .before .before .before .before .before .before .before .before .before .before .before .before .args .s)) (c .before .before .before .before .before .before .before .before .before .before .before .before .before .before .before .before .before .before .before .before .before .before .before .before .before .before .before .before .args .at) (seen fieldRead (c .before .before .before .before .before .before .before .before .before .before .before .before .before .before .before .before .before .before .before .before .before .before .before .before .before .before .byte-at .ensures) (c .before .before .before .before .before .before .before .before .before .before .before .before .before .before .before .before .before .before .before .before .before .before .before .before .bits .given .1))
     (skip _ _ _ _ refl _ _ (found little _ (seen wideRead (c .before .before .before .before .before .before .before .before .before .before .before .before .before .before .before .before .before .before .before .before .before .before .mask-at .ensures) (c .before .before .before .before .before .before .before .before .before .before .before .before .before .before .before .before .before .before .before .before .members .given .1)) .is)
     (skip _ _ _ _ (half-of _ 2) _ _ (found first _ (seen fieldRead (c .before .before .before .before .before .before .before .before .before .before .before .before .before .before .before .before .before .before .opt-at .ensures) (c .before .before .before .before .before .before .before .before .before .before .before .before .before .before .before .before .anchor .given .1)) .is)
     (skip _ _ _ _ (half-of _ 4) _ _ (found first _ (seen fieldRead (c .before .before .before .before .before .before .before .before .before .before .before .before .before .before .opt-at2 .ensures) (c .before .before .before .before .before .before .before .before .before .before .before .before .condition .given .1)) .is)
     (skip _ _ _ _ (half-of _ 8) _ _ (found first _ (seen fieldRead (c .before .before .before .before .before .before .before .before .before .before .opt-at3 .ensures) (c .before .before .before .before .before .before .before .before .citation .given .1)) .is)
     (skip _ _ _ _ (half-of _ 16) _ _ (found first _ (seen fieldRead (c .before .before .before .before .before .before .opt-at4 .ensures) (c .before .before .before .before .actor .given .1)) .is)
-    (stop _ _ _ _ (half-of _ 32) _ _ (none paper.electionOf _ (seen electionRead (c .before .before .election-at .ensures) (c .enum-told7 .given .1)))))))))))
+    (stop _ _ _ _ (half-of _ 32) _ _ (none paper.electionFrom _ (seen electionRead (c .before .before .election-at .ensures) (c .enum-told7 .given .1)))))))))))
 
 returns-8 : tie.Need-returns-8
 unfolding paper.planFormats attachmentOf
@@ -139,26 +139,26 @@ returns-8 c =
           (more _ _ _ _ (half-of _ 4) _ _ (found first _ (seen fieldRead (c .before .before .before .before .before .before .before .before .before .before .before .before .before .before .before .before .opt-at2 .ensures) (c .before .before .before .before .before .before .before .before .before .before .before .before .before .before .condition .given .1)) .is)
           (more _ _ _ _ (half-of _ 8) _ _ (found first _ (seen fieldRead (c .before .before .before .before .before .before .before .before .before .before .before .before .opt-at3 .ensures) (c .before .before .before .before .before .before .before .before .before .before .citation .given .1)) .is)
           (more _ _ _ _ (half-of _ 16) _ _ (found first _ (seen fieldRead (c .before .before .before .before .before .before .before .before .opt-at4 .ensures) (c .before .before .before .before .before .before .actor .given .1)) .is)
-          (more _ _ _ _ (half-of _ 32) _ _ (found paper.electionOf _ (seen electionRead (c .before .before .before .before .election-at .ensures) (c .before .before .election .given .1)) .is)
+          (more _ _ _ _ (half-of _ 32) _ _ (found paper.electionFrom _ (seen electionRead (c .before .before .before .before .election-at .ensures) (c .before .before .election .given .1)) .is)
           (last _ _ _ (c .if1 .taken)))))))),
       found little _ (seen wideRead (c .before .before .before .before .before .before .before .before .before .before .before .before .before .before .before .before .before .before .before .before .before .before .before .before .mask-at .ensures) (c .before .before .before .before .before .before .before .before .before .before .before .before .before .before .before .before .before .before .before .before .before .before .members .given .1)) .means,
       found first _ (seen fieldRead (c .before .before .before .before .before .before .before .before .before .before .before .before .before .before .before .before .before .before .before .before .opt-at .ensures) (c .before .before .before .before .before .before .before .before .before .before .before .before .before .before .before .before .before .before .anchor .given .1)) .means,
       found first _ (seen fieldRead (c .before .before .before .before .before .before .before .before .before .before .before .before .before .before .before .before .opt-at2 .ensures) (c .before .before .before .before .before .before .before .before .before .before .before .before .before .before .condition .given .1)) .means,
       found first _ (seen fieldRead (c .before .before .before .before .before .before .before .before .before .before .before .before .opt-at3 .ensures) (c .before .before .before .before .before .before .before .before .before .before .citation .given .1)) .means,
       found first _ (seen fieldRead (c .before .before .before .before .before .before .before .before .opt-at4 .ensures) (c .before .before .before .before .before .before .actor .given .1)) .means,
-      found paper.electionOf _ (seen electionRead (c .before .before .before .before .election-at .ensures) (c .before .before .election .given .1)) .means,
+      found paper.electionFrom _ (seen electionRead (c .before .before .before .before .election-at .ensures) (c .before .before .election .given .1)) .means,
     )
 
 returns-9 : tie.Need-returns-9
 unfolding paper.planFormats
 returns-9 c =
-    sym (ap (mapRead (seenBy paper.attachmentOf)) (raw-bad paper.planFormats 6 (now (c .before .before .before .before .before .before .before .before .before .before .before .before .before .before .before .before .before .before .before .before .before .before .before .before .before .before .before .before .before .before .args .s)) (c .before .before .before .before .before .before .before .before .before .before .before .before .before .before .before .before .before .before .before .before .before .before .before .before .before .before .before .before .before .before .args .at) (seen fieldRead (c .before .before .before .before .before .before .before .before .before .before .before .before .before .before .before .before .before .before .before .before .before .before .before .before .before .before .before .before .byte-at .ensures) (c .before .before .before .before .before .before .before .before .before .before .before .before .before .before .before .before .before .before .before .before .before .before .before .before .before .before .bits .given .1))
+    sym (ap (mapRead (withBits paper.attachmentFrom)) (raw-bad paper.planFormats 6 (now (c .before .before .before .before .before .before .before .before .before .before .before .before .before .before .before .before .before .before .before .before .before .before .before .before .before .before .before .before .before .before .args .s)) (c .before .before .before .before .before .before .before .before .before .before .before .before .before .before .before .before .before .before .before .before .before .before .before .before .before .before .before .before .before .before .args .at) (seen fieldRead (c .before .before .before .before .before .before .before .before .before .before .before .before .before .before .before .before .before .before .before .before .before .before .before .before .before .before .before .before .byte-at .ensures) (c .before .before .before .before .before .before .before .before .before .before .before .before .before .before .before .before .before .before .before .before .before .before .before .before .before .before .bits .given .1))
     (skip _ _ _ _ refl _ _ (found little _ (seen wideRead (c .before .before .before .before .before .before .before .before .before .before .before .before .before .before .before .before .before .before .before .before .before .before .before .before .mask-at .ensures) (c .before .before .before .before .before .before .before .before .before .before .before .before .before .before .before .before .before .before .before .before .before .before .members .given .1)) .is)
     (skip _ _ _ _ (half-of _ 2) _ _ (found first _ (seen fieldRead (c .before .before .before .before .before .before .before .before .before .before .before .before .before .before .before .before .before .before .before .before .opt-at .ensures) (c .before .before .before .before .before .before .before .before .before .before .before .before .before .before .before .before .before .before .anchor .given .1)) .is)
     (skip _ _ _ _ (half-of _ 4) _ _ (found first _ (seen fieldRead (c .before .before .before .before .before .before .before .before .before .before .before .before .before .before .before .before .opt-at2 .ensures) (c .before .before .before .before .before .before .before .before .before .before .before .before .before .before .condition .given .1)) .is)
     (skip _ _ _ _ (half-of _ 8) _ _ (found first _ (seen fieldRead (c .before .before .before .before .before .before .before .before .before .before .before .before .opt-at3 .ensures) (c .before .before .before .before .before .before .before .before .before .before .citation .given .1)) .is)
     (skip _ _ _ _ (half-of _ 16) _ _ (found first _ (seen fieldRead (c .before .before .before .before .before .before .before .before .opt-at4 .ensures) (c .before .before .before .before .before .before .actor .given .1)) .is)
-    (skip _ _ _ _ (half-of _ 32) _ _ (found paper.electionOf _ (seen electionRead (c .before .before .before .before .election-at .ensures) (c .before .before .election .given .1)) .is)
+    (skip _ _ _ _ (half-of _ 32) _ _ (found paper.electionFrom _ (seen electionRead (c .before .before .before .before .election-at .ensures) (c .before .before .election .given .1)) .is)
     (unknown _ _ _ (c .if1 .left))))))))))
 
 pub attachment-at-spec : {M : Type 1} → statement M

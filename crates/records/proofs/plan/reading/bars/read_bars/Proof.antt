@@ -6,8 +6,8 @@ use native.Mathlib.Omega.{arith}
 use denote.Ref.{now}
 use lib.ListN.{length, length-set}
 use Rattle.records.specs.paper.Fields as fields
-use Rattle.records.specs.code.Decoded.{barOf}
-use Rattle.records.specs.code.PlanPasses.{barsOf, barRead}
+use Rattle.records.specs.code.Decoded.{barOf, barsOf}
+use Rattle.records.specs.code.PlanPasses.{barRead}
 use Rattle.records.proofs.LoopLaws.{length-made}
 use Rattle.records.proofs.Reading.{seen}
 use Rattle.records.proofs.Passing.{Going, going, ends-short, ends-other, refused-bad, refused-judged, goes-on, goes-later}

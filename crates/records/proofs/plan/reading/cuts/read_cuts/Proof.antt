@@ -10,8 +10,8 @@ use lib.Dec.{eqb, ltb}
 use lib.ListN.{length, length-set}
 use borrow.Author.Tests.{le-ltb, ltb-false}
 use Rattle.records.specs.paper.Sets.{allOf}
-use Rattle.records.specs.code.Decoded.{cutOf}
-use Rattle.records.specs.code.PlanPasses.{cutRead, cutsOf}
+use Rattle.records.specs.code.Decoded.{cutOf, cutsOf}
+use Rattle.records.specs.code.PlanPasses.{cutRead}
 use Rattle.records.proofs.LoopLaws.{length-made}
 use Rattle.records.proofs.Reading.{seen}
 use Rattle.records.proofs.Passing.{Going, going, ends-short, ends-other, refused-bad, refused-judged, goes-on, goes-later}

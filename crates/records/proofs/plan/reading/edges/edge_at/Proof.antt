@@ -4,7 +4,7 @@ use Prim.Native.Nat.{_/_, _%_}
 use lib.Dec.{eqb}
 use denote.Ref.{now}
 use Rattle.records.specs.code.Readers.{fieldRead, listRead, mapRead, first}
-use Rattle.records.specs.code.Passes.{seenBy}
+use Rattle.records.specs.code.Passes.{withBits}
 use Rattle.records.proofs.Reading.{seen, found, none}
 use Rattle.records.proofs.Chain.{more, skip, stop, last, unknown, no-field, half-of, raw-got, raw-bits, raw-bad}
 use Rattle.records.specs.paper.Plan as paper
@@ -22,7 +22,7 @@ enum-told : tie.Need-enum-told
 enum-told c = search needs
 
 returns : tie.Need-returns
-returns c = (sym (ap (mapRead (seenBy paper.edgeOf)) (raw-bits paper.planFormats 4 (now (c .before .before .before .before .args .s)) (c .before .before .before .before .args .at) (seen fieldRead (c .before .before .byte-at .ensures) (c .enum-told .given .1)))), tt)
+returns c = (sym (ap (mapRead (withBits paper.edgeFrom)) (raw-bits paper.planFormats 4 (now (c .before .before .before .before .args .s)) (c .before .before .before .before .args .at) (seen fieldRead (c .before .before .byte-at .ensures) (c .enum-told .given .1)))), tt)
 
 opt-at-requires : tie.Need-opt-at-requires
 opt-at-requires c κs = search needs
@@ -36,7 +36,7 @@ enum-told-2 c = search needs
 returns-2 : tie.Need-returns-2
 unfolding paper.planFormats
 returns-2 c = (
-  sym (ap (mapRead (seenBy paper.edgeOf)) (raw-bad paper.planFormats 4 (now (c .before .before .before .before .before .before .before .before .args .s)) (c .before .before .before .before .before .before .before .before .args .at) (seen fieldRead (c .before .before .before .before .before .before .byte-at .ensures) (c .before .before .before .before .bits .given .1))
+  sym (ap (mapRead (withBits paper.edgeFrom)) (raw-bad paper.planFormats 4 (now (c .before .before .before .before .before .before .before .before .args .s)) (c .before .before .before .before .before .before .before .before .args .at) (seen fieldRead (c .before .before .before .before .before .before .byte-at .ensures) (c .before .before .before .before .bits .given .1))
       (stop _ _ _ _ refl _ _ (none first _ (seen fieldRead (c .before .before .opt-at .ensures) (c .enum-told2 .given .1)))))),
   tt,
 )
@@ -53,7 +53,7 @@ enum-told-3 c = search needs
 returns-3 : tie.Need-returns-3
 unfolding paper.planFormats
 returns-3 c = (
-  sym (ap (mapRead (seenBy paper.edgeOf)) (raw-bad paper.planFormats 4 (now (c .before .before .before .before .before .before .before .before .before .before .before .before .args .s)) (c .before .before .before .before .before .before .before .before .before .before .before .before .args .at) (seen fieldRead (c .before .before .before .before .before .before .before .before .before .before .byte-at .ensures) (c .before .before .before .before .before .before .before .before .bits .given .1))
+  sym (ap (mapRead (withBits paper.edgeFrom)) (raw-bad paper.planFormats 4 (now (c .before .before .before .before .before .before .before .before .before .before .before .before .args .s)) (c .before .before .before .before .before .before .before .before .before .before .before .before .args .at) (seen fieldRead (c .before .before .before .before .before .before .before .before .before .before .byte-at .ensures) (c .before .before .before .before .before .before .before .before .bits .given .1))
       (skip _ _ _ _ refl _ _ (found first _ (seen fieldRead (c .before .before .before .before .before .before .opt-at .ensures) (c .before .before .before .before .left .given .1)) .is)
       (stop _ _ _ _ (half-of _ 2) _ _ (none first _ (seen fieldRead (c .before .before .opt-at2 .ensures) (c .enum-told3 .given .1))))))),
   tt,
@@ -71,7 +71,7 @@ enum-told-4 c = search needs
 returns-4 : tie.Need-returns-4
 unfolding paper.planFormats
 returns-4 c = (
-  sym (ap (mapRead (seenBy paper.edgeOf)) (raw-bad paper.planFormats 4 (now (c .before .before .before .before .before .before .before .before .before .before .before .before .before .before .before .before .args .s)) (c .before .before .before .before .before .before .before .before .before .before .before .before .before .before .before .before .args .at) (seen fieldRead (c .before .before .before .before .before .before .before .before .before .before .before .before .before .before .byte-at .ensures) (c .before .before .before .before .before .before .before .before .before .before .before .before .bits .given .1))
+  sym (ap (mapRead (withBits paper.edgeFrom)) (raw-bad paper.planFormats 4 (now (c .before .before .before .before .before .before .before .before .before .before .before .before .before .before .before .before .args .s)) (c .before .before .before .before .before .before .before .before .before .before .before .before .before .before .before .before .args .at) (seen fieldRead (c .before .before .before .before .before .before .before .before .before .before .before .before .before .before .byte-at .ensures) (c .before .before .before .before .before .before .before .before .before .before .before .before .bits .given .1))
       (skip _ _ _ _ refl _ _ (found first _ (seen fieldRead (c .before .before .before .before .before .before .before .before .before .before .opt-at .ensures) (c .before .before .before .before .before .before .before .before .left .given .1)) .is)
       (skip _ _ _ _ (half-of _ 2) _ _ (found first _ (seen fieldRead (c .before .before .before .before .before .before .opt-at2 .ensures) (c .before .before .before .before .right .given .1)) .is)
       (stop _ _ _ _ (half-of _ 4) _ _ (none first _ (seen fieldRead (c .before .before .opt-at3 .ensures) (c .enum-told4 .given .1)))))))),
@@ -90,7 +90,7 @@ enum-told-5 c = search needs
 returns-5 : tie.Need-returns-5
 unfolding paper.planFormats
 returns-5 c = (
-  sym (ap (mapRead (seenBy paper.edgeOf)) (raw-bad paper.planFormats 4 (now (c .before .before .before .before .before .before .before .before .before .before .before .before .before .before .before .before .before .before .before .before .args .s)) (c .before .before .before .before .before .before .before .before .before .before .before .before .before .before .before .before .before .before .before .before .args .at) (seen fieldRead (c .before .before .before .before .before .before .before .before .before .before .before .before .before .before .before .before .before .before .byte-at .ensures) (c .before .before .before .before .before .before .before .before .before .before .before .before .before .before .before .before .bits .given .1))
+  sym (ap (mapRead (withBits paper.edgeFrom)) (raw-bad paper.planFormats 4 (now (c .before .before .before .before .before .before .before .before .before .before .before .before .before .before .before .before .before .before .before .before .args .s)) (c .before .before .before .before .before .before .before .before .before .before .before .before .before .before .before .before .before .before .before .before .args .at) (seen fieldRead (c .before .before .before .before .before .before .before .before .before .before .before .before .before .before .before .before .before .before .byte-at .ensures) (c .before .before .before .before .before .before .before .before .before .before .before .before .before .before .before .before .bits .given .1))
       (skip _ _ _ _ refl _ _ (found first _ (seen fieldRead (c .before .before .before .before .before .before .before .before .before .before .before .before .before .before .opt-at .ensures) (c .before .before .before .before .before .before .before .before .before .before .before .before .left .given .1)) .is)
       (skip _ _ _ _ (half-of _ 2) _ _ (found first _ (seen fieldRead (c .before .before .before .before .before .before .before .before .before .before .opt-at2 .ensures) (c .before .before .before .before .before .before .before .before .right .given .1)) .is)
       (skip _ _ _ _ (half-of _ 4) _ _ (found first _ (seen fieldRead (c .before .before .before .before .before .before .opt-at3 .ensures) (c .before .before .before .before .condition .given .1)) .is)
@@ -110,7 +110,7 @@ enum-told-6 c = search needs
 returns-6 : tie.Need-returns-6
 unfolding paper.planFormats
 returns-6 c = (
-  sym (ap (mapRead (seenBy paper.edgeOf)) (raw-bad paper.planFormats 4 (now (c .before .before .before .before .before .before .before .before .before .before .before .before .before .before .before .before .before .before .before .before .before .before .before .before .args .s)) (c .before .before .before .before .before .before .before .before .before .before .before .before .before .before .before .before .before .before .before .before .before .before .before .before .args .at) (seen fieldRead (c .before .before .before .before .before .before .before .before .before .before .before .before .before .before .before .before .before .before .before .before .before .before .byte-at .ensures) (c .before .before .before .before .before .before .before .before .before .before .before .before .before .before .before .before .before .before .before .before .bits .given .1))
+  sym (ap (mapRead (withBits paper.edgeFrom)) (raw-bad paper.planFormats 4 (now (c .before .before .before .before .before .before .before .before .before .before .before .before .before .before .before .before .before .before .before .before .before .before .before .before .args .s)) (c .before .before .before .before .before .before .before .before .before .before .before .before .before .before .before .before .before .before .before .before .before .before .before .before .args .at) (seen fieldRead (c .before .before .before .before .before .before .before .before .before .before .before .before .before .before .before .before .before .before .before .before .before .before .byte-at .ensures) (c .before .before .before .before .before .before .before .before .before .before .before .before .before .before .before .before .before .before .before .before .bits .given .1))
       (skip _ _ _ _ refl _ _ (found first _ (seen fieldRead (c .before .before .before .before .before .before .before .before .before .before .before .before .before .before .before .before .before .before .opt-at .ensures) (c .before .before .before .before .before .before .before .before .before .before .before .before .before .before .before .before .left .given .1)) .is)
       (skip _ _ _ _ (half-of _ 2) _ _ (found first _ (seen fieldRead (c .before .before .before .before .before .before .before .before .before .before .before .before .before .before .opt-at2 .ensures) (c .before .before .before .before .before .before .before .before .before .before .before .before .right .given .1)) .is)
       (skip _ _ _ _ (half-of _ 4) _ _ (found first _ (seen fieldRead (c .before .before .before .before .before .before .before .before .before .before .opt-at3 .ensures) (c .before .before .before .before .before .before .before .before .condition .given .1)) .is)
@@ -143,7 +143,7 @@ returns-7 c =
 returns-8 : tie.Need-returns-8
 unfolding paper.planFormats
 returns-8 c = (
-  sym (ap (mapRead (seenBy paper.edgeOf)) (raw-bad paper.planFormats 4 (now (c .before .before .before .before .before .before .before .before .before .before .before .before .before .before .before .before .before .before .before .before .before .before .before .before .before .before .args .s)) (c .before .before .before .before .before .before .before .before .before .before .before .before .before .before .before .before .before .before .before .before .before .before .before .before .before .before .args .at) (seen fieldRead (c .before .before .before .before .before .before .before .before .before .before .before .before .before .before .before .before .before .before .before .before .before .before .before .before .byte-at .ensures) (c .before .before .before .before .before .before .before .before .before .before .before .before .before .before .before .before .before .before .before .before .before .before .bits .given .1))
+  sym (ap (mapRead (withBits paper.edgeFrom)) (raw-bad paper.planFormats 4 (now (c .before .before .before .before .before .before .before .before .before .before .before .before .before .before .before .before .before .before .before .before .before .before .before .before .before .before .args .s)) (c .before .before .before .before .before .before .before .before .before .before .before .before .before .before .before .before .before .before .before .before .before .before .before .before .before .before .args .at) (seen fieldRead (c .before .before .before .before .before .before .before .before .before .before .before .before .before .before .before .before .before .before .before .before .before .before .before .before .byte-at .ensures) (c .before .before .before .before .before .before .before .before .before .before .before .before .before .before .before .before .before .before .before .before .before .before .bits .given .1))
       (skip _ _ _ _ refl _ _ (found first _ (seen fieldRead (c .before .before .before .before .before .before .before .before .before .before .before .before .before .before .before .before .before .before .before .before .opt-at .ensures) (c .before .before .before .before .before .before .before .before .before .before .before .before .before .before .before .before .before .before .left .given .1)) .is)
       (skip _ _ _ _ (half-of _ 2) _ _ (found first _ (seen fieldRead (c .before .before .before .before .before .before .before .before .before .before .before .before .before .before .before .before .opt-at2 .ensures) (c .before .before .before .before .before .before .before .before .before .before .before .before .before .before .right .given .1)) .is)
       (skip _ _ _ _ (half-of _ 4) _ _ (found first _ (seen fieldRead (c .before .before .before .before .before .before .before .before .before .before .before .before .opt-at3 .ensures) (c .before .before .before .before .before .before .before .before .before .before .condition .given .1)) .is)

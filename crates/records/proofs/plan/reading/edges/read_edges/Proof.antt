@@ -7,8 +7,8 @@ use native.Mathlib.Omega.{arith}
 use denote.Ref.{now}
 use lib.ListN.{length, length-set}
 use Rattle.records.specs.paper.Sets.{has}
-use Rattle.records.specs.code.Decoded.{edgeOf}
-use Rattle.records.specs.code.PlanPasses.{edgesOf, edgeRead}
+use Rattle.records.specs.code.Decoded.{edgeOf, edgesOf}
+use Rattle.records.specs.code.PlanPasses.{edgeRead}
 use Rattle.records.proofs.LoopLaws.{length-made}
 use Rattle.records.proofs.Reading.{seen}
 use Rattle.records.proofs.Passing.{Going, going, ends-short, ends-other, refused-bad, refused-judged, goes-on, goes-later}

@@ -7,9 +7,9 @@ use native.Mathlib.Omega.{arith}
 use denote.Ref.{now}
 use lib.ListN.{length, length-set}
 use Rattle.records.specs.paper.Plan.{rises, factsRise, Fact}
-use Rattle.records.specs.code.Decoded.{factOf}
+use Rattle.records.specs.code.Decoded.{factOf, factsOf}
 use Rattle.records.specs.paper.Plan.{factBits}
-use Rattle.records.specs.code.PlanPasses.{factRead, factsOf}
+use Rattle.records.specs.code.PlanPasses.{factRead}
 use Rattle.records.proofs.LoopLaws.{length-made}
 use Rattle.records.proofs.Reading.{seen}
 use Rattle.records.proofs.Passing.{Going, going, ends-short, ends-other, refused-bad, refused-judged, goes-on, goes-later}

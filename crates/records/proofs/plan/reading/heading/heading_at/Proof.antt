@@ -4,7 +4,7 @@ use Prim.Native.Nat.{_/_, _%_}
 use lib.Dec.{eqb}
 use denote.Ref.{now}
 use Rattle.records.specs.code.Readers.{fieldRead, mapRead, first}
-use Rattle.records.specs.code.Passes.{seenBy}
+use Rattle.records.specs.code.Passes.{withBits}
 use Rattle.records.specs.paper.Plan.{headingFrom}
 use Rattle.records.proofs.Reading.{seen, found, none}
 use Rattle.records.proofs.Chain.{more, skip, stop, last, unknown, half-of, one-given, raw-got, raw-bits, raw-bad}
@@ -23,7 +23,7 @@ enum-told : tie.Need-enum-told
 enum-told c = search needs
 
 returns : tie.Need-returns
-returns c = sym (ap (mapRead (seenBy headingFrom)) (raw-bits paper.planFormats 1 (now (c .before .before .before .before .args .s)) (c .before .before .before .before .args .at) (seen fieldRead (c .before .before .byte-at .ensures) (c .enum-told .given .1))))
+returns c = sym (ap (mapRead (withBits headingFrom)) (raw-bits paper.planFormats 1 (now (c .before .before .before .before .args .s)) (c .before .before .before .before .args .at) (seen fieldRead (c .before .before .byte-at .ensures) (c .enum-told .given .1))))
 
 opt-at-requires : tie.Need-opt-at-requires
 opt-at-requires c κs = search needs
@@ -37,7 +37,7 @@ enum-told-2 c = search needs
 returns-2 : tie.Need-returns-2
 unfolding paper.planFormats
 returns-2 c =
-    sym (ap (mapRead (seenBy headingFrom)) (raw-bad paper.planFormats 1 (now (c .before .before .before .before .before .before .before .before .args .s)) (c .before .before .before .before .before .before .before .before .args .at) (seen fieldRead (c .before .before .before .before .before .before .byte-at .ensures) (c .before .before .before .before .bits .given .1))
+    sym (ap (mapRead (withBits headingFrom)) (raw-bad paper.planFormats 1 (now (c .before .before .before .before .before .before .before .before .args .s)) (c .before .before .before .before .before .before .before .before .args .at) (seen fieldRead (c .before .before .before .before .before .before .byte-at .ensures) (c .before .before .before .before .bits .given .1))
     (stop _ _ _ _ refl _ _ (none first _ (seen fieldRead (c .before .before .opt-at .ensures) (c .enum-told2 .given .1))))))
 
 opt-at-requires-2 : tie.Need-opt-at-requires-2
@@ -52,7 +52,7 @@ enum-told-3 c = search needs
 returns-3 : tie.Need-returns-3
 unfolding paper.planFormats
 returns-3 c =
-    sym (ap (mapRead (seenBy headingFrom)) (raw-bad paper.planFormats 1 (now (c .before .before .before .before .before .before .before .before .before .before .before .before .args .s)) (c .before .before .before .before .before .before .before .before .before .before .before .before .args .at) (seen fieldRead (c .before .before .before .before .before .before .before .before .before .before .byte-at .ensures) (c .before .before .before .before .before .before .before .before .bits .given .1))
+    sym (ap (mapRead (withBits headingFrom)) (raw-bad paper.planFormats 1 (now (c .before .before .before .before .before .before .before .before .before .before .before .before .args .s)) (c .before .before .before .before .before .before .before .before .before .before .before .before .args .at) (seen fieldRead (c .before .before .before .before .before .before .before .before .before .before .byte-at .ensures) (c .before .before .before .before .before .before .before .before .bits .given .1))
     (skip _ _ _ _ refl _ _ (found first _ (seen fieldRead (c .before .before .before .before .before .before .opt-at .ensures) (c .before .before .before .before .relation .given .1)) .is)
     (stop _ _ _ _ (half-of _ 2) _ _ (none first _ (seen fieldRead (c .before .before .opt-at2 .ensures) (c .enum-told3 .given .1)))))))
 
@@ -71,7 +71,7 @@ returns-4 c =
 returns-5 : tie.Need-returns-5
 unfolding paper.planFormats
 returns-5 c =
-    sym (ap (mapRead (seenBy headingFrom)) (raw-bad paper.planFormats 1 (now (c .before .before .before .before .before .before .before .before .before .before .before .before .before .before .args .s)) (c .before .before .before .before .before .before .before .before .before .before .before .before .before .before .args .at) (seen fieldRead (c .before .before .before .before .before .before .before .before .before .before .before .before .byte-at .ensures) (c .before .before .before .before .before .before .before .before .before .before .bits .given .1))
+    sym (ap (mapRead (withBits headingFrom)) (raw-bad paper.planFormats 1 (now (c .before .before .before .before .before .before .before .before .before .before .before .before .before .before .args .s)) (c .before .before .before .before .before .before .before .before .before .before .before .before .before .before .args .at) (seen fieldRead (c .before .before .before .before .before .before .before .before .before .before .before .before .byte-at .ensures) (c .before .before .before .before .before .before .before .before .before .before .bits .given .1))
     (skip _ _ _ _ refl _ _ (found first _ (seen fieldRead (c .before .before .before .before .before .before .before .before .opt-at .ensures) (c .before .before .before .before .before .before .relation .given .1)) .is)
     (skip _ _ _ _ (half-of _ 2) _ _ (found first _ (seen fieldRead (c .before .before .before .before .opt-at2 .ensures) (c .before .before .chain .given .1)) .is)
     (unknown _ _ _ (c .if1 .left))))))

@@ -7,8 +7,8 @@ use native.Mathlib.Omega.{arith}
 use denote.Ref.{now}
 use lib.ListN.{length}
 use Rattle.records.specs.paper.Plan.{Heading}
-use Rattle.records.specs.code.Decoded.{given}
-use Rattle.records.specs.code.PlanPasses.{headingRead, headingsBy}
+use Rattle.records.specs.code.Decoded.{ifGiven, headingsOf}
+use Rattle.records.specs.code.PlanPasses.{headingRead}
 use Rattle.records.proofs.Reading.{seen}
 use Rattle.records.proofs.Passing.{Going, going, ends-short, ends-other, refused-bad, refused-judged, goes-on, goes-later}
 use Rattle.records.proofs.KindLaws.{headingKind, needs-test, judge-same, heading-count, heading-none}
@@ -19,7 +19,7 @@ use Rattle.records.proofs.plan.reading.heading.read_heading.Tie as tie
 
 abbrev Inv-loop : tie.InvT-loop
 Inv-loop s headings₀ relation₀ chained₀ chain₀ at₀ k₀ headings relation chained chain at k =
-    (k ≤ at) × (headings ≤ 1) × Going headingKind s false 0 0 k at (headingsBy headings relation chained chain)
+    (k ≤ at) × (headings ≤ 1) × Going headingKind s false 0 0 k at (headingsOf headings relation chained chain)
 
 abbrev μ-loop : tie.MeasureT-loop
 μ-loop s headings₀ relation₀ chained₀ chain₀ at₀ k₀ headings relation chained chain at k = length s - at
@@ -54,8 +54,8 @@ returns-2 : tie.Need-returns-2 Inv-loop μ-loop
 returns-2 c =
     let l = c .before .before .before .before .before .before .before .before .before .loop in
     let i = l .inv in
-    let x : Heading = record { relation = l .relation; chain = given (l .chained) (l .chain) } in
-    let j = judge-same 1 (l .headings) (length (headingsBy (l .headings) (l .relation) (l .chained) (l .chain))) false false _ (fields.needs 1 (c .before .before .before .bits .given .0 .0)) true true true (c .before .judged .ensures .0) (heading-count (l .headings) x (i .1)) refl (needs-test (c .before .before .before .bits .given .0 .0) 1) refl in
+    let x : Heading = record { relation = l .relation; chain = ifGiven (l .chained) (l .chain) } in
+    let j = judge-same 1 (l .headings) (length (headingsOf (l .headings) (l .relation) (l .chained) (l .chain))) false false _ (fields.needs 1 (c .before .before .before .bits .given .0 .0)) true true true (c .before .judged .ensures .0) (heading-count (l .headings) x (i .1)) refl (needs-test (c .before .before .before .bits .given .0 .0) 1) refl in
     (refused-judged headingKind _ _ _ _ (i .2) (i .0) (c .before .before .before .before .before .before .before .before .loop-test .taken) (c .before .before .before .before .before .before .if1 .left) tt (seen headingRead (c .before .before .before .before .before .heading-at .ensures) (c .before .before .before .bits .given .1)) _ j (c .if2 .taken), i .0, i .1)
 
 add-k : tie.Need-add-k Inv-loop μ-loop
@@ -72,11 +72,11 @@ loop-again c =
     let l = c .before .before .before .before .before .before .before .before .before .loop in
     let i = l .inv in
     let b = c .before .before .before .bits .given .0 .0 in
-    let x : Heading = record { relation = l .relation; chain = given (l .chained) (l .chain) } in
+    let x : Heading = record { relation = l .relation; chain = ifGiven (l .chained) (l .chain) } in
     let f = seen headingRead (c .before .before .before .before .before .heading-at .ensures) (c .before .before .before .bits .given .1) in
     let z = goes-later headingKind _ _ _ _ (i .2) (i .0) (c .before .before .before .before .before .before .before .before .loop-test .taken) (c .before .before .before .before .before .before .if1 .left) tt f in
     let h = c .before .judged .ensures .1 (c .if2 .left) in
-    let j = judge-same 1 (l .headings) (length (headingsBy (l .headings) (l .relation) (l .chained) (l .chain))) false false _ (fields.needs 1 b) true true true (c .before .judged .ensures .0) (heading-count (l .headings) x (i .1)) refl (needs-test b 1) refl in (
+    let j = judge-same 1 (l .headings) (length (headingsOf (l .headings) (l .relation) (l .chained) (l .chain))) false false _ (fields.needs 1 b) true true true (c .before .judged .ensures .0) (heading-count (l .headings) x (i .1)) refl (needs-test b 1) refl in (
       omega (arith, z),
       omega arith,
       goes-on headingKind _ _ _ _ (i .2) (i .0) (c .before .before .before .before .before .before .before .before .loop-test .taken) (c .before .before .before .before .before .before .if1 .left) tt f _ j (c .if2 .left) _ (rw (heading-none (l .headings) x h)),

@@ -6,8 +6,8 @@ use Prim.Native.Nat.{_+_, _-_, _≤_}
 use native.Mathlib.Omega.{arith}
 use denote.Ref.{now}
 use lib.ListN.{length, length-set}
-use Rattle.records.specs.code.Decoded.{nodeOf}
-use Rattle.records.specs.code.PlanPasses.{nodesOf, nodeRead}
+use Rattle.records.specs.code.Decoded.{nodeOf, nodesOf}
+use Rattle.records.specs.code.PlanPasses.{nodeRead}
 use Rattle.records.proofs.LoopLaws.{length-made}
 use Rattle.records.proofs.Reading.{seen}
 use Rattle.records.proofs.Passing.{Going, going, ends-short, ends-other, refused-bad, refused-judged, goes-on, goes-later}
