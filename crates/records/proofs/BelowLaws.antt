@@ -1,4 +1,4 @@
--- What a loop below a number found, and what it keeps. Assumes nothing.
+-- What a loop below a number found, and what it keeps.
 use mathlib.Core.Path.{_≡_, refl, sym, ap, _∙_}
 use mathlib.Core.Bool.{Bool, true, false, _||_, true≢false, false≢true}
 use mathlib.Core.List.{map}

@@ -1,4 +1,4 @@
--- Refusal 4 of a case: a search for a family, a relation, and the answer after all records. Assumes nothing.
+-- Refusal 4 of a case: a search for a family, a relation, and the answer after all records.
 use mathlib.Core.Path.{_≡_, refl, sym, ap, ap₂, _∙_}
 use mathlib.Core.Bool.{Bool, true, false, _||_}
 use mathlib.Core.List.{List, [], _∷_}

@@ -1,4 +1,4 @@
--- The fields of a record, one after another: what is read when each is, and that nothing is when one is not. Assumes nothing.
+-- The fields of a record, one after another: what is read when each is, and that nothing is when one is not.
 use mathlib.Core.Path.{_≡_, refl, sym, ap, _∙_}
 use mathlib.Core.Bool.{Bool, true, false, cond}
 use mathlib.Core.List.{List, [], _∷_}

@@ -1,4 +1,4 @@
--- Laws of checks that follow each other: the first refusal stands. Assumes nothing.
+-- Laws of checks that follow each other: the first refusal stands.
 use mathlib.Core.Path.{_≡_, refl, sym, ap, _∙_}
 use mathlib.Core.List.{List, [], _∷_}
 use Prim.Native.Nat.{ℕ, zero, suc, _+_}

@@ -1,4 +1,4 @@
--- Laws of the closing of a set under a list of sets: it is the least closed set that holds what it is made of. Assumes nothing.
+-- Laws of the closing of a set under a list of sets: it is the least closed set that holds what it is made of.
 use mathlib.Core.Path.{_≡_, refl, sym, ap, _∙_, subst}
 use mathlib.Core.Bool.{Bool, true, false, cond, true≢false}
 use mathlib.Core.Logic.{_⊎_, ⊎-elim}

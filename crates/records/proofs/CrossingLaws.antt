@@ -1,4 +1,4 @@
--- Laws of crossingRefusal 6: the first undecided crossing, step by step, and that it is the first fault. Assumes nothing.
+-- Laws of crossingRefusal 6: the first undecided crossing, step by step, and that it is the first fault.
 use mathlib.Core.Path.{_≡_, refl, ap, _∙_}
 use mathlib.Core.Bool.{Bool, true, false, _&&_, _||_, not, cond}
 use mathlib.Core.List.{List, [], _∷_}

@@ -1,4 +1,4 @@
--- Going through the decisions of a cut, and a cut more at the end. Assumes nothing.
+-- Going through the decisions of a cut, and a cut more at the end.
 use mathlib.Core.Path.{_≡_, ap, _∙_}
 use mathlib.Core.Bool.{Bool, true, false, _&&_, cond}
 use mathlib.Core.List.{List, [], _∷_, _++_}

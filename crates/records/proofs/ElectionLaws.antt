@@ -1,4 +1,4 @@
--- Laws of refusal 7: an election beside another, beside all earlier ones, and beside the one kept for its fact. Assumes nothing.
+-- Laws of refusal 7: an election beside another, beside all earlier ones, and beside the one kept for its fact.
 use mathlib.Core.Path.{_≡_, refl, sym, ap, ap₂, _∙_}
 use mathlib.Core.Bool.{Bool, true, false, _&&_, cond}
 use mathlib.Core.List.{List, [], _∷_, _++_, map}

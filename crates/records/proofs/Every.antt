@@ -1,4 +1,4 @@
--- Laws of what holds of each entry of a list. Assumes nothing.
+-- Laws of what holds of each entry of a list.
 use mathlib.Core.Path.{_≡_}
 use mathlib.Core.Bool.{Bool, true}
 use mathlib.Core.List.{List, [], _∷_, _++_, map}

@@ -1,4 +1,4 @@
--- The order of facts, and a fact more at its end. Assumes nothing.
+-- The order of facts, and a fact more at its end.
 use mathlib.Core.Path.{_≡_, refl, sym, ap, _∙_}
 use mathlib.Core.Bool.{Bool, true, false, _&&_, not, cond}
 use mathlib.Core.List.{List, [], _∷_, _++_}

@@ -1,4 +1,4 @@
--- A pass over records that is left at the first fault, from where it has come to. Assumes nothing.
+-- A pass over records that is left at the first fault, from where it has come to.
 use mathlib.Core.Path.{_≡_, refl, sym, ap, _∙_}
 use mathlib.Core.Bool.{Bool, true, false}
 use mathlib.Core.List.{List, [], _∷_, _++_, map}

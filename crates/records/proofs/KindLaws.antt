@@ -1,6 +1,6 @@
--- Each kind of record in the plan: what one more of them changes and what is wrong with it. Assumes nothing.
+-- Each kind of record in the plan: what one more of them changes and what is wrong with it.
 use mathlib.Core.Path.{_≡_, refl, sym, ap, ap₂, _∙_}
-use mathlib.Core.Bool.{Bool, true, false, _&&_, _||_, not, cond}
+use mathlib.Core.Bool.{Bool, true, false, _&&_, _||_, not, cond, or-false}
 use mathlib.Core.List.{List, [], _∷_, _++_, map}
 use Prim.Native.Nat.{ℕ, zero, suc, _+_, _-_, _/_, _%_, _^_, _≤_, _<_}
 use native.Mathlib.Nat.{mod-lt, zero-lt-suc}
@@ -12,7 +12,7 @@ use lib.Bits.{bitAnd}
 use lib.Dec.{eqb, ltb, leb}
 use borrow.Author.Tests.{eq-eqb, ne-eqb, eqb-true, leb-false}
 use Rattle.records.specs.paper.Sets.{odd, has, subset, allOf}
-use Rattle.records.specs.paper.Fields.{needs, single}
+use Rattle.records.specs.paper.Fields.{Raw, needs, single}
 use Rattle.records.specs.paper.Plan as paper
 use Rattle.records.specs.paper.Plan.{Plan, planFormats, addToPlan, planCounts, judgePlan}
 use Rattle.records.specs.code.Decoded as decoded
@@ -21,7 +21,7 @@ use Rattle.records.specs.code.Readers.{bytesFrom}
 use Rattle.records.specs.declared.plan.Election.{Election}
 use Rattle.records.specs.declared.plan.Decisions.{Decisions}
 use Rattle.records.specs.declared.plan.Numbers.{Numbers}
-use Rattle.records.specs.code.Passes.{judgement}
+use Rattle.records.specs.code.Passes.{Reading, judgement}
 use Rattle.records.specs.paper.Plan.{factBits, headingFrom, factFrom, barFrom, statusFrom}
 use Rattle.records.specs.code.PlanPasses.{Clean, planReading, withHeadings, withFacts, withNodes, withCuts, withEdges, withAttachments, withBars, withStatuses}
 use Rattle.records.proofs.SetLaws.{has-zero, Within, antisym, of-meet, in-meet, subset-true, within-subset}
@@ -100,120 +100,99 @@ plain false true true z = refl
 plain false true false z = refl
 plain false false h z = refl
 
-pub edge-adds : (P : Plan) (xs : List paper.Edge) (b : ℕ) (vs : List (List ℕ)) → addToPlan (raw 4 b vs) (withEdges P xs) ≡ withEdges P (xs ++ (paper.edgeFrom (raw 4 b vs) ∷ []))
-unfolding addToPlan
-edge-adds P xs b vs = refl
+-- a kind whose records are judged each by its bits alone
+pub record Plain {F : Type 0} (R : Reading F) {A : Type 0} (K limit : ℕ) (fits : ℕ → Bool) (put : F → List A → F) (make : Raw → A) : Type 0 where
+  pub low : 1 ≤ K
+  pub top : K ≤ length (R .formats)
+  pub adds : (a : F) (xs : List A) (b : ℕ) (vs : List (List ℕ)) → R .add (raw K b vs) (put a xs) ≡ put a (xs ++ (make (raw K b vs) ∷ []))
+  pub judges : (headed : Bool) (a : F) (xs : List A) (b : ℕ) (vs : List (List ℕ)) → R .Clean headed a
+      → R .judge (raw K b vs) (put a xs) ≡ cond (ltb limit (length xs)) 2 (cond (fits b && headed) 0 3)
 
-pub edge-judges : (headed : Bool) (P : Plan) (xs : List paper.Edge) (b : ℕ) (vs : List (List ℕ)) → Clean headed P → Unit {0}
-    → judgePlan (raw 4 b vs) (withEdges P (xs ++ (paper.edgeFrom (raw 4 b vs) ∷ []))) ≡ judgement (length xs) 64 false (needs 15 b && headed) true
-unfolding judgePlan planFormats planCounts
-edge-judges headed P xs b vs c u =
-    rw (length-more xs (paper.edgeFrom (raw 4 b vs)), past 64 (length xs), c .few, c .heads, c .rise, c .once) (plain (leb 64 (length xs) || false) (needs 15 b) headed 0)
+pub one-more : {A : Type 0} (limit : ℕ) (fits : Bool) (xs : List A) (x : A) → cond (ltb limit (length (xs ++ (x ∷ [])))) 2 (cond fits 0 3) ≡ judgement (length xs) limit false fits true
+one-more limit fits xs x = rw (length-more xs x, past limit (length xs), or-false (leb limit (length xs)))
 
-abbrev pub edgeKind : Kind planReading paper.Edge
-edgeKind = record {
-  K = 4;
-  low = omega arith;
-  top = omega (arith, plan-kinds);
-  put = withEdges;
-  make = paper.edgeFrom;
-  judge = λ headed xs b x. judgement (length xs) 64 false (needs 15 b && headed) true;
+abbrev pub plainKind : {F : Type 0} {R : Reading F} {A : Type 0} {K limit : ℕ} {fits : ℕ → Bool} {put : F → List A → F} {make : Raw → A} → Plain R K limit fits put make → Kind R A
+plainKind {K = K} {limit = limit} {fits = fits} {put = put} {make = make} p = record {
+  K = K;
+  low = p .low;
+  top = p .top;
+  put = put;
+  make = make;
+  judge = λ headed xs b x. judgement (length xs) limit false (fits b && headed) true;
   Fine = λ xs. Unit {0};
-  adds = edge-adds;
-  judges = edge-judges;
+  adds = p .adds;
+  judges = λ headed a xs b vs c u. p .judges headed a (xs ++ (make (raw K b vs) ∷ [])) b vs c ∙ one-more limit (fits b && headed) xs (make (raw K b vs));
 }
 
-pub bar-adds : (P : Plan) (xs : List paper.Bar) (b : ℕ) (vs : List (List ℕ)) → addToPlan (raw 7 b vs) (withBars P xs) ≡ withBars P (xs ++ (barFrom (raw 7 b vs) ∷ []))
-unfolding addToPlan
-bar-adds P xs b vs = refl
+-- ---- the kinds of a plan
 
-pub bar-judges : (headed : Bool) (P : Plan) (xs : List paper.Bar) (b : ℕ) (vs : List (List ℕ)) → Clean headed P → Unit {0}
-    → judgePlan (raw 7 b vs) (withBars P (xs ++ (barFrom (raw 7 b vs) ∷ []))) ≡ judgement (length xs) 32 false (needs 7 b && headed) true
-unfolding judgePlan planFormats planCounts
-bar-judges headed P xs b vs c u =
-    rw (length-more xs (barFrom (raw 7 b vs)), past 32 (length xs), c .few, c .heads, c .rise, c .once) (plain (leb 32 (length xs) || false) (needs 7 b) headed 0)
+abbrev pub once : paper.Cut → Bool
+once x = paper.decidedOnce (x .decisions)
 
-abbrev pub barKind : Kind planReading paper.Bar
-barKind = record {
-  K = 7;
+-- what a plan that was clean before is judged by
+clean-judges : {headed : Bool} {P : Plan} → Clean headed P → (t f : Bool)
+    → _≡_ {A = ℕ} (cond (t || ltb 16 (paper.unresolved (P .cuts))) 2 (cond (not f || eqb (length (P .headings)) 0) 3 (cond (paper.factsRise (P .facts) && allOf once (P .cuts)) 0 5))) (cond t 2 (cond (f && headed) 0 3))
+clean-judges {headed = headed} c t f = rw (c .few, c .heads, c .rise, c .once, or-false t) (plain t f headed 0)
+
+pub node-plain : Plain planReading 3 256 single withNodes paper.nodeFrom
+unfolding addToPlan judgePlan planFormats planCounts
+node-plain = record {
   low = omega arith;
   top = omega (arith, plan-kinds);
-  put = withBars;
-  make = barFrom;
-  judge = λ headed xs b x. judgement (length xs) 32 false (needs 7 b && headed) true;
-  Fine = λ xs. Unit {0};
-  adds = bar-adds;
-  judges = bar-judges;
+  adds = λ P xs b vs. refl;
+  judges = λ headed P xs b vs c. clean-judges c (ltb 256 (length xs)) (single b);
 }
-
-pub status-adds : (P : Plan) (xs : List paper.Status) (b : ℕ) (vs : List (List ℕ)) → addToPlan (raw 8 b vs) (withStatuses P xs) ≡ withStatuses P (xs ++ (statusFrom (raw 8 b vs) ∷ []))
-unfolding addToPlan
-status-adds P xs b vs = refl
-
-pub status-judges : (headed : Bool) (P : Plan) (xs : List paper.Status) (b : ℕ) (vs : List (List ℕ)) → Clean headed P → Unit {0}
-    → judgePlan (raw 8 b vs) (withStatuses P (xs ++ (statusFrom (raw 8 b vs) ∷ []))) ≡ judgement (length xs) 32 false (needs 7 b && headed) true
-unfolding judgePlan planFormats planCounts
-status-judges headed P xs b vs c u =
-    rw (length-more xs (statusFrom (raw 8 b vs)), past 32 (length xs), c .few, c .heads, c .rise, c .once) (plain (leb 32 (length xs) || false) (needs 7 b) headed 0)
-
-abbrev pub statusKind : Kind planReading paper.Status
-statusKind = record {
-  K = 8;
-  low = omega arith;
-  top = omega (arith, plan-kinds);
-  put = withStatuses;
-  make = statusFrom;
-  judge = λ headed xs b x. judgement (length xs) 32 false (needs 7 b && headed) true;
-  Fine = λ xs. Unit {0};
-  adds = status-adds;
-  judges = status-judges;
-}
-
-pub attachment-adds : (P : Plan) (xs : List paper.Attachment) (b : ℕ) (vs : List (List ℕ)) → addToPlan (raw 6 b vs) (withAttachments P xs) ≡ withAttachments P (xs ++ (paper.attachmentFrom (raw 6 b vs) ∷ []))
-unfolding addToPlan
-attachment-adds P xs b vs = refl
-
-pub attachment-judges : (headed : Bool) (P : Plan) (xs : List paper.Attachment) (b : ℕ) (vs : List (List ℕ)) → Clean headed P → Unit {0}
-    → judgePlan (raw 6 b vs) (withAttachments P (xs ++ (paper.attachmentFrom (raw 6 b vs) ∷ []))) ≡ judgement (length xs) 32 false (needs 31 b && headed) true
-unfolding judgePlan planFormats planCounts
-attachment-judges headed P xs b vs c u =
-    rw (length-more xs (paper.attachmentFrom (raw 6 b vs)), past 32 (length xs), c .few, c .heads, c .rise, c .once) (plain (leb 32 (length xs) || false) (needs 31 b) headed 0)
-
-abbrev pub attachmentKind : Kind planReading paper.Attachment
-attachmentKind = record {
-  K = 6;
-  low = omega arith;
-  top = omega (arith, plan-kinds);
-  put = withAttachments;
-  make = paper.attachmentFrom;
-  judge = λ headed xs b x. judgement (length xs) 32 false (needs 31 b && headed) true;
-  Fine = λ xs. Unit {0};
-  adds = attachment-adds;
-  judges = attachment-judges;
-}
-
-pub node-adds : (P : Plan) (xs : List paper.Node) (b : ℕ) (vs : List (List ℕ)) → addToPlan (raw 3 b vs) (withNodes P xs) ≡ withNodes P (xs ++ (paper.nodeFrom (raw 3 b vs) ∷ []))
-unfolding addToPlan
-node-adds P xs b vs = refl
-
-pub node-judges : (headed : Bool) (P : Plan) (xs : List paper.Node) (b : ℕ) (vs : List (List ℕ)) → Clean headed P → Unit {0}
-    → judgePlan (raw 3 b vs) (withNodes P (xs ++ (paper.nodeFrom (raw 3 b vs) ∷ []))) ≡ judgement (length xs) 256 false (single b && headed) true
-unfolding judgePlan planFormats planCounts
-node-judges headed P xs b vs c u =
-    rw (length-more xs (paper.nodeFrom (raw 3 b vs)), past 256 (length xs), c .few, c .heads, c .rise, c .once) (plain (leb 256 (length xs) || false) (single b) headed 0)
 
 abbrev pub nodeKind : Kind planReading paper.Node
-nodeKind = record {
-  K = 3;
+nodeKind = plainKind node-plain
+
+pub edge-plain : Plain planReading 4 64 (needs 15) withEdges paper.edgeFrom
+unfolding addToPlan judgePlan planFormats planCounts
+edge-plain = record {
   low = omega arith;
   top = omega (arith, plan-kinds);
-  put = withNodes;
-  make = paper.nodeFrom;
-  judge = λ headed xs b x. judgement (length xs) 256 false (single b && headed) true;
-  Fine = λ xs. Unit {0};
-  adds = node-adds;
-  judges = node-judges;
+  adds = λ P xs b vs. refl;
+  judges = λ headed P xs b vs c. clean-judges c (ltb 64 (length xs)) (needs 15 b);
 }
+
+abbrev pub edgeKind : Kind planReading paper.Edge
+edgeKind = plainKind edge-plain
+
+pub attachment-plain : Plain planReading 6 32 (needs 31) withAttachments paper.attachmentFrom
+unfolding addToPlan judgePlan planFormats planCounts
+attachment-plain = record {
+  low = omega arith;
+  top = omega (arith, plan-kinds);
+  adds = λ P xs b vs. refl;
+  judges = λ headed P xs b vs c. clean-judges c (ltb 32 (length xs)) (needs 31 b);
+}
+
+abbrev pub attachmentKind : Kind planReading paper.Attachment
+attachmentKind = plainKind attachment-plain
+
+pub bar-plain : Plain planReading 7 32 (needs 7) withBars barFrom
+unfolding addToPlan judgePlan planFormats planCounts
+bar-plain = record {
+  low = omega arith;
+  top = omega (arith, plan-kinds);
+  adds = λ P xs b vs. refl;
+  judges = λ headed P xs b vs c. clean-judges c (ltb 32 (length xs)) (needs 7 b);
+}
+
+abbrev pub barKind : Kind planReading paper.Bar
+barKind = plainKind bar-plain
+
+pub status-plain : Plain planReading 8 32 (needs 7) withStatuses statusFrom
+unfolding addToPlan judgePlan planFormats planCounts
+status-plain = record {
+  low = omega arith;
+  top = omega (arith, plan-kinds);
+  adds = λ P xs b vs. refl;
+  judges = λ headed P xs b vs c. clean-judges c (ltb 32 (length xs)) (needs 7 b);
+}
+
+abbrev pub statusKind : Kind planReading paper.Status
+statusKind = plainKind status-plain
 
 pub heading-adds : (P : Plan) (xs : List paper.Heading) (b : ℕ) (vs : List (List ℕ)) → addToPlan (raw 1 b vs) (withHeadings P xs) ≡ withHeadings P (xs ++ (headingFrom (raw 1 b vs) ∷ []))
 unfolding addToPlan
@@ -263,9 +242,6 @@ factKind = record {
   judges = fact-judges;
 }
 
-abbrev pub once : paper.Cut → Bool
-once x = paper.decidedOnce (x .decisions)
-
 pub cut-adds : (P : Plan) (xs : List paper.Cut) (b : ℕ) (vs : List (List ℕ)) → addToPlan (raw 5 b vs) (withCuts P xs) ≡ withCuts P (xs ++ (paper.cutFrom (raw 5 b vs) ∷ []))
 unfolding addToPlan
 cut-adds P xs b vs = refl
@@ -301,9 +277,9 @@ judge-same limit n m o o′ f g h d d′ e a b q z = e ∙ ap₂ (λ (x : ℕ) (
 
 -- ---- what no refusal says
 
-module _ (limit n : ℕ) (over fits sound : Bool) (e : judgement n limit over fits sound ≡ 0) where
+module _ (limit n : ℕ) (over fits sound : Bool) {r : ℕ} (e : r ≡ judgement n limit over fits sound) (z : r ≡ 0) where
   fine-parts : (over ≡ false) × (fits ≡ true) × (sound ≡ true)
-  fine-parts = pick (leb limit n) over fits sound e
+  fine-parts = pick (leb limit n) over fits sound (sym e ∙ z)
     where
       pick : (t o f d : Bool) → _≡_ {A = ℕ} (cond (t || o) 2 (cond f (cond d 0 5) 3)) 0 → (o ≡ false) × (f ≡ true) × (d ≡ true)
       pick true o f d q = absurd (omega (arith, q))

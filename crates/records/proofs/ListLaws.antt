@@ -1,4 +1,4 @@
--- Laws of lists that are walked by their places: tests of all, first faults, lists made from the front of an array. Assumes nothing.
+-- Laws of lists that are walked by their places: tests of all, first faults, lists made from the front of an array.
 use mathlib.Core.Path.{_≡_, refl, sym, ap, _∙_, subst}
 use mathlib.Core.Bool.{Bool, true, false, _&&_, _||_, not}
 use mathlib.Core.List.{List, [], _∷_, _++_, map}

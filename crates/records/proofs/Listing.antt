@@ -1,4 +1,4 @@
--- Copying the entries of a list out of the bytes, one after another. Assumes nothing.
+-- Copying the entries of a list out of the bytes, one after another.
 use mathlib.Core.Path.{_≡_, refl, sym, ap, ap₂, _∙_}
 use mathlib.Core.List.{List, [], _∷_, _++_, map}
 use Prim.Native.Nat.{ℕ, zero, suc, _+_, _-_, _*_, _<_}

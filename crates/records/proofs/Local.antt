@@ -1,4 +1,4 @@
--- Sets seen from a circle C of persons: inside it, outside it, alike in it; and loops and closings over such sets. Assumes nothing.
+-- Sets seen from a circle C of persons: inside it, outside it, alike in it; and loops and closings over such sets.
 use mathlib.Core.Path.{_≡_, refl, sym, ap, ap₂, _∙_, subst}
 use mathlib.Core.Bool.{Bool, true, false, _&&_, _||_, not, cond, or-false, Bool·not-not, true≢false}
 use mathlib.Core.Logic.{_⊎_, inl, inr}

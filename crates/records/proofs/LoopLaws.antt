@@ -1,4 +1,4 @@
--- Laws of the loops below a number, and of lists that are made from others. Assumes nothing.
+-- Laws of the loops below a number, and of lists that are made from others.
 use mathlib.Core.Path.{_≡_, refl, sym, ap, _∙_, subst}
 use mathlib.Core.List.{List, [], _∷_, _++_, map}
 use Prim.Native.Nat.{ℕ, zero, suc, _+_, _≤_, _<_}

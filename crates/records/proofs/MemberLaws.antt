@@ -1,4 +1,4 @@
--- The list of a set's persons: how long it is, and that it holds just them. Assumes nothing.
+-- The list of a set's persons: how long it is, and that it holds just them.
 use mathlib.Core.Path.{_≡_, refl, sym, ap, ap₂, _∙_, subst}
 use mathlib.Core.Bool.{Bool, true, _&&_, true≢false}
 use mathlib.Core.List.{List, [], _∷_}

@@ -1,4 +1,4 @@
--- Laws of the tests of refusal 4, each of one record. Assumes nothing.
+-- Laws of the tests of refusal 4, each of one record.
 use mathlib.Core.Path.{_≡_, refl, sym, ap, _∙_}
 use mathlib.Core.Bool.{Bool, true, false, _&&_, not, cond}
 use mathlib.Core.List.{List, [], _∷_}

@@ -1,4 +1,4 @@
--- Copying the pairs of a list out of the bytes, one after another, whatever a pair makes. Assumes nothing.
+-- Copying the pairs of a list out of the bytes, one after another, whatever a pair makes.
 use mathlib.Core.Path.{_≡_, refl, sym, ap, ap₂, _∙_}
 use mathlib.Core.List.{List, [], _∷_, _++_}
 use Prim.Native.Nat.{ℕ, zero, suc, _+_, _*_, _<_}

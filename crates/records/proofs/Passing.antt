@@ -1,4 +1,4 @@
--- A pass over the records of one kind, and pass after pass: each record read, a refusal, or the end of the kind. Assumes nothing.
+-- A pass over the records of one kind, and pass after pass: each record read, a refusal, or the end of the kind.
 use mathlib.Core.Path.{_≡_, refl, sym, ap, ap₂, _∙_}
 use mathlib.Core.Bool.{Bool, true, false, cond}
 use mathlib.Core.List.{List, [], _∷_, _++_}

@@ -1,4 +1,4 @@
--- A plan in which nothing is wrong so far, and the first pass over it. Assumes nothing.
+-- A plan in which nothing is wrong so far, and the first pass over it.
 use mathlib.Core.Path.{_≡_, refl}
 use mathlib.Core.Bool.{Bool, true, false}
 use mathlib.Core.List.{List, [], _∷_}

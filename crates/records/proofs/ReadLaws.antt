@@ -1,4 +1,4 @@
--- What reading gives: what each record keeps holds of the whole, the last one was judged, and no fault was found. Assumes nothing.
+-- What reading gives: what each record keeps holds of the whole, the last one was judged, and no fault was found.
 use mathlib.Core.Path.{_≡_, refl, sym, subst}
 use mathlib.Core.Bool.{Bool, true, false, cond}
 use mathlib.Core.List.{List, [], _∷_, _++_}

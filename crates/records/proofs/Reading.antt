@@ -1,4 +1,4 @@
--- What reading fields by place gives: the bytes of a span, the place after them, and the values that the answers stand for. Assumes nothing.
+-- What reading fields by place gives: the bytes of a span, the place after them, and the values that the answers stand for.
 use mathlib.Core.Path.{_≡_, refl, sym, ap, ap₂, _∙_}
 use mathlib.Core.Bool.{Bool, true, false, _&&_, cond, true≢false, false≢true}
 use mathlib.Core.List.{List, [], _∷_, _++_}

@@ -1,4 +1,4 @@
--- The order of sets as rising lists, by their digits. Assumes nothing.
+-- The order of sets as rising lists, by their digits.
 use mathlib.Core.Path.{_≡_, refl, sym, ap, ap₂, _∙_}
 use mathlib.Core.Bool.{Bool, true, false, not, cond, true≢false}
 use mathlib.Core.Logic.{_⊎_, inl, inr}

@@ -1,4 +1,4 @@
--- Laws of sets of persons. They hold for every number, so no bound is carried; what fits a u64 is said apart, by `< 2 ^ 64`. Assumes nothing.
+-- Laws of sets of persons. They hold for every number, so no bound is carried; what fits a u64 is said apart, by `< 2 ^ 64`.
 use mathlib.Core.Path.{_≡_, refl, sym, ap, ap₂, _∙_, subst}
 use mathlib.Core.Bool.{Bool, true, false, not, _&&_, _||_, true≢false, false≢true}
 use mathlib.Core.Logic.{_⊎_, inl, inr, ⊎-elim}

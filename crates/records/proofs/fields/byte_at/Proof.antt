@@ -1,21 +1,9 @@
--- A byte in its range is read, else the answer is bad. Assumes nothing.
+-- A byte in its range is read, else the answer is bad.
 use borrow.Author.Tests.{le-ltb, lt-ltb, le-leb, lt-leb}
 use Rattle.records.specs.paper.Fields.{byteAt}
 use borrow.Author.Needs.{needs}
 use Rattle.records.proofs.fields.byte_at.Statement.{statement}
 use Rattle.records.proofs.fields.byte_at.Tie as tie
-
-shared-slice-read-if2 : tie.Need-shared-slice-read-if2
-shared-slice-read-if2 c = search needs
-
-shared-slice-read-if3 : tie.Need-shared-slice-read-if3
-shared-slice-read-if3 c = search needs
-
-shared-slice-read-t14 : tie.Need-shared-slice-read-t14
-shared-slice-read-t14 c = search needs
-
-add-t15 : tie.Need-add-t15
-add-t15 c = search needs
 
 returns : tie.Need-returns
 unfolding byteAt
@@ -36,12 +24,5 @@ returns-4 c = simp (le-ltb _ _ (c .if1 .left))
 pub byte-at-spec : {M : Type 1} → statement M
 byte-at-spec =
     tie.close
-    (tie.spec
-    shared-slice-read-if2
-    shared-slice-read-if3
-    shared-slice-read-t14
-    add-t15
-    returns
-    returns-2
-    returns-3
-    returns-4)
+    (tie.spec (λ c. search needs) (λ c. search needs) (λ c. search needs) (λ c. search needs) returns returns-2
+    returns-3 returns-4)

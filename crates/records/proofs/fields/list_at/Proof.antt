@@ -1,4 +1,4 @@
--- A counted list of bytes, or none. Assumes nothing.
+-- A counted list of bytes, or none.
 use mathlib.Core.Path.{sym, _∙_, ap, ap₂}
 use mathlib.Core.List.{[], _∷_}
 use Prim.Native.Nat.{ℕ, _+_, _≤_}
@@ -17,23 +17,8 @@ returns : tie.Need-returns
 unfolding bytesFrom
 returns c = (rw (not-true (c .before .before .args .present) (c .if1 .taken)), (omega arith, omega arith))
 
-byte-at-requires : tie.Need-byte-at-requires
-byte-at-requires c κs = search needs
-
-enum-known-count : tie.Need-enum-known-count
-enum-known-count c = search needs
-
-enum-told : tie.Need-enum-told
-enum-told c = search needs
-
 returns-2 : tie.Need-returns-2
 returns-2 c = (rw (not-false (c .before .before .before .before .before .args .present) (c .before .before .before .if1 .left)) (list-bad (now (c .before .before .before .before .before .args .s)) (c .before .before .before .before .before .args .at) (c .before .before .before .before .before .args .limit) (upTo (c .before .before .before .before .before .args .top) ∷ []) (seen fieldRead (c .before .before .byte-at .ensures) (c .enum-told .given .1))), tt)
-
-to-index-requires : tie.Need-to-index-requires
-to-index-requires c κs = search needs
-
-entries-stand-requires : tie.Need-entries-stand-requires
-entries-stand-requires c κs = search needs
 
 add-t12 : tie.Need-add-t12
 add-t12 c =
@@ -67,14 +52,5 @@ returns-4 c =
 pub list-at-spec : {M : Type 1} → statement M
 list-at-spec =
     tie.close
-    (tie.spec
-    returns
-    byte-at-requires
-    enum-known-count
-    enum-told
-    returns-2
-    to-index-requires
-    entries-stand-requires
-    add-t12
-    returns-3
-    returns-4)
+    (tie.spec returns (λ c κs. search needs) (λ c. search needs) (λ c. search needs) returns-2 (λ c κs. search needs)
+    (λ c κs. search needs) add-t12 returns-3 returns-4)

@@ -1,4 +1,4 @@
--- The eight bytes of a mask, or none. Assumes nothing.
+-- The eight bytes of a mask, or none.
 use mathlib.Core.List.{[], _∷_}
 use native.Mathlib.Omega.{arith}
 use denote.Ref.{now}
@@ -12,27 +12,6 @@ use Rattle.records.proofs.fields.mask_at.Tie as tie
 returns : tie.Need-returns
 unfolding little
 returns c = rw (not-true (c .before .before .args .present) (c .if1 .taken))
-
-sub-if3 : tie.Need-sub-if3
-sub-if3 c = search needs
-
-word-at-requires : tie.Need-word-at-requires
-word-at-requires c κs = search needs
-
-add-word-at : tie.Need-add-word-at
-add-word-at c = search needs
-
-word-at-requires-2 : tie.Need-word-at-requires-2
-word-at-requires-2 c κs = search needs
-
-mul-t12 : tie.Need-mul-t12
-mul-t12 c = search needs
-
-add-t13 : tie.Need-add-t13
-add-t13 c = search needs
-
-add-t11 : tie.Need-add-t11
-add-t11 c = search needs
 
 returns-2 : tie.Need-returns-2
 returns-2 c = rw (not-false (c .before .before .before .before .before .before .args .present) (c .before .before .before .before .if1 .left)) (eight-free (now (c .before .before .before .before .before .before .args .s)) (c .before .before .before .before .before .before .args .at) (c .before .word-at .ensures .2) (c .word-at2 .ensures .2) (c .before .word-at .ensures .0) (c .word-at2 .ensures .0))
@@ -48,15 +27,5 @@ returns-4 c = rw (not-false (c .before .before .before .args .present) (c .befor
 pub mask-at-spec : {M : Type 1} → statement M
 mask-at-spec =
     tie.close
-    (tie.spec
-    returns
-    sub-if3
-    word-at-requires
-    add-word-at
-    word-at-requires-2
-    mul-t12
-    add-t13
-    add-t11
-    returns-2
-    returns-3
-    returns-4)
+    (tie.spec returns (λ c. search needs) (λ c κs. search needs) (λ c. search needs) (λ c κs. search needs)
+    (λ c. search needs) (λ c. search needs) (λ c. search needs) returns-2 returns-3 returns-4)

@@ -1,5 +1,5 @@
--- A counted list of pairs, or none. Assumes nothing.
-use mathlib.Core.Path.{sym, _∙_, ap}
+-- A counted list of pairs, or none.
+use mathlib.Core.Path.{_≡_, sym, _∙_, ap}
 use mathlib.Core.List.{[], _∷_}
 use Prim.Native.Nat.{ℕ, _+_, _*_, _≤_}
 use native.Mathlib.Omega.{arith}
@@ -17,26 +17,16 @@ returns : tie.Need-returns
 unfolding bytesFrom
 returns c = (rw (not-true (c .before .before .args .present) (c .if1 .taken)), (omega arith, omega arith))
 
-byte-at-requires : tie.Need-byte-at-requires
-byte-at-requires c κs = search needs
-
-enum-known-count : tie.Need-enum-known-count
-enum-known-count c = search needs
-
-enum-told : tie.Need-enum-told
-enum-told c = search needs
-
 returns-2 : tie.Need-returns-2
 returns-2 c = (rw (not-false (c .before .before .before .before .before .args .present) (c .before .before .before .if1 .left)) (list-bad (now (c .before .before .before .before .before .args .s)) (c .before .before .before .before .before .args .at) (c .before .before .before .before .before .args .limit) (upTo (c .before .before .before .before .before .args .top) ∷ record { low = c .before .before .before .before .before .args .low; top = c .before .before .before .before .before .args .high } ∷ []) (seen fieldRead (c .before .before .byte-at .ensures) (c .enum-told .given .1))), tt)
 
-to-index-requires : tie.Need-to-index-requires
-to-index-requires c κs = search needs
-
-pairs-stand-requires : tie.Need-pairs-stand-requires
-pairs-stand-requires c κs = search needs
-
-mul-t14 : tie.Need-mul-t14
-mul-t14 c = search needs
+-- the entries, counted as the field counts them
+stand : (c : tie.After-pairs-stand) → let a = c .before .before .before .before .before .before .before .before .args in let k = c .before .before .before .count .given .0 in
+    c .pairs-stand .result ≡ isGot (bytesAt (now (a .s)) (k .1 .0) (repeat (k .0) (upTo (a .top) ∷ record { low = a .low; top = a .high } ∷ [])))
+stand c =
+    let a = c .before .before .before .before .before .before .before .before .args in
+    c .pairs-stand .ensures
+    ∙ ap (λ (k : ℕ). isGot (bytesAt (now (a .s)) (c .before .before .before .count .given .0 .1 .0) (repeat k (upTo (a .top) ∷ record { low = a .low; top = a .high } ∷ [])))) (c .before .to-index .ensures .0)
 
 add-t15 : tie.Need-add-t15
 add-t15 c =
@@ -44,7 +34,7 @@ add-t15 c =
     let rs = upTo (a .top) ∷ record { low = a .low; top = a .high } ∷ [] in
     let n = c .before .before .to-index .ensures .0 in
     let h = list-stands (now (a .s)) (a .at) (a .limit) rs (seen fieldRead (c .before .before .before .before .before .before .byte-at .ensures) (c .before .before .before .before .count .given .1))
-    (sym (c .if2 .taken) ∙ c .before .pairs-stand .ensures ∙ ap (λ (k : ℕ). isGot (bytesAt (now (a .s)) (c .before .before .before .before .count .given .0 .1 .0) (repeat k rs))) n) in
+    (sym (c .if2 .taken) ∙ stand (c .before)) in
     let z : c .before .before .before .before .count .given .0 .1 .0 + c .before .before .to-index .result * 2 ≤ length (now (a .s)) = omega (arith, n, h .2) in
     search (needs, z)
 
@@ -54,7 +44,7 @@ returns-3 c =
     let rs = upTo (a .top) ∷ record { low = a .low; top = a .high } ∷ [] in
     let n = c .before .before .to-index .ensures .0 in
     let h = list-stands (now (a .s)) (a .at) (a .limit) rs (seen fieldRead (c .before .before .before .before .before .before .byte-at .ensures) (c .before .before .before .before .count .given .1))
-    (sym (c .if2 .taken) ∙ c .before .pairs-stand .ensures ∙ ap (λ (k : ℕ). isGot (bytesAt (now (a .s)) (c .before .before .before .before .count .given .0 .1 .0) (repeat k rs))) n) in
+    (sym (c .if2 .taken) ∙ stand (c .before)) in
     (rw (not-false (a .present) (c .before .before .before .before .before .before .before .if1 .left)) (ap (got (bytesFrom (now (a .s)) (c .before .before .before .before .count .given .0 .1 .0) (c .before .before .before .before .count .given .0 .0 * 2))) (omega (arith, n)) ∙ h .0), (h .1, h .2))
 
 returns-4 : tie.Need-returns-4
@@ -63,22 +53,12 @@ returns-4 c =
     let rs = upTo (a .top) ∷ record { low = a .low; top = a .high } ∷ [] in
     let n = c .before .before .to-index .ensures .0 in (
       rw (not-false (a .present) (c .before .before .before .before .before .before .before .if1 .left)) (list-stands-not (now (a .s)) (a .at) (a .limit) rs (seen fieldRead (c .before .before .before .before .before .before .byte-at .ensures) (c .before .before .before .before .count .given .1))
-          (sym (c .if2 .left) ∙ c .before .pairs-stand .ensures ∙ ap (λ (k : ℕ). isGot (bytesAt (now (a .s)) (c .before .before .before .before .count .given .0 .1 .0) (repeat k rs))) n)),
+          (sym (c .if2 .left) ∙ stand (c .before))),
       tt,
     )
 
 pub pairs-at-spec : {M : Type 1} → statement M
 pairs-at-spec =
     tie.close
-    (tie.spec
-    returns
-    byte-at-requires
-    enum-known-count
-    enum-told
-    returns-2
-    to-index-requires
-    pairs-stand-requires
-    mul-t14
-    add-t15
-    returns-3
-    returns-4)
+    (tie.spec returns (λ c κs. search needs) (λ c. search needs) (λ c. search needs) returns-2 (λ c κs. search needs)
+    (λ c κs. search needs) (λ c. search needs) add-t15 returns-3 returns-4)

@@ -1,4 +1,4 @@
--- The pairs of a list stand in their ranges, pair after pair. Assumes nothing.
+-- The pairs of a list stand in their ranges, pair after pair.
 use mathlib.Core.Path.{_≡_, _∙_}
 use mathlib.Core.List.{[], _∷_}
 use Prim.Native.Nat.{_-_, _≤_}
@@ -22,41 +22,17 @@ abbrev μ-loop : tie.MeasureT-loop
 loop-holds : tie.Need-loop-holds Inv-loop μ-loop
 loop-holds c = (omega arith, rw sub-zero)
 
-byte-at-requires : tie.Need-byte-at-requires Inv-loop μ-loop
-byte-at-requires c κs = search needs
-
-enum-known-one : tie.Need-enum-known-one Inv-loop μ-loop
-enum-known-one c = search needs
-
-enum-told : tie.Need-enum-told Inv-loop μ-loop
-enum-told c = search needs
-
 returns : tie.Need-returns Inv-loop μ-loop
 returns c =
     let a = c .before .before .before .before .before .before .args in
     let l = c .before .before .before .before .loop in
     entry-bad (now (a .s)) (l .p) (a .n) (l .i) (c .before .before .before .loop-test .taken) (upTo (a .top)) (record { low = a .low; top = a .high } ∷ []) (seen fieldRead (c .before .before .byte-at .ensures) (c .enum-told .given .1)) ∙ l .inv .1
 
-byte-at-requires-2 : tie.Need-byte-at-requires-2 Inv-loop μ-loop
-byte-at-requires-2 c κs = search needs
-
-enum-known-two : tie.Need-enum-known-two Inv-loop μ-loop
-enum-known-two c = search needs
-
-enum-told-2 : tie.Need-enum-told-2 Inv-loop μ-loop
-enum-told-2 c = search needs
-
 returns-2 : tie.Need-returns-2 Inv-loop μ-loop
 returns-2 c =
     let a = c .before .before .before .before .before .before .before .before .before .before .args in
     let l = c .before .before .before .before .before .before .before .before .loop in
     pair-bad (now (a .s)) (l .p) (a .n) (l .i) (c .before .before .before .before .before .before .before .loop-test .taken) (upTo (a .top)) (record { low = a .low; top = a .high }) (seen fieldRead (c .before .before .before .before .before .before .byte-at .ensures) (c .before .before .before .before .one .given .1)) (seen fieldRead (c .before .before .byte-at2 .ensures) (c .enum-told2 .given .1)) ∙ l .inv .1
-
-add-i : tie.Need-add-i Inv-loop μ-loop
-add-i c = search needs
-
-loop-less : tie.Need-loop-less Inv-loop μ-loop
-loop-less c = search needs
 
 loop-again : tie.Need-loop-again Inv-loop μ-loop
 loop-again c =
@@ -73,19 +49,6 @@ returns-3 c =
 pub pairs-stand-spec : {M : Type 1} → statement M
 pairs-stand-spec =
     tie.close
-    (tie.spec
-    Inv-loop
-    μ-loop
-    loop-holds
-    byte-at-requires
-    enum-known-one
-    enum-told
-    returns
-    byte-at-requires-2
-    enum-known-two
-    enum-told-2
-    returns-2
-    add-i
-    loop-less
-    loop-again
-    returns-3)
+    (tie.spec Inv-loop μ-loop loop-holds (λ c κs. search needs) (λ c. search needs) (λ c. search needs) returns
+    (λ c κs. search needs) (λ c. search needs) (λ c. search needs) returns-2 (λ c. search needs) (λ c. search needs)
+    loop-again returns-3)

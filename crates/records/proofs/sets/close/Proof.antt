@@ -1,4 +1,4 @@
--- `sets::close`: each pass keeps the closing, and lessens the sets that are not inside. Assumes nothing.
+-- `sets::close`: each pass keeps the closing, and lessens the sets that are not inside.
 use mathlib.Core.Path.{_≡_, refl, sym, ap, _∙_}
 use borrow.Author.Needs.{needs}
 use Rattle.records.specs.paper.Sets.{pass, closeOf}
@@ -15,9 +15,6 @@ abbrev μ-loop : tie.MeasureT-loop
 
 loop-holds : tie.Need-loop-holds Inv-loop μ-loop
 loop-holds c = refl
-
-pass-requires : tie.Need-pass-requires Inv-loop μ-loop
-pass-requires c κs = search needs
 
 returns : tie.Need-returns Inv-loop μ-loop
 returns c =
@@ -39,4 +36,4 @@ loop-again c =
 
 pub close-spec : {M : Type 1} → statement M
 close-spec =
-    tie.close (tie.spec Inv-loop μ-loop loop-holds pass-requires returns loop-less loop-again)
+    tie.close (tie.spec Inv-loop μ-loop loop-holds (λ c κs. search needs) returns loop-less loop-again)

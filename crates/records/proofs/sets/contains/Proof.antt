@@ -1,4 +1,4 @@
--- `sets::contains`: the mask of p tells its digit, and a u64 has no digit from 64 on. Assumes nothing.
+-- `sets::contains`: the mask of p tells its digit, and a u64 has no digit from 64 on.
 use mathlib.Core.Path.{ap, sym, _∙_}
 use mathlib.Core.Bool.{not}
 use Prim.Native.Nat.{ℕ}
@@ -11,9 +11,6 @@ use Rattle.records.proofs.SetLaws.{has-test, has-high}
 use Rattle.records.proofs.sets.contains.Statement.{statement}
 use Rattle.records.proofs.sets.contains.Tie as tie
 
-bit-requires : tie.Need-bit-requires
-bit-requires c κs = search needs
-
 returns : tie.Need-returns
 unfolding one
 returns c =
@@ -24,4 +21,4 @@ returns-2 : tie.Need-returns-2
 returns-2 c = sym (has-high 64 (c .before .args .m) (c .before .args .p) (c .before .fits .m .fits) (omega arith))
 
 pub contains-spec : {M : Type 1} → statement M
-contains-spec = tie.close (tie.spec bit-requires returns returns-2)
+contains-spec = tie.close (tie.spec (λ c κs. search needs) returns returns-2)

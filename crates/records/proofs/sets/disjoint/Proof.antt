@@ -1,4 +1,4 @@
--- `sets::disjoint`: `a & b == 0`. Assumes nothing.
+-- `sets::disjoint`: `a & b == 0`.
 use mathlib.Core.Path.{refl}
 use Rattle.records.specs.paper.Sets.{disjoint, meet}
 use Rattle.records.proofs.sets.disjoint.Statement.{statement}

@@ -1,4 +1,4 @@
--- `sets::lowest`: the trailing zeros. Assumes nothing.
+-- `sets::lowest`: the trailing zeros.
 use mathlib.Core.Path.{refl}
 use Rattle.records.specs.paper.Sets.{lowest}
 use Rattle.records.proofs.sets.lowest.Statement.{statement}

@@ -1,4 +1,4 @@
--- `sets::minus`: `a & !b` leaves out what is in b. Assumes nothing.
+-- `sets::minus`: `a & !b` leaves out what is in b.
 use Rattle.records.proofs.SetLaws.{and-not}
 use Rattle.records.proofs.sets.minus.Statement.{statement}
 use Rattle.records.proofs.sets.minus.Tie as tie

@@ -1,4 +1,4 @@
--- `sets::rising_less`: the lowest digit in which the two differ decides. Assumes nothing.
+-- `sets::rising_less`: the lowest digit in which the two differ decides.
 use mathlib.Core.Path.{sym}
 use Prim.Native.Nat.{_<_}
 use native.Mathlib.Omega.{arith}
@@ -46,14 +46,4 @@ returns-3 c =
 
 pub rising-less-spec : {M : Type 1} → statement M
 rising-less-spec =
-    tie.close
-    (tie.spec
-    returns
-    cast-if2
-    shr-if2
-    cast-result
-    shr-result
-    returns-2
-    cast-result-2
-    shr-result-2
-    returns-3)
+    tie.close (tie.spec returns cast-if2 shr-if2 cast-result shr-result returns-2 cast-result-2 shr-result-2 returns-3)

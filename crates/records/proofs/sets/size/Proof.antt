@@ -1,4 +1,4 @@
--- `sets::size`: the count of ones is the count of the 64 digits. Assumes nothing.
+-- `sets::size`: the count of ones is the count of the 64 digits.
 use Rattle.records.proofs.SetLaws.{ones-size}
 use Rattle.records.proofs.sets.size.Statement.{statement}
 use Rattle.records.proofs.sets.size.Tie as tie

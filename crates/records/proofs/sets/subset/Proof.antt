@@ -1,4 +1,4 @@
--- `sets::subset`: `a & !b == 0`. Assumes nothing.
+-- `sets::subset`: `a & !b == 0`.
 use mathlib.Core.Path.{ap}
 use Prim.Native.Nat.{ℕ}
 use lib.Dec.{eqb}

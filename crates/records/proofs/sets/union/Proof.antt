@@ -1,4 +1,4 @@
--- `sets::union`: `a | b`. Assumes nothing.
+-- `sets::union`: `a | b`.
 use mathlib.Core.Path.{refl}
 use Rattle.records.specs.paper.Sets.{union}
 use Rattle.records.proofs.sets.union.Statement.{statement}

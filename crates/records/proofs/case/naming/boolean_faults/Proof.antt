@@ -1,4 +1,4 @@
--- The pass over the booleans, left at the first that names no boolean fact. Assumes nothing.
+-- The pass over the booleans, left at the first that names no boolean fact.
 use mathlib.Core.Path.{_≡_, sym, _∙_}
 use mathlib.Core.List.{map}
 use Prim.Native.Nat.{_≤_, _-_}
@@ -23,26 +23,11 @@ Inv-loop facts first booleans count k₀ k =
 abbrev μ-loop : tie.MeasureT-loop
 μ-loop facts first booleans count k₀ k = count - k
 
-least-requires : tie.Need-least-requires Inv-loop μ-loop
-least-requires c κs = search needs
-
 loop-holds : tie.Need-loop-holds Inv-loop μ-loop
 loop-holds c =
     let x = c .before .args .t2 in
     let long : length (x .items) ≡ 64 = simp length-map at (c .before .good .1 .0 .1 .1 .1 .0 .1 .0 .1) in
     (omega arith, omega (arith, c .least .ensures, min-le-right (x .count) 64), c .least .ensures ∙ sym (length-front booleanOf (x .items) (x .count) 64 long), λ P C e. going (c .before .args .first) (booleanFaults P x) C)
-
-mul-boolean-fact : tie.Need-mul-boolean-fact Inv-loop μ-loop
-mul-boolean-fact c = search needs
-
-element-copy-out-boolean-fact : tie.Need-element-copy-out-boolean-fact Inv-loop μ-loop
-element-copy-out-boolean-fact c = search needs
-
-boolean-fact-requires : tie.Need-boolean-fact-requires Inv-loop μ-loop
-boolean-fact-requires c κs = search needs
-
-add-t14 : tie.Need-add-t14 Inv-loop μ-loop
-add-t14 c = search needs
 
 returns : tie.Need-returns Inv-loop μ-loop
 unfolding booleanOf
@@ -50,12 +35,6 @@ returns c =
     let a = c .before .before .before .before .before .args in let l = c .before .before .before .loop in let r = c .before .boolean-fact in λ P C e.
     one-faulty (λ b. paper.booleanFact P (b .fact)) booleanOf (a .t2 .items) (a .t2 .count) _ (l .inv .2) (a .first) C (l .k) (l .inv .3 P C e) _ (c .before .before .loop-test .taken)
     (sym (r .ensures P e) ∙ not-true (r .result) (c .if1 .taken))
-
-add-k : tie.Need-add-k Inv-loop μ-loop
-add-k c = search needs
-
-loop-less : tie.Need-loop-less Inv-loop μ-loop
-loop-less c = search needs
 
 loop-again : tie.Need-loop-again Inv-loop μ-loop
 unfolding booleanOf
@@ -77,17 +56,5 @@ returns-2 c =
 pub boolean-faults-spec : {M : Type 1} → statement M
 boolean-faults-spec =
     tie.close
-    (tie.spec
-    Inv-loop
-    μ-loop
-    least-requires
-    loop-holds
-    mul-boolean-fact
-    element-copy-out-boolean-fact
-    boolean-fact-requires
-    add-t14
-    returns
-    add-k
-    loop-less
-    loop-again
-    returns-2)
+    (tie.spec Inv-loop μ-loop (λ c κs. search needs) loop-holds (λ c. search needs) (λ c. search needs)
+    (λ c κs. search needs) (λ c. search needs) returns (λ c. search needs) (λ c. search needs) loop-again returns-2)

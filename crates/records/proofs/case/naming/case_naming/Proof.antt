@@ -1,4 +1,4 @@
--- Refusal 4 of a case over its three kinds in their order. Assumes nothing.
+-- Refusal 4 of a case over its three kinds in their order.
 use mathlib.Core.Path.{_≡_, refl, sym, ap, _∙_}
 use mathlib.Core.List.{List, _++_}
 use Prim.Native.Nat.{ℕ, _+_}
@@ -60,23 +60,11 @@ module _ (P : paper.Plan) (p : Case) (n : CaseCounts) (h : CaseCountsOf (caseOf 
     over-relations : SaysFirst C at-relations (relationFaults P C (p .relations)) r → SaysFirst C (at-relations + n .relations) (constraintFaults P (p .constraints)) s → SaysFirst C at-relations from-relations s
     over-relations is z = kind-passed at-relations (at-relations + n .relations) (relationFaults P C (p .relations)) (constraintFaults P (p .constraints)) C r long-relations is e z
 
-count-records-requires : tie.Need-count-records-requires
-count-records-requires c κs = search needs
-
-count-case-requires : tie.Need-count-case-requires
-count-case-requires c κs = search needs
-
 add-at-booleans : tie.Need-add-at-booleans
 add-at-booleans c = omega (arith, c .before .count-case .ensures .1)
 
 boolean-faults-requires : tie.Need-boolean-faults-requires
 boolean-faults-requires c κs = omega (arith, c .before .before .count-case .ensures .1)
-
-enum-told : tie.Need-enum-told
-enum-told c = search needs
-
-enum-told-2 : tie.Need-enum-told-2
-enum-told-2 c = search needs
 
 returns : tie.Need-returns
 unfolding planOf
@@ -89,12 +77,6 @@ add-at-relations c = omega (arith, c .before .before .before .before .before .be
 
 relation-faults-requires : tie.Need-relation-faults-requires
 relation-faults-requires c κs = omega (arith, c .before .before .before .before .before .before .before .before .count-case .ensures .1)
-
-enum-told-3 : tie.Need-enum-told-3
-enum-told-3 c = search needs
-
-enum-told-4 : tie.Need-enum-told-4
-enum-told-4 c = search needs
 
 returns-2 : tie.Need-returns-2
 unfolding planOf caseOf
@@ -120,19 +102,6 @@ returns-3 c =
 pub case-naming-spec : {M : Type 1} → statement M
 case-naming-spec =
     tie.close
-    (tie.spec
-    count-records-requires
-    count-case-requires
-    add-at-booleans
-    boolean-faults-requires
-    enum-told
-    enum-told-2
-    returns
-    add-at-relations
-    relation-faults-requires
-    enum-told-3
-    enum-told-4
-    returns-2
-    add-constraint-faults
-    constraint-faults-requires
-    returns-3)
+    (tie.spec (λ c κs. search needs) (λ c κs. search needs) add-at-booleans boolean-faults-requires
+    (λ c. search needs) (λ c. search needs) returns add-at-relations relation-faults-requires (λ c. search needs)
+    (λ c. search needs) returns-2 add-constraint-faults constraint-faults-requires returns-3)

@@ -1,4 +1,4 @@
--- The pass over the constraints, left at the first that names no node. Assumes nothing.
+-- The pass over the constraints, left at the first that names no node.
 use mathlib.Core.Path.{_≡_, sym, ap, _∙_}
 use Prim.Native.Nat.{_≤_, _-_}
 use native.Mathlib.Nat.{min-le-left, min-le-right}
@@ -23,24 +23,12 @@ Inv-loop nodes first constraints count k₀ k =
 abbrev μ-loop : tie.MeasureT-loop
 μ-loop nodes first constraints count k₀ k = count - k
 
-least-requires : tie.Need-least-requires Inv-loop μ-loop
-least-requires c κs = search needs
-
 loop-holds : tie.Need-loop-holds Inv-loop μ-loop
 loop-holds c =
     let x = c .before .args .t2 in
     let long : length (x .items) ≡ 16 = sym (lib.ListN.length-map (x .items) (λ v. v)) ∙ c .before .good .1 .0 .1 .1 .1 .0 .1 .0 .1 in
     let e = c .least .ensures in
     (omega arith, omega (arith, e, min-le-right (x .count) 16), omega (arith, e, min-le-left (x .count) 16), e ∙ sym (length-take (x .count) (x .items) ∙ rw long), λ P C h. going (c .before .args .first) (constraintFaults P x) C)
-
-element-copy-out-wide : tie.Need-element-copy-out-wide Inv-loop μ-loop
-element-copy-out-wide c = search needs
-
-wide-requires : tie.Need-wide-requires Inv-loop μ-loop
-wide-requires c κs = search needs
-
-add-t13 : tie.Need-add-t13 Inv-loop μ-loop
-add-t13 c = search needs
 
 returns : tie.Need-returns Inv-loop μ-loop
 returns c =
@@ -49,12 +37,6 @@ returns c =
     let w : c .before .wide .result ≡ y = c .before .wide .ensures .0 in λ P C e.
     item-faulty (λ i. ltb i (length (P .nodes))) (take (a .t2 .count) (a .t2 .items)) (a .first) C (l .k) (l .inv .4 P C e) y 0 (getD-take (a .t2 .count) (a .t2 .items) (l .k) 0 (omega (arith, l .inv .2, c .before .before .before .loop-test .taken))) (omega (arith, l .inv .3, c .before .before .before .loop-test .taken))
     (ap (ltb y) (sym e) ∙ le-ltb y (a .nodes) (omega (arith, c .if1 .taken, w)))
-
-add-k : tie.Need-add-k Inv-loop μ-loop
-add-k c = search needs
-
-loop-less : tie.Need-loop-less Inv-loop μ-loop
-loop-less c = search needs
 
 loop-again : tie.Need-loop-again Inv-loop μ-loop
 loop-again c =
@@ -78,16 +60,5 @@ returns-2 c =
 pub constraint-faults-spec : {M : Type 1} → statement M
 constraint-faults-spec =
     tie.close
-    (tie.spec
-    Inv-loop
-    μ-loop
-    least-requires
-    loop-holds
-    element-copy-out-wide
-    wide-requires
-    add-t13
-    returns
-    add-k
-    loop-less
-    loop-again
-    returns-2)
+    (tie.spec Inv-loop μ-loop (λ c κs. search needs) loop-holds (λ c. search needs) (λ c κs. search needs)
+    (λ c. search needs) returns (λ c. search needs) (λ c. search needs) loop-again returns-2)

@@ -1,4 +1,4 @@
--- How many records of each kind a case has. Assumes nothing.
+-- How many records of each kind a case has.
 use mathlib.Core.Path.{_≡_, sym, ap, _∙_}
 use Prim.Native.Nat.{ℕ, min}
 use native.Mathlib.Nat.{min-le-right}
@@ -9,21 +9,6 @@ use Rattle.records.proofs.ListLaws.{length-front}
 use borrow.Author.Needs.{needs}
 use Rattle.records.proofs.case.naming.count_case.Statement.{statement}
 use Rattle.records.proofs.case.naming.count_case.Tie as tie
-
-least-requires : tie.Need-least-requires
-least-requires c κs = search needs
-
-least-requires-2 : tie.Need-least-requires-2
-least-requires-2 c κs = search needs
-
-least-requires-3 : tie.Need-least-requires-3
-least-requires-3 c κs = search needs
-
-least-requires-4 : tie.Need-least-requires-4
-least-requires-4 c κs = search needs
-
-least-requires-5 : tie.Need-least-requires-5
-least-requires-5 c κs = search needs
 
 returns : tie.Need-returns
 unfolding caseOf
@@ -52,10 +37,5 @@ returns c =
 pub count-case-spec : {M : Type 1} → statement M
 count-case-spec =
     tie.close
-    (tie.spec
-    least-requires
-    least-requires-2
-    least-requires-3
-    least-requires-4
-    least-requires-5
-    returns)
+    (tie.spec (λ c κs. search needs) (λ c κs. search needs) (λ c κs. search needs) (λ c κs. search needs)
+    (λ c κs. search needs) returns)

@@ -1,4 +1,4 @@
--- A loop over the families, left at the first of the number. Assumes nothing.
+-- A loop over the families, left at the first of the number.
 use mathlib.Core.Path.{_≡_, refl, sym, ap, _∙_}
 use mathlib.Core.Bool.{false}
 use Prim.Native.Nat.{_≤_, _<_, _-_}
@@ -22,21 +22,12 @@ Inv-loop number families count i₀ i =
 abbrev μ-loop : tie.MeasureT-loop
 μ-loop number families count i₀ i = count - i
 
-least-requires : tie.Need-least-requires Inv-loop μ-loop
-least-requires c κs = search needs
-
 loop-holds : tie.Need-loop-holds Inv-loop μ-loop
 loop-holds c =
     let f = c .before .args .t1 in
     let long : length (f .items) ≡ 16 = simp length-map at (c .before .good .0 .1 .1 .1 .0 .1 .0 .1) in
     let e = c .least .ensures ∙ sym (length-front familyOf (f .items) (f .count) 16 long) in
     (omega arith, omega (arith, c .least .ensures, min-le-right (f .count) 16), e, refl)
-
-mul-if1 : tie.Need-mul-if1 Inv-loop μ-loop
-mul-if1 c = search needs
-
-element-copy-out-if1 : tie.Need-element-copy-out-if1 Inv-loop μ-loop
-element-copy-out-if1 c = search needs
 
 returns : tie.Need-returns Inv-loop μ-loop
 returns c =
@@ -48,12 +39,6 @@ returns c =
     let u : l .i < length L = omega (arith, l .inv .2, c .before .loop-test .taken) in
     let same = getD-front familyOf xs (a .t1 .count) (l .i) d (familyOf d) u in
     any-found (sameFamily (a .number)) L (l .i) (familyOf d) _ u (ap (sameFamily (a .number)) same ∙ same-family (getD xs (l .i) d) (a .number) (c .if1 .taken)) (l .inv .3)
-
-add-i : tie.Need-add-i Inv-loop μ-loop
-add-i c = search needs
-
-loop-less : tie.Need-loop-less Inv-loop μ-loop
-loop-less c = search needs
 
 loop-again : tie.Need-loop-again Inv-loop μ-loop
 loop-again c =
@@ -77,15 +62,5 @@ returns-2 c =
 pub has-family-spec : {M : Type 1} → statement M
 has-family-spec =
     tie.close
-    (tie.spec
-    Inv-loop
-    μ-loop
-    least-requires
-    loop-holds
-    mul-if1
-    element-copy-out-if1
-    returns
-    add-i
-    loop-less
-    loop-again
-    returns-2)
+    (tie.spec Inv-loop μ-loop (λ c κs. search needs) loop-holds (λ c. search needs) (λ c. search needs) returns
+    (λ c. search needs) (λ c. search needs) loop-again returns-2)

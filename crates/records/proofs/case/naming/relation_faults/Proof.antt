@@ -1,4 +1,4 @@
--- The pass over the relations, left at the first that names what is not there. Assumes nothing.
+-- The pass over the relations, left at the first that names what is not there.
 use mathlib.Core.Path.{_≡_, sym, _∙_}
 use mathlib.Core.List.{map}
 use Prim.Native.Nat.{_≤_, _-_}
@@ -23,38 +23,17 @@ Inv-loop facts families first relations count k₀ k =
 abbrev μ-loop : tie.MeasureT-loop
 μ-loop facts families first relations count k₀ k = count - k
 
-least-requires : tie.Need-least-requires Inv-loop μ-loop
-least-requires c κs = search needs
-
 loop-holds : tie.Need-loop-holds Inv-loop μ-loop
 loop-holds c =
     let x = c .before .args .t3 in
     let long : length (x .items) ≡ 256 = simp length-map at (c .before .good .1 .1 .0 .1 .1 .1 .0 .1 .0 .1) in
     (omega arith, omega (arith, c .least .ensures, min-le-right (x .count) 256), c .least .ensures ∙ sym (length-front relationOf (x .items) (x .count) 256 long), λ P C e h. going (c .before .args .first) (relationFaults P C x) C)
 
-mul-relation-sound : tie.Need-mul-relation-sound Inv-loop μ-loop
-mul-relation-sound c = search needs
-
-element-copy-out-relation-sound : tie.Need-element-copy-out-relation-sound Inv-loop μ-loop
-element-copy-out-relation-sound c = search needs
-
-relation-sound-requires : tie.Need-relation-sound-requires Inv-loop μ-loop
-relation-sound-requires c κs = search needs
-
-add-t15 : tie.Need-add-t15 Inv-loop μ-loop
-add-t15 c = search needs
-
 returns : tie.Need-returns Inv-loop μ-loop
 returns c =
     let a = c .before .before .before .before .before .before .args in let l = c .before .before .before .before .loop in let r = c .before .relation-sound in λ P C e h.
     one-faulty (case.relationSound P C) relationOf (a .t3 .items) (a .t3 .count) _ (l .inv .2) (a .first) C (l .k) (l .inv .3 P C e h) _ (c .before .before .before .loop-test .taken)
     (sym (r .ensures P C e h) ∙ not-true (r .result) (c .if1 .taken))
-
-add-k : tie.Need-add-k Inv-loop μ-loop
-add-k c = search needs
-
-loop-less : tie.Need-loop-less Inv-loop μ-loop
-loop-less c = search needs
 
 loop-again : tie.Need-loop-again Inv-loop μ-loop
 loop-again c =
@@ -75,17 +54,5 @@ returns-2 c =
 pub relation-faults-spec : {M : Type 1} → statement M
 relation-faults-spec =
     tie.close
-    (tie.spec
-    Inv-loop
-    μ-loop
-    least-requires
-    loop-holds
-    mul-relation-sound
-    element-copy-out-relation-sound
-    relation-sound-requires
-    add-t15
-    returns
-    add-k
-    loop-less
-    loop-again
-    returns-2)
+    (tie.spec Inv-loop μ-loop (λ c κs. search needs) loop-holds (λ c. search needs) (λ c. search needs)
+    (λ c κs. search needs) (λ c. search needs) returns (λ c. search needs) (λ c. search needs) loop-again returns-2)

@@ -1,4 +1,4 @@
--- A relation names a relation fact whose family has a record. Assumes nothing.
+-- A relation names a relation fact whose family has a record.
 use mathlib.Core.Path.{_≡_, sym, ap, _∙_}
 use mathlib.Core.Bool.{false}
 use mathlib.Core.List.{List, [], map}
@@ -16,12 +16,6 @@ use borrow.Author.Needs.{needs}
 use Rattle.records.proofs.case.naming.relation_sound.Statement.{statement}
 use Rattle.records.proofs.case.naming.relation_sound.Tie as tie
 
-least-requires : tie.Need-least-requires
-least-requires c κs = search needs
-
-wide-requires : tie.Need-wide-requires
-wide-requires c κs = search needs
-
 returns : tie.Need-returns
 returns c = λ P C e f.
     let st = c .before .before .before in
@@ -31,12 +25,6 @@ returns c = λ P C e f.
     let long : length xs ≡ 64 = simp length-map at (st .good .0 .1 .1 .1 .0 .1 .0 .1) in
     let m = ap length (sym e) ∙ length-front factOf xs n 64 long ∙ sym (c .before .before .least .ensures) in
     no-fact P C (a .relation) (omega (arith, m, c .before .wide .ensures .0, c .if1 .taken))
-
-mul-fact : tie.Need-mul-fact
-mul-fact c = search needs
-
-element-copy-out-fact : tie.Need-element-copy-out-fact
-element-copy-out-fact c = search needs
 
 returns-2 : tie.Need-returns-2
 unfolding paper.getFact
@@ -53,9 +41,6 @@ returns-2 c = λ P C e f.
     let i : c .before .before .before .wide .result ≡ a .relation .fact = c .before .before .before .wide .ensures .0 in
     let g = ap (λ (ys : List paper.Fact). getD ys (a .relation .fact) (record { family = []; tuple = [] })) (sym e) ∙ getD-front factOf xs n (a .relation .fact) d _ v ∙ ap (λ (j : ℕ). factOf (getD xs j d)) (sym i) in
     boolean-fact P C (a .relation) (getD xs (c .before .before .before .wide .result) d) u g (c .if2 .taken)
-
-has-family-requires : tie.Need-has-family-requires
-has-family-requires c κs = search needs
 
 returns-3 : tie.Need-returns-3
 unfolding paper.getFact
@@ -76,12 +61,5 @@ returns-3 c = λ P C e f.
 pub relation-sound-spec : {M : Type 1} → statement M
 relation-sound-spec =
     tie.close
-    (tie.spec
-    least-requires
-    wide-requires
-    returns
-    mul-fact
-    element-copy-out-fact
-    returns-2
-    has-family-requires
-    returns-3)
+    (tie.spec (λ c κs. search needs) (λ c κs. search needs) returns (λ c. search needs) (λ c. search needs) returns-2
+    (λ c κs. search needs) returns-3)

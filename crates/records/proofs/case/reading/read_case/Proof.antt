@@ -1,4 +1,4 @@
--- A case over its plan: what its records say, then the first record that names what is not there. Assumes nothing.
+-- A case over its plan: what its records say, then the first record that names what is not there.
 use mathlib.Core.Path.{refl}
 use denote.Ref.{now}
 use Rattle.records.specs.code.Decoded.{planOf}
@@ -7,23 +7,11 @@ use borrow.Author.Needs.{needs}
 use Rattle.records.proofs.case.reading.read_case.Statement.{statement}
 use Rattle.records.proofs.case.reading.read_case.Tie as tie
 
-read-case-records-requires : tie.Need-read-case-records-requires
-read-case-records-requires c κs = search needs
-
 returns : tie.Need-returns
 returns c =
     let a = c .before .before .before .before .args in
     let r = c .before .before .read-case-records in
     stays-refused (planOf (a .plan)) (now (a .s)) (r .result) (r .ensures) (c .if1 .taken)
-
-case-naming-requires : tie.Need-case-naming-requires
-case-naming-requires c κs = search needs
-
-enum-known-named : tie.Need-enum-known-named
-enum-known-named c = search needs
-
-enum-told : tie.Need-enum-told
-enum-told c = search needs
 
 returns-2 : tie.Need-returns-2
 returns-2 c =
@@ -42,11 +30,5 @@ returns-3 c =
 pub read-case-spec : {M : Type 1} → statement M
 read-case-spec =
     tie.close
-    (tie.spec
-    read-case-records-requires
-    returns
-    case-naming-requires
-    enum-known-named
-    enum-told
-    returns-2
+    (tie.spec (λ c κs. search needs) returns (λ c κs. search needs) (λ c. search needs) (λ c. search needs) returns-2
     returns-3)

@@ -1,4 +1,4 @@
--- A case out of its bytes is what the passes over its kinds say. Assumes nothing.
+-- A case out of its bytes is what the passes over its kinds say.
 use mathlib.Core.List.{List}
 use Prim.Native.Nat.{ℕ}
 use native.Mathlib.Omega.{arith}
@@ -65,65 +65,29 @@ reached5 c =
 
 -- ---- the needs
 
-read-case-heading-requires : tie.Need-read-case-heading-requires
-read-case-heading-requires c κs = search needs
-
-refused-requires : tie.Need-refused-requires
-refused-requires c κs = search needs
-
 returns : tie.Need-returns
 unfolding caseReadOf
 returns c = answer-stops (caseOf (c .refused .result .case)) (reached1 (c .before .before .before)) (c .refused .ensures .0) (c .refused .ensures .1) (c .before .if1 .taken)
-
-read-families-requires : tie.Need-read-families-requires
-read-families-requires c κs = search needs
-
-refused-requires-2 : tie.Need-refused-requires-2
-refused-requires-2 c κs = search needs
 
 returns-2 : tie.Need-returns-2
 unfolding caseReadOf
 returns-2 c = answer-stops (caseOf (c .refused2 .result .case)) (reached2 (c .before .before .before)) (c .refused2 .ensures .0) (c .refused2 .ensures .1) (c .before .if2 .taken)
 
-read-booleans-requires : tie.Need-read-booleans-requires
-read-booleans-requires c κs = search needs
-
-refused-requires-3 : tie.Need-refused-requires-3
-refused-requires-3 c κs = search needs
-
 returns-3 : tie.Need-returns-3
 unfolding caseReadOf
 returns-3 c = answer-stops (caseOf (c .refused3 .result .case)) (reached3 (c .before .before .before)) (c .refused3 .ensures .0) (c .refused3 .ensures .1) (c .before .if3 .taken)
-
-read-relations-requires : tie.Need-read-relations-requires
-read-relations-requires c κs = search needs
-
-refused-requires-4 : tie.Need-refused-requires-4
-refused-requires-4 c κs = search needs
 
 returns-4 : tie.Need-returns-4
 unfolding caseReadOf
 returns-4 c = answer-stops (caseOf (c .refused4 .result .case)) (reached4 (c .before .before .before)) (c .refused4 .ensures .0) (c .refused4 .ensures .1) (c .before .if4 .taken)
 
-read-constraints-requires : tie.Need-read-constraints-requires
-read-constraints-requires c κs = search needs
-
-refused-requires-5 : tie.Need-refused-requires-5
-refused-requires-5 c κs = search needs
-
 returns-5 : tie.Need-returns-5
 unfolding caseReadOf
 returns-5 c = answer-stops (caseOf (c .refused5 .result .case)) (reached5 (c .before .before .before)) (c .refused5 .ensures .0) (c .refused5 .ensures .1) (c .before .if5 .taken)
 
-refused-requires-6 : tie.Need-refused-requires-6
-refused-requires-6 c κs = search needs
-
 returns-6 : tie.Need-returns-6
 unfolding caseReadOf
 returns-6 c = answer-more (caseOf (c .refused6 .result .case)) (reached5 (c .before .before .before .before .before)) (c .refused6 .ensures .0) (c .refused6 .ensures .1) (c .before .before .before .if5 .left) (omega (arith, case-kinds)) (c .before .if6 .taken)
-
-refused-requires-7 : tie.Need-refused-requires-7
-refused-requires-7 c κs = search needs
 
 returns-7 : tie.Need-returns-7
 unfolding caseReadOf
@@ -136,24 +100,7 @@ returns-8 c = answer-fine (reached5 (c .before .before .before .before .before .
 pub read-case-records-spec : {M : Type 1} → statement M
 read-case-records-spec =
     tie.close
-    (tie.spec
-    read-case-heading-requires
-    refused-requires
-    returns
-    read-families-requires
-    refused-requires-2
-    returns-2
-    read-booleans-requires
-    refused-requires-3
-    returns-3
-    read-relations-requires
-    refused-requires-4
-    returns-4
-    read-constraints-requires
-    refused-requires-5
-    returns-5
-    refused-requires-6
-    returns-6
-    refused-requires-7
-    returns-7
-    returns-8)
+    (tie.spec (λ c κs. search needs) (λ c κs. search needs) returns (λ c κs. search needs) (λ c κs. search needs)
+    returns-2 (λ c κs. search needs) (λ c κs. search needs) returns-3 (λ c κs. search needs) (λ c κs. search needs)
+    returns-4 (λ c κs. search needs) (λ c κs. search needs) returns-5 (λ c κs. search needs) returns-6
+    (λ c κs. search needs) returns-7 returns-8)

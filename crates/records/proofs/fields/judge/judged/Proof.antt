@@ -1,4 +1,4 @@
--- Past a limit, then wrong bits or no heading, then unsound. Assumes nothing.
+-- Past a limit, then wrong bits or no heading, then unsound.
 use mathlib.Core.Path.{sym, _∙_}
 use mathlib.Core.Bool.{_&&_}
 use native.Mathlib.Omega.{arith}
@@ -7,12 +7,6 @@ use borrow.Author.Tests.{not-true, not-false}
 use Rattle.records.proofs.KindLaws.{room-left}
 use Rattle.records.proofs.fields.judge.judged.Statement.{statement}
 use Rattle.records.proofs.fields.judge.judged.Tie as tie
-
-past-requires : tie.Need-past-requires
-past-requires c κs = search needs
-
-unsuited-requires : tie.Need-unsuited-requires
-unsuited-requires c κs = search needs
 
 returns : tie.Need-returns
 returns c = (rw (sym (c .before .before .past .ensures) ∙ c .if1 .taken), λ z. omega (arith, z))
@@ -35,4 +29,4 @@ returns-4 c =
     (rw (p, not-false (a .fits && a .headed) (sym (c .before .before .before .unsuited .ensures) ∙ c .before .if2 .left), c .if3 .left), λ z. omega (arith, z))
 
 pub judged-spec : {M : Type 1} → statement M
-judged-spec = tie.close (tie.spec past-requires unsuited-requires returns returns-2 returns-3 returns-4)
+judged-spec = tie.close (tie.spec (λ c κs. search needs) (λ c κs. search needs) returns returns-2 returns-3 returns-4)

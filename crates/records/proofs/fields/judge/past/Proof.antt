@@ -1,4 +1,4 @@
--- Past one of two limits. Assumes nothing.
+-- Past one of two limits.
 use borrow.Author.Tests.{le-leb, lt-leb}
 use Rattle.records.proofs.fields.judge.past.Statement.{statement}
 use Rattle.records.proofs.fields.judge.past.Tie as tie

@@ -1,4 +1,4 @@
--- Wrong bits, or no heading. Assumes nothing.
+-- Wrong bits, or no heading.
 use Rattle.records.proofs.fields.judge.unsuited.Statement.{statement}
 use Rattle.records.proofs.fields.judge.unsuited.Tie as tie
 

@@ -1,4 +1,4 @@
--- Up to sixty-four pairs, copied. Assumes nothing.
+-- Up to sixty-four pairs, copied.
 use mathlib.Core.Path.{_≡_, refl, sym, _∙_, ap}
 use Prim.Native.Nat.{ℕ, _-_, _*_, _≤_}
 use native.Mathlib.Omega.{arith}
@@ -20,45 +20,9 @@ Inv-loop s first count n edges₀ verdicts₀ i₀ edges verdicts i =
 abbrev μ-loop : tie.MeasureT-loop
 μ-loop s first count n edges₀ verdicts₀ i₀ edges verdicts i = n - i
 
-to-index-requires : tie.Need-to-index-requires Inv-loop μ-loop
-to-index-requires c κs = search needs
-
 loop-holds : tie.Need-loop-holds Inv-loop μ-loop
 unfolding bytesFrom below Rattle.records.specs.paper.Sets.numbers paper.decisionsFrom
 loop-holds c = (omega arith, refl, refl, refl)
-
-mul-edges : tie.Need-mul-edges Inv-loop μ-loop
-mul-edges c = search needs
-
-add-edges : tie.Need-add-edges Inv-loop μ-loop
-add-edges c = search needs
-
-shared-slice-read-edges : tie.Need-shared-slice-read-edges Inv-loop μ-loop
-shared-slice-read-edges c = search needs
-
-array-write-edges : tie.Need-array-write-edges Inv-loop μ-loop
-array-write-edges c = search needs
-
-mul-verdicts : tie.Need-mul-verdicts Inv-loop μ-loop
-mul-verdicts c = search needs
-
-add-verdicts : tie.Need-add-verdicts Inv-loop μ-loop
-add-verdicts c = search needs
-
-add-verdicts-2 : tie.Need-add-verdicts-2 Inv-loop μ-loop
-add-verdicts-2 c = search needs
-
-shared-slice-read-verdicts : tie.Need-shared-slice-read-verdicts Inv-loop μ-loop
-shared-slice-read-verdicts c = search needs
-
-array-write-verdicts : tie.Need-array-write-verdicts Inv-loop μ-loop
-array-write-verdicts c = search needs
-
-add-i : tie.Need-add-i Inv-loop μ-loop
-add-i c = search needs
-
-loop-less : tie.Need-loop-less Inv-loop μ-loop
-loop-less c = search needs
 
 loop-again : tie.Need-loop-again Inv-loop μ-loop
 loop-again c =
@@ -75,21 +39,6 @@ returns c =
 pub decisions-from-spec : {M : Type 1} → statement M
 decisions-from-spec =
     tie.close
-    (tie.spec
-    Inv-loop
-    μ-loop
-    to-index-requires
-    loop-holds
-    mul-edges
-    add-edges
-    shared-slice-read-edges
-    array-write-edges
-    mul-verdicts
-    add-verdicts
-    add-verdicts-2
-    shared-slice-read-verdicts
-    array-write-verdicts
-    add-i
-    loop-less
-    loop-again
-    returns)
+    (tie.spec Inv-loop μ-loop (λ c κs. search needs) loop-holds (λ c. search needs) (λ c. search needs)
+    (λ c. search needs) (λ c. search needs) (λ c. search needs) (λ c. search needs) (λ c. search needs)
+    (λ c. search needs) (λ c. search needs) (λ c. search needs) (λ c. search needs) loop-again returns)

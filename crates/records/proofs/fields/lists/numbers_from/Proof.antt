@@ -1,4 +1,4 @@
--- Up to sixteen bytes, copied. Assumes nothing.
+-- Up to sixteen bytes, copied.
 use mathlib.Core.Path.{_≡_, refl, sym, _∙_, ap}
 use Prim.Native.Nat.{ℕ, _-_, _≤_}
 use native.Mathlib.Omega.{arith}
@@ -17,27 +17,9 @@ Inv-loop s first count n items₀ i₀ items i = (i ≤ n) × (length items ≡ 
 abbrev μ-loop : tie.MeasureT-loop
 μ-loop s first count n items₀ i₀ items i = n - i
 
-to-index-requires : tie.Need-to-index-requires Inv-loop μ-loop
-to-index-requires c κs = search needs
-
 loop-holds : tie.Need-loop-holds Inv-loop μ-loop
 unfolding bytesFrom
 loop-holds c = (omega arith, refl, refl)
-
-add-items : tie.Need-add-items Inv-loop μ-loop
-add-items c = search needs
-
-shared-slice-read-items : tie.Need-shared-slice-read-items Inv-loop μ-loop
-shared-slice-read-items c = search needs
-
-array-write-items : tie.Need-array-write-items Inv-loop μ-loop
-array-write-items c = search needs
-
-add-i : tie.Need-add-i Inv-loop μ-loop
-add-i c = search needs
-
-loop-less : tie.Need-loop-less Inv-loop μ-loop
-loop-less c = search needs
 
 loop-again : tie.Need-loop-again Inv-loop μ-loop
 loop-again c =
@@ -54,15 +36,5 @@ returns c =
 pub numbers-from-spec : {M : Type 1} → statement M
 numbers-from-spec =
     tie.close
-    (tie.spec
-    Inv-loop
-    μ-loop
-    to-index-requires
-    loop-holds
-    add-items
-    shared-slice-read-items
-    array-write-items
-    add-i
-    loop-less
-    loop-again
-    returns)
+    (tie.spec Inv-loop μ-loop (λ c κs. search needs) loop-holds (λ c. search needs) (λ c. search needs)
+    (λ c. search needs) (λ c. search needs) (λ c. search needs) loop-again returns)

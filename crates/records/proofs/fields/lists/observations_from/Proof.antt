@@ -1,4 +1,4 @@
--- The observations of a boolean, copied. Assumes nothing.
+-- The observations of a boolean, copied.
 use mathlib.Core.Path.{_≡_, refl, sym, _∙_, ap}
 use Prim.Native.Nat.{ℕ, _-_, _*_, _≤_}
 use native.Mathlib.Omega.{arith}
@@ -27,45 +27,9 @@ Inv-loop s first count n values₀ evidence₀ i₀ values evidence i =
 abbrev μ-loop : tie.MeasureT-loop
 μ-loop s first count n values₀ evidence₀ i₀ values evidence i = n - i
 
-to-index-requires : tie.Need-to-index-requires Inv-loop μ-loop
-to-index-requires c κs = search needs
-
 loop-holds : tie.Need-loop-holds Inv-loop μ-loop
 unfolding bytesFrom below Rattle.records.specs.paper.Sets.numbers paper.observationsFrom
 loop-holds c = (omega arith, refl, refl, refl)
-
-mul-values : tie.Need-mul-values Inv-loop μ-loop
-mul-values c = search needs
-
-add-values : tie.Need-add-values Inv-loop μ-loop
-add-values c = search needs
-
-shared-slice-read-values : tie.Need-shared-slice-read-values Inv-loop μ-loop
-shared-slice-read-values c = search needs
-
-array-write-values : tie.Need-array-write-values Inv-loop μ-loop
-array-write-values c = search needs
-
-mul-evidence : tie.Need-mul-evidence Inv-loop μ-loop
-mul-evidence c = search needs
-
-add-evidence : tie.Need-add-evidence Inv-loop μ-loop
-add-evidence c = search needs
-
-add-evidence-2 : tie.Need-add-evidence-2 Inv-loop μ-loop
-add-evidence-2 c = search needs
-
-shared-slice-read-evidence : tie.Need-shared-slice-read-evidence Inv-loop μ-loop
-shared-slice-read-evidence c = search needs
-
-array-write-evidence : tie.Need-array-write-evidence Inv-loop μ-loop
-array-write-evidence c = search needs
-
-add-i : tie.Need-add-i Inv-loop μ-loop
-add-i c = search needs
-
-loop-less : tie.Need-loop-less Inv-loop μ-loop
-loop-less c = search needs
 
 loop-again : tie.Need-loop-again Inv-loop μ-loop
 unfolding paper.observationsFrom
@@ -83,21 +47,6 @@ returns c =
 pub observations-from-spec : {M : Type 1} → statement M
 observations-from-spec =
     tie.close
-    (tie.spec
-    Inv-loop
-    μ-loop
-    to-index-requires
-    loop-holds
-    mul-values
-    add-values
-    shared-slice-read-values
-    array-write-values
-    mul-evidence
-    add-evidence
-    add-evidence-2
-    shared-slice-read-evidence
-    array-write-evidence
-    add-i
-    loop-less
-    loop-again
-    returns)
+    (tie.spec Inv-loop μ-loop (λ c κs. search needs) loop-holds (λ c. search needs) (λ c. search needs)
+    (λ c. search needs) (λ c. search needs) (λ c. search needs) (λ c. search needs) (λ c. search needs)
+    (λ c. search needs) (λ c. search needs) (λ c. search needs) (λ c. search needs) loop-again returns)

@@ -1,4 +1,4 @@
--- The answer of the whole check. Assumes nothing.
+-- The answer of the whole check.
 use mathlib.Core.Path.{_≡_, ap, _∙_}
 use borrow.Author.Needs.{needs}
 use borrow.Author.Tests.{eq-eqb, ne-eqb}
@@ -7,9 +7,6 @@ use Rattle.records.specs.code.PlanRead.{planReadOf}
 use Rattle.records.specs.declared.checked.Checked.the-variants.{Accepted, Refused}
 use Rattle.records.proofs.plan.checks.check.Statement.{statement}
 use Rattle.records.proofs.plan.checks.check.Tie as tie
-
-decode-plan-requires : tie.Need-decode-plan-requires
-decode-plan-requires c κs = search needs
 
 returns : tie.Need-returns
 unfolding planReadOf checkedOf
@@ -25,4 +22,4 @@ returns-2 c =
     e ∙ ap checkedOf (r .ensures)
 
 pub check-spec : {M : Type 1} → statement M
-check-spec = tie.close (tie.spec decode-plan-requires returns returns-2)
+check-spec = tie.close (tie.spec (λ c κs. search needs) returns returns-2)

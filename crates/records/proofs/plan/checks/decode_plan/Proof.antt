@@ -1,4 +1,4 @@
--- A plan out of its bytes, then refusals 4, 6 and 7. Assumes nothing.
+-- A plan out of its bytes, then refusals 4, 6 and 7.
 use mathlib.Core.Path.{_≡_, sym, ap, _∙_}
 use borrow.Author.Needs.{needs}
 use borrow.Author.Tests.{eq-eqb, ne-eqb}
@@ -10,24 +10,12 @@ use Rattle.records.proofs.CheckLaws.{refused-is, faults-accepted, fault
 use Rattle.records.proofs.plan.checks.decode_plan.Statement.{statement}
 use Rattle.records.proofs.plan.checks.decode_plan.Tie as tie
 
-read-plan-requires : tie.Need-read-plan-requires
-read-plan-requires c κs = search needs
-
 returns : tie.Need-returns
 unfolding checkedPlan planReadOf
 returns c =
     let r = c .before .before .read-plan in
     let e : planReadOf (r .result) ≡ onFine (planReadOf (r .result)) planFaults = rw (ne-eqb (r .result .number) 0 (c .if1 .taken)) in
     e ∙ ap (λ v. onFine v planFaults) (r .ensures)
-
-plan-faults-requires : tie.Need-plan-faults-requires
-plan-faults-requires c κs = search needs
-
-enum-known-found : tie.Need-enum-known-found
-enum-known-found c = search needs
-
-enum-told : tie.Need-enum-told
-enum-told c = search needs
 
 returns-2 : tie.Need-returns-2
 unfolding checkedPlan planReadOf
@@ -47,11 +35,5 @@ returns-3 c =
 pub decode-plan-spec : {M : Type 1} → statement M
 decode-plan-spec =
     tie.close
-    (tie.spec
-    read-plan-requires
-    returns
-    plan-faults-requires
-    enum-known-found
-    enum-told
-    returns-2
+    (tie.spec (λ c κs. search needs) returns (λ c κs. search needs) (λ c. search needs) (λ c. search needs) returns-2
     returns-3)

@@ -1,4 +1,4 @@
--- Refusals 4, 6 and 7 in their order. Assumes nothing.
+-- Refusals 4, 6 and 7 in their order.
 use mathlib.Core.Path.{_≡_, ap, _∙_}
 use Rattle.records.specs.paper.Fields.{fine, firstFault, Verdict}
 use Rattle.records.specs.paper.Plan as paper
@@ -25,35 +25,14 @@ after-naming : (P : paper.Plan) (r : Checked) → r ≡ checkedOf (firstFault (p
 unfolding paper.planFaults
 after-naming P r e = ap (λ x. orElse x (checkedOf (then-crossed P))) e ∙ fault-then (paper.nodesAt P) (paper.namingFaults P) P (then-crossed P)
 
-naming-requires : tie.Need-naming-requires
-naming-requires c κs = search needs
-
-enum-told : tie.Need-enum-told
-enum-told c = search needs
-
-enum-told-2 : tie.Need-enum-told-2
-enum-told-2 c = search needs
-
 returns : tie.Need-returns
 returns c = let P = planOf (c .before .before .before .args .plan) in let r = c .before .before .naming in
     refused-stands (r .result) (checkedOf (then-crossed P)) (c .enum-told2 .given .1) ∙ after-naming P (r .result) (r .ensures)
-
-crossings-requires : tie.Need-crossings-requires
-crossings-requires c κs = search needs
-
-enum-told-3 : tie.Need-enum-told-3
-enum-told-3 c = search needs
-
-enum-told-4 : tie.Need-enum-told-4
-enum-told-4 c = search needs
 
 returns-2 : tie.Need-returns-2
 returns-2 c = let P = planOf (c .before .before .before .before .before .before .args .plan) in let r = c .before .before .before .before .before .naming in let s = c .before .before .crossings in
     refused-stands (s .result) (checkedOf (then-elected P)) (c .enum-told4 .given .1) ∙ after-crossed P (s .result) (s .ensures)
     ∙ accepted-passes (r .result) (checkedOf (then-crossed P)) (c .before .before .before .enum-told .given .1) ∙ after-naming P (r .result) (r .ensures)
-
-elections-requires : tie.Need-elections-requires
-elections-requires c κs = search needs
 
 returns-3 : tie.Need-returns-3
 returns-3 c = let P = planOf (c .before .before .before .before .before .before .before .args .plan) in let r = c .before .before .before .before .before .before .naming in let s = c .before .before .before .crossings in
@@ -63,14 +42,5 @@ returns-3 c = let P = planOf (c .before .before .before .before .before .before 
 pub plan-faults-spec : {M : Type 1} → statement M
 plan-faults-spec =
     tie.close
-    (tie.spec
-    naming-requires
-    enum-told
-    enum-told-2
-    returns
-    crossings-requires
-    enum-told-3
-    enum-told-4
-    returns-2
-    elections-requires
-    returns-3)
+    (tie.spec (λ c κs. search needs) (λ c. search needs) (λ c. search needs) returns (λ c κs. search needs)
+    (λ c. search needs) (λ c. search needs) returns-2 (λ c κs. search needs) returns-3)

@@ -1,4 +1,4 @@
--- The counts of records, each the lesser of its field and its limit. Assumes nothing.
+-- The counts of records, each the lesser of its field and its limit.
 use native.Mathlib.Nat.{min-le-right}
 use lib.ListN.{length-map, length-take}
 use mathlib.Core.Path.{_≡_, sym, _∙_}
@@ -11,30 +11,6 @@ use Rattle.records.proofs.plan.counts.count_records.Tie as tie
 
 at-most : {r : ℕ} (n m : ℕ) → r ≡ min n m → r ≤ m
 at-most n m e = rw e (min-le-right n m)
-
-least-requires : tie.Need-least-requires
-least-requires c κs = search needs
-
-least-requires-2 : tie.Need-least-requires-2
-least-requires-2 c κs = search needs
-
-least-requires-3 : tie.Need-least-requires-3
-least-requires-3 c κs = search needs
-
-least-requires-4 : tie.Need-least-requires-4
-least-requires-4 c κs = search needs
-
-least-requires-5 : tie.Need-least-requires-5
-least-requires-5 c κs = search needs
-
-least-requires-6 : tie.Need-least-requires-6
-least-requires-6 c κs = search needs
-
-least-requires-7 : tie.Need-least-requires-7
-least-requires-7 c κs = search needs
-
-least-requires-8 : tie.Need-least-requires-8
-least-requires-8 c κs = search needs
 
 returns : tie.Need-returns
 unfolding planOf
@@ -67,13 +43,5 @@ returns c =
 pub count-records-spec : {M : Type 1} → statement M
 count-records-spec =
     tie.close
-    (tie.spec
-    least-requires
-    least-requires-2
-    least-requires-3
-    least-requires-4
-    least-requires-5
-    least-requires-6
-    least-requires-7
-    least-requires-8
-    returns)
+    (tie.spec (λ c κs. search needs) (λ c κs. search needs) (λ c κs. search needs) (λ c κs. search needs)
+    (λ c κs. search needs) (λ c κs. search needs) (λ c κs. search needs) (λ c κs. search needs) returns)

@@ -1,4 +1,4 @@
--- A plan out of its bytes is what the passes over its kinds say. Assumes nothing.
+-- A plan out of its bytes is what the passes over its kinds say.
 use mathlib.Core.List.{List}
 use Prim.Native.Nat.{ℕ}
 use native.Mathlib.Omega.{arith}
@@ -108,95 +108,41 @@ reached8 c =
 
 -- ---- the needs
 
-read-heading-requires : tie.Need-read-heading-requires
-read-heading-requires c κs = search needs
-
-refused-requires : tie.Need-refused-requires
-refused-requires c κs = search needs
-
 returns : tie.Need-returns
 unfolding planReadOf
 returns c = answer-stops (planOf (c .refused .result .plan)) (reached1 (c .before .before .before)) (c .refused .ensures .0) (c .refused .ensures .1) (c .before .if1 .taken)
-
-read-facts-requires : tie.Need-read-facts-requires
-read-facts-requires c κs = search needs
-
-refused-requires-2 : tie.Need-refused-requires-2
-refused-requires-2 c κs = search needs
 
 returns-2 : tie.Need-returns-2
 unfolding planReadOf
 returns-2 c = answer-stops (planOf (c .refused2 .result .plan)) (reached2 (c .before .before .before)) (c .refused2 .ensures .0) (c .refused2 .ensures .1) (c .before .if2 .taken)
 
-read-nodes-requires : tie.Need-read-nodes-requires
-read-nodes-requires c κs = search needs
-
-refused-requires-3 : tie.Need-refused-requires-3
-refused-requires-3 c κs = search needs
-
 returns-3 : tie.Need-returns-3
 unfolding planReadOf
 returns-3 c = answer-stops (planOf (c .refused3 .result .plan)) (reached3 (c .before .before .before)) (c .refused3 .ensures .0) (c .refused3 .ensures .1) (c .before .if3 .taken)
-
-read-edges-requires : tie.Need-read-edges-requires
-read-edges-requires c κs = search needs
-
-refused-requires-4 : tie.Need-refused-requires-4
-refused-requires-4 c κs = search needs
 
 returns-4 : tie.Need-returns-4
 unfolding planReadOf
 returns-4 c = answer-stops (planOf (c .refused4 .result .plan)) (reached4 (c .before .before .before)) (c .refused4 .ensures .0) (c .refused4 .ensures .1) (c .before .if4 .taken)
 
-read-cuts-requires : tie.Need-read-cuts-requires
-read-cuts-requires c κs = search needs
-
-refused-requires-5 : tie.Need-refused-requires-5
-refused-requires-5 c κs = search needs
-
 returns-5 : tie.Need-returns-5
 unfolding planReadOf
 returns-5 c = answer-stops (planOf (c .refused5 .result .plan)) (reached5 (c .before .before .before)) (c .refused5 .ensures .0) (c .refused5 .ensures .1) (c .before .if5 .taken)
-
-read-attachments-requires : tie.Need-read-attachments-requires
-read-attachments-requires c κs = search needs
-
-refused-requires-6 : tie.Need-refused-requires-6
-refused-requires-6 c κs = search needs
 
 returns-6 : tie.Need-returns-6
 unfolding planReadOf
 returns-6 c = answer-stops (planOf (c .refused6 .result .plan)) (reached6 (c .before .before .before)) (c .refused6 .ensures .0) (c .refused6 .ensures .1) (c .before .if6 .taken)
 
-read-bars-requires : tie.Need-read-bars-requires
-read-bars-requires c κs = search needs
-
-refused-requires-7 : tie.Need-refused-requires-7
-refused-requires-7 c κs = search needs
-
 returns-7 : tie.Need-returns-7
 unfolding planReadOf
 returns-7 c = answer-stops (planOf (c .refused7 .result .plan)) (reached7 (c .before .before .before)) (c .refused7 .ensures .0) (c .refused7 .ensures .1) (c .before .if7 .taken)
-
-read-statuses-requires : tie.Need-read-statuses-requires
-read-statuses-requires c κs = search needs
-
-refused-requires-8 : tie.Need-refused-requires-8
-refused-requires-8 c κs = search needs
 
 returns-8 : tie.Need-returns-8
 unfolding planReadOf
 returns-8 c = answer-stops (planOf (c .refused8 .result .plan)) (reached8 (c .before .before .before)) (c .refused8 .ensures .0) (c .refused8 .ensures .1) (c .before .if8 .taken)
 
-refused-requires-9 : tie.Need-refused-requires-9
-refused-requires-9 c κs = search needs
-
 returns-9 : tie.Need-returns-9
 unfolding planReadOf
 returns-9 c = answer-more (planOf (c .refused9 .result .plan)) (reached8 (c .before .before .before .before .before)) (c .refused9 .ensures .0) (c .refused9 .ensures .1) (c .before .before .before .if8 .left) (omega (arith, plan-kinds)) (c .before .if9 .taken)
-
-refused-requires-10 : tie.Need-refused-requires-10
-refused-requires-10 c κs = search needs
 
 returns-10 : tie.Need-returns-10
 unfolding planReadOf
@@ -209,33 +155,8 @@ returns-11 c = answer-fine (reached8 (c .before .before .before .before .before 
 pub read-plan-spec : {M : Type 1} → statement M
 read-plan-spec =
     tie.close
-    (tie.spec
-    read-heading-requires
-    refused-requires
-    returns
-    read-facts-requires
-    refused-requires-2
-    returns-2
-    read-nodes-requires
-    refused-requires-3
-    returns-3
-    read-edges-requires
-    refused-requires-4
-    returns-4
-    read-cuts-requires
-    refused-requires-5
-    returns-5
-    read-attachments-requires
-    refused-requires-6
-    returns-6
-    read-bars-requires
-    refused-requires-7
-    returns-7
-    read-statuses-requires
-    refused-requires-8
-    returns-8
-    refused-requires-9
-    returns-9
-    refused-requires-10
-    returns-10
-    returns-11)
+    (tie.spec (λ c κs. search needs) (λ c κs. search needs) returns (λ c κs. search needs) (λ c κs. search needs)
+    returns-2 (λ c κs. search needs) (λ c κs. search needs) returns-3 (λ c κs. search needs) (λ c κs. search needs)
+    returns-4 (λ c κs. search needs) (λ c κs. search needs) returns-5 (λ c κs. search needs) (λ c κs. search needs)
+    returns-6 (λ c κs. search needs) (λ c κs. search needs) returns-7 (λ c κs. search needs) (λ c κs. search needs)
+    returns-8 (λ c κs. search needs) returns-9 (λ c κs. search needs) returns-10 returns-11)

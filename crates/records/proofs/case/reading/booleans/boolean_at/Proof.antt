@@ -1,4 +1,4 @@
--- A boolean from its bit map on. Assumes nothing.
+-- A boolean from its bit map on.
 use mathlib.Core.Path.{refl, sym, ap}
 use Prim.Native.Nat.{_/_, _%_}
 use lib.Dec.{eqb}
@@ -13,26 +13,8 @@ use borrow.Author.Needs.{needs}
 use Rattle.records.proofs.case.reading.booleans.boolean_at.Statement.{statement}
 use Rattle.records.proofs.case.reading.booleans.boolean_at.Tie as tie
 
-byte-at-requires : tie.Need-byte-at-requires
-byte-at-requires c κs = search needs
-
-enum-known-bits : tie.Need-enum-known-bits
-enum-known-bits c = search needs
-
-enum-told : tie.Need-enum-told
-enum-told c = search needs
-
 returns : tie.Need-returns
 returns c = (sym (ap (mapRead (withBits booleanFrom)) (raw-bits caseFormats 3 (now (c .before .before .before .before .args .s)) (c .before .before .before .before .args .at) (seen fieldRead (c .before .before .byte-at .ensures) (c .enum-told .given .1)))), tt)
-
-opt-at-requires : tie.Need-opt-at-requires
-opt-at-requires c κs = search needs
-
-enum-known-fact : tie.Need-enum-known-fact
-enum-known-fact c = search needs
-
-enum-told-2 : tie.Need-enum-told-2
-enum-told-2 c = search needs
 
 returns-2 : tie.Need-returns-2
 unfolding caseFormats
@@ -42,15 +24,6 @@ returns-2 c = (
   tt,
 )
 
-opt-at-requires-2 : tie.Need-opt-at-requires-2
-opt-at-requires-2 c κs = search needs
-
-enum-known-evidence : tie.Need-enum-known-evidence
-enum-known-evidence c = search needs
-
-enum-told-3 : tie.Need-enum-told-3
-enum-told-3 c = search needs
-
 returns-3 : tie.Need-returns-3
 unfolding caseFormats
 returns-3 c = (
@@ -59,15 +32,6 @@ returns-3 c = (
       (stop _ _ _ _ (half-of _ 2) _ _ (none first _ (seen fieldRead (c .before .before .opt-at2 .ensures) (c .enum-told3 .given .1))))))),
   tt,
 )
-
-pairs-at-requires : tie.Need-pairs-at-requires
-pairs-at-requires c κs = search needs
-
-enum-known-first : tie.Need-enum-known-first
-enum-known-first c = search needs
-
-enum-told-4 : tie.Need-enum-told-4
-enum-told-4 c = search needs
 
 returns-4 : tie.Need-returns-4
 unfolding caseFormats
@@ -108,22 +72,6 @@ returns-6 c = (
 pub boolean-at-spec : {M : Type 1} → statement M
 boolean-at-spec =
     tie.close
-    (tie.spec
-    byte-at-requires
-    enum-known-bits
-    enum-told
-    returns
-    opt-at-requires
-    enum-known-fact
-    enum-told-2
-    returns-2
-    opt-at-requires-2
-    enum-known-evidence
-    enum-told-3
-    returns-3
-    pairs-at-requires
-    enum-known-first
-    enum-told-4
-    returns-4
-    returns-5
-    returns-6)
+    (tie.spec (λ c κs. search needs) (λ c. search needs) (λ c. search needs) returns (λ c κs. search needs)
+    (λ c. search needs) (λ c. search needs) returns-2 (λ c κs. search needs) (λ c. search needs) (λ c. search needs)
+    returns-3 (λ c κs. search needs) (λ c. search needs) (λ c. search needs) returns-4 returns-5 returns-6)

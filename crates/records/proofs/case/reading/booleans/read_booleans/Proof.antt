@@ -1,4 +1,4 @@
--- The pass over the booleans. Assumes nothing.
+-- The pass over the booleans.
 use mathlib.Core.Path.{_≡_, refl, _∙_}
 use mathlib.Core.Bool.{true, false}
 use Prim.Native.Nat.{_-_, _≤_}
@@ -24,37 +24,16 @@ Inv-loop s start before headed booleans₀ at₀ k₀ booleans at k =
 abbrev μ-loop : tie.MeasureT-loop
 μ-loop s start before headed booleans₀ at₀ k₀ booleans at k = length s - at
 
-no-booleans-requires : tie.Need-no-booleans-requires Inv-loop μ-loop
-no-booleans-requires c κs = search needs
-
 loop-holds : tie.Need-loop-holds Inv-loop μ-loop
 loop-holds c =
     let a = c .before .before .args in
     let e = c .no-booleans .ensures in
     (c .before .before .pre, omega (arith, e .1), e .2, going booleanKind (now (a .s)) (a .headed) (a .start) (a .before) (booleansOf (c .no-booleans .result)) (e .0))
 
-shared-slice-read-if1 : tie.Need-shared-slice-read-if1 Inv-loop μ-loop
-shared-slice-read-if1 c = search needs
-
-add-boolean-at : tie.Need-add-boolean-at Inv-loop μ-loop
-add-boolean-at c = search needs
-
-boolean-at-requires : tie.Need-boolean-at-requires Inv-loop μ-loop
-boolean-at-requires c κs = search needs
-
-enum-known-bits : tie.Need-enum-known-bits Inv-loop μ-loop
-enum-known-bits c = search needs
-
-enum-told : tie.Need-enum-told Inv-loop μ-loop
-enum-told c = search needs
-
 returns : tie.Need-returns Inv-loop μ-loop
 returns c =
     let i = c .before .before .before .before .before .before .loop .inv in
     (refused-bad booleanKind _ _ _ _ (i .3) (i .0) (c .before .before .before .before .before .loop-test .taken) (c .before .before .before .if1 .left) (seen (booleanRead (now (c .before .before .before .before .before .before .before .before .before .args .s))) (c .before .before .boolean-at .ensures .0) (c .enum-told .given .1)), i .0)
-
-judged-requires : tie.Need-judged-requires Inv-loop μ-loop
-judged-requires c κs = search needs
 
 returns-2 : tie.Need-returns-2 Inv-loop μ-loop
 returns-2 c =
@@ -66,17 +45,11 @@ returns-2 c =
 observations-from-requires : tie.Need-observations-from-requires Inv-loop μ-loop
 observations-from-requires c κs = let f = rw (c .before .before .before .bits .given .1) at (c .before .before .before .before .before .boolean-at .ensures .1) in (f .0, f .1)
 
-mul-t18 : tie.Need-mul-t18 Inv-loop μ-loop
-mul-t18 c = search needs
-
 element-set-from-booleans : tie.Need-element-set-from-booleans Inv-loop μ-loop
 element-set-from-booleans c = let h = c .before .before .judged .ensures .1 (c .before .if2 .left) in search (needs, h)
 
 add-booleans : tie.Need-add-booleans Inv-loop μ-loop
 add-booleans c = let h = c .before .before .judged .ensures .1 (c .before .if2 .left) in search (needs, h)
-
-add-k : tie.Need-add-k Inv-loop μ-loop
-add-k c = search needs
 
 loop-less : tie.Need-loop-less Inv-loop μ-loop
 loop-less c =
@@ -114,25 +87,7 @@ returns-4 c =
 pub read-booleans-spec : {M : Type 1} → statement M
 read-booleans-spec =
     tie.close
-    (tie.spec
-    Inv-loop
-    μ-loop
-    no-booleans-requires
-    loop-holds
-    shared-slice-read-if1
-    add-boolean-at
-    boolean-at-requires
-    enum-known-bits
-    enum-told
-    returns
-    judged-requires
-    returns-2
-    observations-from-requires
-    mul-t18
-    element-set-from-booleans
-    add-booleans
-    add-k
-    loop-less
-    loop-again
-    returns-3
-    returns-4)
+    (tie.spec Inv-loop μ-loop (λ c κs. search needs) loop-holds (λ c. search needs) (λ c. search needs)
+    (λ c κs. search needs) (λ c. search needs) (λ c. search needs) returns (λ c κs. search needs) returns-2
+    observations-from-requires (λ c. search needs) element-set-from-booleans add-booleans (λ c. search needs)
+    loop-less loop-again returns-3 returns-4)

@@ -1,4 +1,4 @@
--- A constraint from its bit map on. Assumes nothing.
+-- A constraint from its bit map on.
 use mathlib.Core.Path.{refl, sym, ap}
 use denote.Ref.{now}
 use Rattle.records.specs.paper.Case.{caseFormats}
@@ -11,26 +11,8 @@ use borrow.Author.Needs.{needs}
 use Rattle.records.proofs.case.reading.constraints.constraint_at.Statement.{statement}
 use Rattle.records.proofs.case.reading.constraints.constraint_at.Tie as tie
 
-byte-at-requires : tie.Need-byte-at-requires
-byte-at-requires c κs = search needs
-
-enum-known-bits : tie.Need-enum-known-bits
-enum-known-bits c = search needs
-
-enum-told : tie.Need-enum-told
-enum-told c = search needs
-
 returns : tie.Need-returns
 returns c = sym (ap (mapRead (withBits constraintFrom)) (raw-bits caseFormats 5 (now (c .before .before .before .before .args .s)) (c .before .before .before .before .args .at) (seen fieldRead (c .before .before .byte-at .ensures) (c .enum-told .given .1))))
-
-opt-at-requires : tie.Need-opt-at-requires
-opt-at-requires c κs = search needs
-
-enum-known-node : tie.Need-enum-known-node
-enum-known-node c = search needs
-
-enum-told-2 : tie.Need-enum-told-2
-enum-told-2 c = search needs
 
 returns-2 : tie.Need-returns-2
 unfolding caseFormats
@@ -55,14 +37,5 @@ returns-4 c = sym (ap (mapRead (withBits constraintFrom)) (raw-bad caseFormats 5
 pub constraint-at-spec : {M : Type 1} → statement M
 constraint-at-spec =
     tie.close
-    (tie.spec
-    byte-at-requires
-    enum-known-bits
-    enum-told
-    returns
-    opt-at-requires
-    enum-known-node
-    enum-told-2
-    returns-2
-    returns-3
-    returns-4)
+    (tie.spec (λ c κs. search needs) (λ c. search needs) (λ c. search needs) returns (λ c κs. search needs)
+    (λ c. search needs) (λ c. search needs) returns-2 returns-3 returns-4)

@@ -1,4 +1,4 @@
--- The pass over the constraints. Assumes nothing.
+-- The pass over the constraints.
 use mathlib.Core.Path.{_≡_, refl}
 use mathlib.Core.Bool.{true, false}
 use Prim.Native.Nat.{_-_, _≤_}
@@ -24,37 +24,16 @@ Inv-loop s start before headed constraints₀ at₀ k₀ constraints at k =
 abbrev μ-loop : tie.MeasureT-loop
 μ-loop s start before headed constraints₀ at₀ k₀ constraints at k = length s - at
 
-no-constraints-requires : tie.Need-no-constraints-requires Inv-loop μ-loop
-no-constraints-requires c κs = search needs
-
 loop-holds : tie.Need-loop-holds Inv-loop μ-loop
 loop-holds c =
     let a = c .before .before .args in
     let e = c .no-constraints .ensures in
     (c .before .before .pre, omega (arith, e .1), e .2, going constraintKind (now (a .s)) (a .headed) (a .start) (a .before) (constraintsOf (c .no-constraints .result)) (e .0))
 
-shared-slice-read-if1 : tie.Need-shared-slice-read-if1 Inv-loop μ-loop
-shared-slice-read-if1 c = search needs
-
-add-constraint-at : tie.Need-add-constraint-at Inv-loop μ-loop
-add-constraint-at c = search needs
-
-constraint-at-requires : tie.Need-constraint-at-requires Inv-loop μ-loop
-constraint-at-requires c κs = search needs
-
-enum-known-bits : tie.Need-enum-known-bits Inv-loop μ-loop
-enum-known-bits c = search needs
-
-enum-told : tie.Need-enum-told Inv-loop μ-loop
-enum-told c = search needs
-
 returns : tie.Need-returns Inv-loop μ-loop
 returns c =
     let i = c .before .before .before .before .before .before .loop .inv in
     (refused-bad constraintKind _ _ _ _ (i .3) (i .0) (c .before .before .before .before .before .loop-test .taken) (c .before .before .before .if1 .left) (seen constraintRead (c .before .before .constraint-at .ensures) (c .enum-told .given .1)), i .0)
-
-judged-requires : tie.Need-judged-requires Inv-loop μ-loop
-judged-requires c κs = search needs
 
 returns-2 : tie.Need-returns-2 Inv-loop μ-loop
 returns-2 c =
@@ -68,9 +47,6 @@ element-write-constraints c = let h = c .before .judged .ensures .1 (c .if2 .lef
 
 add-constraints : tie.Need-add-constraints Inv-loop μ-loop
 add-constraints c = let h = c .before .judged .ensures .1 (c .if2 .left) in search (needs, h)
-
-add-k : tie.Need-add-k Inv-loop μ-loop
-add-k c = search needs
 
 loop-less : tie.Need-loop-less Inv-loop μ-loop
 loop-less c =
@@ -106,23 +82,6 @@ returns-4 c =
 pub read-constraints-spec : {M : Type 1} → statement M
 read-constraints-spec =
     tie.close
-    (tie.spec
-    Inv-loop
-    μ-loop
-    no-constraints-requires
-    loop-holds
-    shared-slice-read-if1
-    add-constraint-at
-    constraint-at-requires
-    enum-known-bits
-    enum-told
-    returns
-    judged-requires
-    returns-2
-    element-write-constraints
-    add-constraints
-    add-k
-    loop-less
-    loop-again
-    returns-3
-    returns-4)
+    (tie.spec Inv-loop μ-loop (λ c κs. search needs) loop-holds (λ c. search needs) (λ c. search needs)
+    (λ c κs. search needs) (λ c. search needs) (λ c. search needs) returns (λ c κs. search needs) returns-2
+    element-write-constraints add-constraints (λ c. search needs) loop-less loop-again returns-3 returns-4)

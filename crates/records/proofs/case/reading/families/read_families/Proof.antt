@@ -1,4 +1,4 @@
--- The pass over the families. Assumes nothing.
+-- The pass over the families.
 use mathlib.Core.Path.{_≡_, refl}
 use mathlib.Core.Bool.{true, false}
 use Prim.Native.Nat.{_-_, _≤_}
@@ -24,37 +24,16 @@ Inv-loop s start before headed families₀ at₀ k₀ families at k =
 abbrev μ-loop : tie.MeasureT-loop
 μ-loop s start before headed families₀ at₀ k₀ families at k = length s - at
 
-no-families-requires : tie.Need-no-families-requires Inv-loop μ-loop
-no-families-requires c κs = search needs
-
 loop-holds : tie.Need-loop-holds Inv-loop μ-loop
 loop-holds c =
     let a = c .before .before .args in
     let e = c .no-families .ensures in
     (c .before .before .pre, omega (arith, e .1), e .2, going familyKind (now (a .s)) (a .headed) (a .start) (a .before) (familiesOf (c .no-families .result)) (e .0))
 
-shared-slice-read-if1 : tie.Need-shared-slice-read-if1 Inv-loop μ-loop
-shared-slice-read-if1 c = search needs
-
-add-family-at : tie.Need-add-family-at Inv-loop μ-loop
-add-family-at c = search needs
-
-family-at-requires : tie.Need-family-at-requires Inv-loop μ-loop
-family-at-requires c κs = search needs
-
-enum-known-bits : tie.Need-enum-known-bits Inv-loop μ-loop
-enum-known-bits c = search needs
-
-enum-told : tie.Need-enum-told Inv-loop μ-loop
-enum-told c = search needs
-
 returns : tie.Need-returns Inv-loop μ-loop
 returns c =
     let i = c .before .before .before .before .before .before .loop .inv in
     (refused-bad familyKind _ _ _ _ (i .3) (i .0) (c .before .before .before .before .before .loop-test .taken) (c .before .before .before .if1 .left) (seen familyRead (c .before .before .family-at .ensures) (c .enum-told .given .1)), i .0)
-
-judged-requires : tie.Need-judged-requires Inv-loop μ-loop
-judged-requires c κs = search needs
 
 returns-2 : tie.Need-returns-2 Inv-loop μ-loop
 returns-2 c =
@@ -63,17 +42,11 @@ returns-2 c =
     let j = judge-same 16 (l .count) (length (familiesOf l)) false false _ (fields.needs 1 (c .before .before .before .bits .given .0 .0)) (c .before .before .before .before .before .before .before .before .before .before .before .before .args .headed) true true (c .before .judged .ensures .0) (length-made familyOf (l .items) (l .count) (omega (arith, i .1, i .2))) refl (needs-test (c .before .before .before .bits .given .0 .0) 1) refl in
     (refused-judged familyKind _ _ _ _ (i .3) (i .0) (c .before .before .before .before .before .before .before .before .loop-test .taken) (c .before .before .before .before .before .before .if1 .left) tt (seen familyRead (c .before .before .before .before .before .family-at .ensures) (c .before .before .before .bits .given .1)) _ j (c .if2 .taken), i .0)
 
-mul-family : tie.Need-mul-family Inv-loop μ-loop
-mul-family c = search needs
-
 element-set-from-family : tie.Need-element-set-from-family Inv-loop μ-loop
 element-set-from-family c = let h = c .before .judged .ensures .1 (c .if2 .left) in search (needs, h)
 
 add-families : tie.Need-add-families Inv-loop μ-loop
 add-families c = let h = c .before .judged .ensures .1 (c .if2 .left) in search (needs, h)
-
-add-k : tie.Need-add-k Inv-loop μ-loop
-add-k c = search needs
 
 loop-less : tie.Need-loop-less Inv-loop μ-loop
 loop-less c =
@@ -109,24 +82,7 @@ returns-4 c =
 pub read-families-spec : {M : Type 1} → statement M
 read-families-spec =
     tie.close
-    (tie.spec
-    Inv-loop
-    μ-loop
-    no-families-requires
-    loop-holds
-    shared-slice-read-if1
-    add-family-at
-    family-at-requires
-    enum-known-bits
-    enum-told
-    returns
-    judged-requires
-    returns-2
-    mul-family
-    element-set-from-family
-    add-families
-    add-k
-    loop-less
-    loop-again
-    returns-3
+    (tie.spec Inv-loop μ-loop (λ c κs. search needs) loop-holds (λ c. search needs) (λ c. search needs)
+    (λ c κs. search needs) (λ c. search needs) (λ c. search needs) returns (λ c κs. search needs) returns-2
+    (λ c. search needs) element-set-from-family add-families (λ c. search needs) loop-less loop-again returns-3
     returns-4)

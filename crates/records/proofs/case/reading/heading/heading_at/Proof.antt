@@ -1,4 +1,4 @@
--- The heading from its bit map on. Assumes nothing.
+-- The heading from its bit map on.
 use mathlib.Core.Path.{refl, sym, ap}
 use Prim.Native.Nat.{_/_, _%_}
 use lib.Dec.{eqb}
@@ -15,40 +15,13 @@ use borrow.Author.Needs.{needs}
 use Rattle.records.proofs.case.reading.heading.heading_at.Statement.{statement}
 use Rattle.records.proofs.case.reading.heading.heading_at.Tie as tie
 
-byte-at-requires : tie.Need-byte-at-requires
-byte-at-requires c κs = search needs
-
-enum-known-bits : tie.Need-enum-known-bits
-enum-known-bits c = search needs
-
-enum-told : tie.Need-enum-told
-enum-told c = search needs
-
 returns : tie.Need-returns
 returns c = sym (ap (mapRead (withBits caseHeadingFrom)) (raw-bits caseFormats 1 (now (c .before .before .before .before .args .s)) (c .before .before .before .before .args .at) (seen fieldRead (c .before .before .byte-at .ensures) (c .enum-told .given .1))))
-
-opt-at-requires : tie.Need-opt-at-requires
-opt-at-requires c κs = search needs
-
-enum-known-relation : tie.Need-enum-known-relation
-enum-known-relation c = search needs
-
-enum-told-2 : tie.Need-enum-told-2
-enum-told-2 c = search needs
 
 returns-2 : tie.Need-returns-2
 unfolding caseFormats
 returns-2 c = sym (ap (mapRead (withBits caseHeadingFrom)) (raw-bad caseFormats 1 (now (c .before .before .before .before .before .before .before .before .args .s)) (c .before .before .before .before .before .before .before .before .args .at) (seen fieldRead (c .before .before .before .before .before .before .byte-at .ensures) (c .before .before .before .before .bits .given .1))
     (stop _ _ _ _ refl _ _ (none first _ (seen fieldRead (c .before .before .opt-at .ensures) (c .enum-told2 .given .1))))))
-
-opt-at-requires-2 : tie.Need-opt-at-requires-2
-opt-at-requires-2 c κs = search needs
-
-enum-known-scope : tie.Need-enum-known-scope
-enum-known-scope c = search needs
-
-enum-told-3 : tie.Need-enum-told-3
-enum-told-3 c = search needs
 
 returns-3 : tie.Need-returns-3
 unfolding caseFormats
@@ -56,30 +29,12 @@ returns-3 c = sym (ap (mapRead (withBits caseHeadingFrom)) (raw-bad caseFormats 
     (skip _ _ _ _ refl _ _ (found first _ (seen fieldRead (c .before .before .before .before .before .before .opt-at .ensures) (c .before .before .before .before .relation .given .1)) .is)
     (stop _ _ _ _ (half-of _ 2) _ _ (none first _ (seen fieldRead (c .before .before .opt-at2 .ensures) (c .enum-told3 .given .1)))))))
 
-opt-at-requires-3 : tie.Need-opt-at-requires-3
-opt-at-requires-3 c κs = search needs
-
-enum-known-segment : tie.Need-enum-known-segment
-enum-known-segment c = search needs
-
-enum-told-4 : tie.Need-enum-told-4
-enum-told-4 c = search needs
-
 returns-4 : tie.Need-returns-4
 unfolding caseFormats
 returns-4 c = sym (ap (mapRead (withBits caseHeadingFrom)) (raw-bad caseFormats 1 (now (c .before .before .before .before .before .before .before .before .before .before .before .before .before .before .before .before .args .s)) (c .before .before .before .before .before .before .before .before .before .before .before .before .before .before .before .before .args .at) (seen fieldRead (c .before .before .before .before .before .before .before .before .before .before .before .before .before .before .byte-at .ensures) (c .before .before .before .before .before .before .before .before .before .before .before .before .bits .given .1))
     (skip _ _ _ _ refl _ _ (found first _ (seen fieldRead (c .before .before .before .before .before .before .before .before .before .before .opt-at .ensures) (c .before .before .before .before .before .before .before .before .relation .given .1)) .is)
     (skip _ _ _ _ (half-of _ 2) _ _ (found first _ (seen fieldRead (c .before .before .before .before .before .before .opt-at2 .ensures) (c .before .before .before .before .scope .given .1)) .is)
     (stop _ _ _ _ (half-of _ 4) _ _ (none first _ (seen fieldRead (c .before .before .opt-at3 .ensures) (c .enum-told4 .given .1))))))))
-
-mask-at-requires : tie.Need-mask-at-requires
-mask-at-requires c κs = search needs
-
-enum-known-roster : tie.Need-enum-known-roster
-enum-known-roster c = search needs
-
-enum-told-5 : tie.Need-enum-told-5
-enum-told-5 c = search needs
 
 returns-5 : tie.Need-returns-5
 unfolding caseFormats
@@ -90,15 +45,6 @@ returns-5 c = sym (ap (mapRead (withBits caseHeadingFrom)) (raw-bad caseFormats 
     (skip _ _ _ _ (half-of _ 8) _ _ (no-field (now (c .before .before .before .before .before .before .before .before .before .before .before .before .before .before .before .before .before .before .before .before .args .s)) (c .before .before .before .before .segment .given .0 .1 .0) (eqb (c .before .before .before .before .before .before .before .before .before .before .before .before .before .before .before .before .bits .given .0 .0 / 8 % 2) 1))
     (stop _ _ _ _ (half-of _ 16) _ _ (none little _ (seen wideRead (c .before .before .mask-at .ensures) (c .enum-told5 .given .1))))))))))
 
-opt-at-requires-4 : tie.Need-opt-at-requires-4
-opt-at-requires-4 c κs = search needs
-
-enum-known-evidence : tie.Need-enum-known-evidence
-enum-known-evidence c = search needs
-
-enum-told-6 : tie.Need-enum-told-6
-enum-told-6 c = search needs
-
 returns-6 : tie.Need-returns-6
 unfolding caseFormats
 returns-6 c = sym (ap (mapRead (withBits caseHeadingFrom)) (raw-bad caseFormats 1 (now (c .before .before .before .before .before .before .before .before .before .before .before .before .before .before .before .before .before .before .before .before .before .before .before .before .args .s)) (c .before .before .before .before .before .before .before .before .before .before .before .before .before .before .before .before .before .before .before .before .before .before .before .before .args .at) (seen fieldRead (c .before .before .before .before .before .before .before .before .before .before .before .before .before .before .before .before .before .before .before .before .before .before .byte-at .ensures) (c .before .before .before .before .before .before .before .before .before .before .before .before .before .before .before .before .before .before .before .before .bits .given .1))
@@ -108,15 +54,6 @@ returns-6 c = sym (ap (mapRead (withBits caseHeadingFrom)) (raw-bad caseFormats 
     (skip _ _ _ _ (half-of _ 8) _ _ (no-field (now (c .before .before .before .before .before .before .before .before .before .before .before .before .before .before .before .before .before .before .before .before .before .before .before .before .args .s)) (c .before .before .before .before .before .before .before .before .segment .given .0 .1 .0) (eqb (c .before .before .before .before .before .before .before .before .before .before .before .before .before .before .before .before .before .before .before .before .bits .given .0 .0 / 8 % 2) 1))
     (skip _ _ _ _ (half-of _ 16) _ _ (found little _ (seen wideRead (c .before .before .before .before .before .before .mask-at .ensures) (c .before .before .before .before .roster .given .1)) .is)
     (stop _ _ _ _ (half-of _ 32) _ _ (none first _ (seen fieldRead (c .before .before .opt-at4 .ensures) (c .enum-told6 .given .1)))))))))))
-
-short-at-requires : tie.Need-short-at-requires
-short-at-requires c κs = search needs
-
-enum-known-most : tie.Need-enum-known-most
-enum-known-most c = search needs
-
-enum-told-7 : tie.Need-enum-told-7
-enum-told-7 c = search needs
 
 returns-7 : tie.Need-returns-7
 unfolding caseFormats
@@ -164,34 +101,8 @@ returns-9 c = sym (ap (mapRead (withBits caseHeadingFrom)) (raw-bad caseFormats 
 pub heading-at-spec : {M : Type 1} → statement M
 heading-at-spec =
     tie.close
-    (tie.spec
-    byte-at-requires
-    enum-known-bits
-    enum-told
-    returns
-    opt-at-requires
-    enum-known-relation
-    enum-told-2
-    returns-2
-    opt-at-requires-2
-    enum-known-scope
-    enum-told-3
-    returns-3
-    opt-at-requires-3
-    enum-known-segment
-    enum-told-4
-    returns-4
-    mask-at-requires
-    enum-known-roster
-    enum-told-5
-    returns-5
-    opt-at-requires-4
-    enum-known-evidence
-    enum-told-6
-    returns-6
-    short-at-requires
-    enum-known-most
-    enum-told-7
-    returns-7
-    returns-8
-    returns-9)
+    (tie.spec (λ c κs. search needs) (λ c. search needs) (λ c. search needs) returns (λ c κs. search needs)
+    (λ c. search needs) (λ c. search needs) returns-2 (λ c κs. search needs) (λ c. search needs) (λ c. search needs)
+    returns-3 (λ c κs. search needs) (λ c. search needs) (λ c. search needs) returns-4 (λ c κs. search needs)
+    (λ c. search needs) (λ c. search needs) returns-5 (λ c κs. search needs) (λ c. search needs) (λ c. search needs)
+    returns-6 (λ c κs. search needs) (λ c. search needs) (λ c. search needs) returns-7 returns-8 returns-9)

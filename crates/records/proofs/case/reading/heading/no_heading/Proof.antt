@@ -1,4 +1,4 @@
--- The heading of a case that has none. Assumes nothing.
+-- The heading of a case that has none.
 use borrow.Author.Needs.{needs}
 use Rattle.records.specs.paper.Case.{caseHeading}
 use Rattle.records.specs.code.Decoded.{caseHeadingOf}

@@ -1,4 +1,4 @@
--- The pass over a case's headings. Assumes nothing.
+-- The pass over a case's headings.
 use mathlib.Core.Path.{refl}
 use mathlib.Core.Bool.{true, false}
 use mathlib.Core.List.{[]}
@@ -24,34 +24,13 @@ Inv-loop s headings₀ heading₀ at₀ k₀ headings heading at k =
 abbrev μ-loop : tie.MeasureT-loop
 μ-loop s headings₀ heading₀ at₀ k₀ headings heading at k = length s - at
 
-no-heading-requires : tie.Need-no-heading-requires Inv-loop μ-loop
-no-heading-requires c κs = search needs
-
 loop-holds : tie.Need-loop-holds Inv-loop μ-loop
 loop-holds c = (omega arith, omega arith, going headingKind (now (c .before .before .args .s)) false 0 0 [] refl)
-
-shared-slice-read-if1 : tie.Need-shared-slice-read-if1 Inv-loop μ-loop
-shared-slice-read-if1 c = search needs
-
-add-heading-at : tie.Need-add-heading-at Inv-loop μ-loop
-add-heading-at c = search needs
-
-heading-at-requires : tie.Need-heading-at-requires Inv-loop μ-loop
-heading-at-requires c κs = search needs
-
-enum-known-bits : tie.Need-enum-known-bits Inv-loop μ-loop
-enum-known-bits c = search needs
-
-enum-told : tie.Need-enum-told Inv-loop μ-loop
-enum-told c = search needs
 
 returns : tie.Need-returns Inv-loop μ-loop
 returns c =
     let i = c .before .before .before .before .before .before .loop .inv in
     (refused-bad headingKind _ _ _ _ (i .2) (i .0) (c .before .before .before .before .before .loop-test .taken) (c .before .before .before .if1 .left) (seen caseHeadingRead (c .before .before .heading-at .ensures) (c .enum-told .given .1)), i .0, i .1)
-
-judged-requires : tie.Need-judged-requires Inv-loop μ-loop
-judged-requires c κs = search needs
 
 returns-2 : tie.Need-returns-2 Inv-loop μ-loop
 returns-2 c =
@@ -60,9 +39,6 @@ returns-2 c =
     let x = caseHeadingOf (l .heading) in
     let j = judge-same 1 (l .headings) (length (caseHeadingsOf (l .headings) (l .heading))) false false _ (fields.needs 81 (c .before .before .before .bits .given .0 .0)) true true true (c .before .judged .ensures .0) (heading-count (l .headings) x (i .1)) refl (needs-test (c .before .before .before .bits .given .0 .0) 81) refl in
     (refused-judged headingKind _ _ _ _ (i .2) (i .0) (c .before .before .before .before .before .before .before .before .loop-test .taken) (c .before .before .before .before .before .before .if1 .left) tt (seen caseHeadingRead (c .before .before .before .before .before .heading-at .ensures) (c .before .before .before .bits .given .1)) _ j (c .if2 .taken), i .0, i .1)
-
-add-k : tie.Need-add-k Inv-loop μ-loop
-add-k c = search needs
 
 loop-less : tie.Need-loop-less Inv-loop μ-loop
 loop-less c =
@@ -98,21 +74,6 @@ returns-4 c =
 pub read-case-heading-spec : {M : Type 1} → statement M
 read-case-heading-spec =
     tie.close
-    (tie.spec
-    Inv-loop
-    μ-loop
-    no-heading-requires
-    loop-holds
-    shared-slice-read-if1
-    add-heading-at
-    heading-at-requires
-    enum-known-bits
-    enum-told
-    returns
-    judged-requires
-    returns-2
-    add-k
-    loop-less
-    loop-again
-    returns-3
-    returns-4)
+    (tie.spec Inv-loop μ-loop (λ c κs. search needs) loop-holds (λ c. search needs) (λ c. search needs)
+    (λ c κs. search needs) (λ c. search needs) (λ c. search needs) returns (λ c κs. search needs) returns-2
+    (λ c. search needs) loop-less loop-again returns-3 returns-4)

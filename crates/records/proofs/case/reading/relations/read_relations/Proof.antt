@@ -1,4 +1,4 @@
--- The pass over the relations. Assumes nothing.
+-- The pass over the relations.
 use mathlib.Core.Path.{_≡_, refl}
 use mathlib.Core.Bool.{true, false}
 use Prim.Native.Nat.{_-_, _≤_}
@@ -24,37 +24,16 @@ Inv-loop s start before headed relations₀ at₀ k₀ relations at k =
 abbrev μ-loop : tie.MeasureT-loop
 μ-loop s start before headed relations₀ at₀ k₀ relations at k = length s - at
 
-no-relations-requires : tie.Need-no-relations-requires Inv-loop μ-loop
-no-relations-requires c κs = search needs
-
 loop-holds : tie.Need-loop-holds Inv-loop μ-loop
 loop-holds c =
     let a = c .before .before .args in
     let e = c .no-relations .ensures in
     (c .before .before .pre, omega (arith, e .1), e .2, going relationKind (now (a .s)) (a .headed) (a .start) (a .before) (relationsOf (c .no-relations .result)) (e .0))
 
-shared-slice-read-if1 : tie.Need-shared-slice-read-if1 Inv-loop μ-loop
-shared-slice-read-if1 c = search needs
-
-add-relation-at : tie.Need-add-relation-at Inv-loop μ-loop
-add-relation-at c = search needs
-
-relation-at-requires : tie.Need-relation-at-requires Inv-loop μ-loop
-relation-at-requires c κs = search needs
-
-enum-known-bits : tie.Need-enum-known-bits Inv-loop μ-loop
-enum-known-bits c = search needs
-
-enum-told : tie.Need-enum-told Inv-loop μ-loop
-enum-told c = search needs
-
 returns : tie.Need-returns Inv-loop μ-loop
 returns c =
     let i = c .before .before .before .before .before .before .loop .inv in
     (refused-bad relationKind _ _ _ _ (i .3) (i .0) (c .before .before .before .before .before .loop-test .taken) (c .before .before .before .if1 .left) (seen relationRead (c .before .before .relation-at .ensures) (c .enum-told .given .1)), i .0)
-
-judged-requires : tie.Need-judged-requires Inv-loop μ-loop
-judged-requires c κs = search needs
 
 returns-2 : tie.Need-returns-2 Inv-loop μ-loop
 returns-2 c =
@@ -63,17 +42,11 @@ returns-2 c =
     let j = judge-same 256 (l .count) (length (relationsOf l)) false false _ (fields.needs 7 (c .before .before .before .bits .given .0 .0)) (c .before .before .before .before .before .before .before .before .before .before .before .before .args .headed) true true (c .before .judged .ensures .0) (length-made relationOf (l .items) (l .count) (omega (arith, i .1, i .2))) refl (needs-test (c .before .before .before .bits .given .0 .0) 7) refl in
     (refused-judged relationKind _ _ _ _ (i .3) (i .0) (c .before .before .before .before .before .before .before .before .loop-test .taken) (c .before .before .before .before .before .before .if1 .left) tt (seen relationRead (c .before .before .before .before .before .relation-at .ensures) (c .before .before .before .bits .given .1)) _ j (c .if2 .taken), i .0)
 
-mul-relation : tie.Need-mul-relation Inv-loop μ-loop
-mul-relation c = search needs
-
 element-set-from-relation : tie.Need-element-set-from-relation Inv-loop μ-loop
 element-set-from-relation c = let h = c .before .judged .ensures .1 (c .if2 .left) in search (needs, h)
 
 add-relations : tie.Need-add-relations Inv-loop μ-loop
 add-relations c = let h = c .before .judged .ensures .1 (c .if2 .left) in search (needs, h)
-
-add-k : tie.Need-add-k Inv-loop μ-loop
-add-k c = search needs
 
 loop-less : tie.Need-loop-less Inv-loop μ-loop
 loop-less c =
@@ -109,24 +82,7 @@ returns-4 c =
 pub read-relations-spec : {M : Type 1} → statement M
 read-relations-spec =
     tie.close
-    (tie.spec
-    Inv-loop
-    μ-loop
-    no-relations-requires
-    loop-holds
-    shared-slice-read-if1
-    add-relation-at
-    relation-at-requires
-    enum-known-bits
-    enum-told
-    returns
-    judged-requires
-    returns-2
-    mul-relation
-    element-set-from-relation
-    add-relations
-    add-k
-    loop-less
-    loop-again
-    returns-3
+    (tie.spec Inv-loop μ-loop (λ c κs. search needs) loop-holds (λ c. search needs) (λ c. search needs)
+    (λ c κs. search needs) (λ c. search needs) (λ c. search needs) returns (λ c κs. search needs) returns-2
+    (λ c. search needs) element-set-from-relation add-relations (λ c. search needs) loop-less loop-again returns-3
     returns-4)

@@ -1,4 +1,4 @@
--- The record number of the first crossing's cut. Assumes nothing.
+-- The record number of the first crossing's cut.
 use mathlib.Core.Path.{_≡_, sym, ap, _∙_}
 use Prim.Native.Nat.{ℕ, _+_}
 use native.Mathlib.Omega.{arith}
@@ -12,9 +12,6 @@ use borrow.Author.Needs.{needs}
 use Rattle.records.proofs.plan.checks.crossing.crossings.Statement.{statement}
 use Rattle.records.proofs.plan.checks.crossing.crossings.Tie as tie
 
-count-records-requires : tie.Need-count-records-requires
-count-records-requires c κs = search needs
-
 add-first : tie.Need-add-first
 add-first c = omega (arith, c .before .count-records .ensures .1)
 
@@ -24,20 +21,11 @@ add-first-2 c = omega (arith, c .before .before .count-records .ensures .1)
 add-first-3 : tie.Need-add-first-3
 add-first-3 c = omega (arith, c .before .before .before .count-records .ensures .1)
 
-first-crossing-requires : tie.Need-first-crossing-requires
-first-crossing-requires c κs = search needs
-
-enum-known-found : tie.Need-enum-known-found
-enum-known-found c = search needs
-
 add-t10 : tie.Need-add-t10
 add-t10 c =
     let n = c .before .before .before .before .before .before .before .count-records in let P = planOf (c .before .before .before .before .before .before .before .before .args .plan) in
     let e : c .before .found .given .0 .0 ≡ cut-of P (firstCrossing P) = ap (cut-of P) (sym (c .before .found .given .1) ∙ c .before .before .before .first-crossing .ensures) in
     omega (arith, n .ensures .1, n .ensures .0 .cuts, crossing-within P)
-
-enum-told : tie.Need-enum-told
-enum-told c = search needs
 
 returns : tie.Need-returns
 returns c =
@@ -58,14 +46,5 @@ returns-2 c =
 pub crossings-spec : {M : Type 1} → statement M
 crossings-spec =
     tie.close
-    (tie.spec
-    count-records-requires
-    add-first
-    add-first-2
-    add-first-3
-    first-crossing-requires
-    enum-known-found
-    add-t10
-    enum-told
-    returns
-    returns-2)
+    (tie.spec (λ c κs. search needs) add-first add-first-2 add-first-3 (λ c κs. search needs) (λ c. search needs)
+    add-t10 (λ c. search needs) returns returns-2)

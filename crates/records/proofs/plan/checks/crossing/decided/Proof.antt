@@ -1,4 +1,4 @@
--- A loop over the edges of the decisions, left at the one that is looked for. Assumes nothing.
+-- A loop over the edges of the decisions, left at the one that is looked for.
 use Rattle.records.specs.declared.plan.Decisions.{Decisions}
 use Rattle.records.specs.paper.Plan.{decidedIn}
 use mathlib.Core.Path.{_≡_, refl, sym, ap, _∙_}
@@ -30,17 +30,8 @@ Inv-loop edge list count i₀ i = (i ≤ count) × (count < 256) × (allOf (othe
 abbrev μ-loop : tie.MeasureT-loop
 μ-loop edge list count i₀ i = count - i
 
-wide-requires : tie.Need-wide-requires Inv-loop μ-loop
-wide-requires c κs = search needs
-
 loop-holds : tie.Need-loop-holds Inv-loop μ-loop
 loop-holds c = (omega arith, c .wide .ensures .1, refl)
-
-entry-requires : tie.Need-entry-requires Inv-loop μ-loop
-entry-requires c κs = search needs
-
-wide-requires-2 : tie.Need-wide-requires-2 Inv-loop μ-loop
-wide-requires-2 c κs = search needs
 
 returns : tie.Need-returns Inv-loop μ-loop
 returns c =
@@ -49,12 +40,6 @@ returns c =
     let long : length es ≡ n = length-below n _ in
     let t : f (getD es (l .i) 0) ≡ false = rw (getD-below n (λ i. getD (s .decisions .edges) i 0) 0 (l .i) (omega arith), ← c .before .before .entry .ensures, ← c .before .wide2 .ensures .0, eq-eqb _ _ (c .if1 .taken)) in
     ap not (all-fails f es (l .i) 0 (allOf f es) (omega arith) t (l .inv .2)) ∙ rw (c .before .before .before .before .before .wide .ensures .0) (decides-not (s .decisions) (s .edge))
-
-add-i : tie.Need-add-i Inv-loop μ-loop
-add-i c = search needs
-
-loop-less : tie.Need-loop-less Inv-loop μ-loop
-loop-less c = search needs
 
 loop-again : tie.Need-loop-again Inv-loop μ-loop
 loop-again c =
@@ -74,15 +59,5 @@ returns-2 c =
 pub decided-spec : {M : Type 1} → statement M
 decided-spec =
     tie.close
-    (tie.spec
-    Inv-loop
-    μ-loop
-    wide-requires
-    loop-holds
-    entry-requires
-    wide-requires-2
-    returns
-    add-i
-    loop-less
-    loop-again
-    returns-2)
+    (tie.spec Inv-loop μ-loop (λ c κs. search needs) loop-holds (λ c κs. search needs) (λ c κs. search needs) returns
+    (λ c. search needs) (λ c. search needs) loop-again returns-2)

@@ -1,4 +1,4 @@
--- The nested search: each invariant says that what is left of it gives the first crossing. Assumes nothing.
+-- The nested search: each invariant says that what is left of it gives the first crossing.
 use mathlib.Core.Path.{_≡_, refl, sym, ap, ap₂, _∙_}
 use mathlib.Core.Bool.{false}
 use mathlib.Core.List.{[], map}
@@ -62,9 +62,6 @@ Inv-search cuts edges cut-count edge-count hit₀ cut₀ edge₀ hit cut edge =
 abbrev μ-search : tie.MeasureT-search
 μ-search cuts edges cut-count edge-count hit₀ cut₀ edge₀ hit cut edge = cut-count - cut
 
-count-records-requires : tie.Need-count-records-requires Inv-loop μ-loop Inv-search μ-search
-count-records-requires c κs = search needs
-
 search-holds : tie.Need-search-holds Inv-loop μ-loop Inv-search μ-search
 unfolding firstCrossing
 search-holds c = (omega arith, refl, λ P b. refl)
@@ -87,9 +84,6 @@ mul-undecided c = omega (arith, c .before .before .before .before .before .befor
 element-copy-out-undecided :
     tie.Need-element-copy-out-undecided Inv-loop μ-loop Inv-search μ-search
 element-copy-out-undecided c = omega (arith, c .before .before .before .before .before .before .before .before .count-records .ensures .1 .edges)
-
-undecided-requires : tie.Need-undecided-requires Inv-loop μ-loop Inv-search μ-search
-undecided-requires c κs = search needs
 
 add-edge : tie.Need-add-edge Inv-loop μ-loop Inv-search μ-search
 add-edge c = omega (arith, c .before .before .before .before .before .before .before .before .before .before .before .count-records .ensures .1 .edges)
@@ -153,24 +147,6 @@ returns-2 c =
 pub first-crossing-spec : {M : Type 1} → statement M
 first-crossing-spec =
     tie.close
-    (tie.spec
-    Inv-loop
-    μ-loop
-    Inv-search
-    μ-search
-    count-records-requires
-    search-holds
-    mul-tested
-    element-copy-out-tested
-    loop-holds
-    mul-undecided
-    element-copy-out-undecided
-    undecided-requires
-    add-edge
-    loop-less
-    loop-again
-    add-cut
-    search-less
-    search-again
-    returns
-    returns-2)
+    (tie.spec Inv-loop μ-loop Inv-search μ-search (λ c κs. search needs) search-holds mul-tested
+    element-copy-out-tested loop-holds mul-undecided element-copy-out-undecided (λ c κs. search needs) add-edge
+    loop-less loop-again add-cut search-less search-again returns returns-2)

@@ -1,4 +1,4 @@
--- One cut and one edge. Assumes nothing.
+-- One cut and one edge.
 use mathlib.Core.Path.{_≡_, sym, ap, _∙_}
 use mathlib.Core.Bool.{true, false, not, Bool·beq}
 use borrow.Author.Needs.{needs}
@@ -13,20 +13,11 @@ returns : tie.Need-returns
 unfolding isOpen crosses cutOf edgeOf
 returns c = λ P x m d. rw (not-true (c .before .before .args .edge .combination) (c .if1 .taken))
 
-contains-requires : tie.Need-contains-requires
-contains-requires c κs = search needs
-
-contains-requires-2 : tie.Need-contains-requires-2
-contains-requires-2 c κs = search needs
-
 returns-2 : tie.Need-returns-2
 unfolding isOpen crosses cutOf edgeOf
 returns-2 c = λ P x m d. let s = c .before .before .before .before .before .args in
     let t : Bool·beq (c .before .before .contains .result) (c .before .contains2 .result) ≡ true = c .if2 .taken in
     rw (m, not-false (s .edge .combination) (c .before .before .before .if1 .left), ← c .before .before .contains .ensures, ← c .before .contains2 .ensures, t)
-
-decided-requires : tie.Need-decided-requires
-decided-requires c κs = search needs
 
 returns-3 : tie.Need-returns-3
 unfolding isOpen crosses cutOf edgeOf
@@ -36,5 +27,4 @@ returns-3 c = λ P x m d. let s = c .before .before .before .before .before .bef
 
 pub undecided-spec : {M : Type 1} → statement M
 undecided-spec =
-    tie.close
-    (tie.spec returns contains-requires contains-requires-2 returns-2 decided-requires returns-3)
+    tie.close (tie.spec returns (λ c κs. search needs) (λ c κs. search needs) returns-2 (λ c κs. search needs) returns-3)

@@ -1,4 +1,4 @@
--- Whether an edge is decided from a place on. Assumes nothing.
+-- Whether an edge is decided from a place on.
 use mathlib.Core.Path.{_≡_, refl, _∙_}
 use Prim.Native.Nat.{_-_, _≤_}
 use native.Mathlib.Omega.{arith}
@@ -16,23 +16,11 @@ Inv-loop edge i d n j₀ j = (j ≤ n) × (anyOf (λ e. eqb (e .edge) edge) (dec
 abbrev μ-loop : tie.MeasureT-loop
 μ-loop edge i d n j₀ j = n - j
 
-to-index-requires : tie.Need-to-index-requires Inv-loop μ-loop
-to-index-requires c κs = search needs
-
 loop-holds : tie.Need-loop-holds Inv-loop μ-loop
 loop-holds c = (omega (arith, c .before .pre, c .to-index .ensures), refl)
 
-element-copy-out-if1 : tie.Need-element-copy-out-if1 Inv-loop μ-loop
-element-copy-out-if1 c = search needs
-
 returns : tie.Need-returns Inv-loop μ-loop
 returns c = any-here (c .before .before .before .before .before .args .t1) (c .before .before .before .before .before .args .edge) (c .before .before .before .loop .j) (omega (arith, c .before .before .loop-test .taken, c .before .before .before .before .to-index .ensures)) (c .if1 .taken) ∙ c .before .before .before .loop .inv .1
-
-add-j : tie.Need-add-j Inv-loop μ-loop
-add-j c = search needs
-
-loop-less : tie.Need-loop-less Inv-loop μ-loop
-loop-less c = search needs
 
 loop-again : tie.Need-loop-again Inv-loop μ-loop
 loop-again c = (omega arith, any-later (c .before .before .before .before .before .args .t1) (c .before .before .before .before .before .args .edge) (c .before .before .before .loop .j) (omega (arith, c .before .before .loop-test .taken, c .before .before .before .before .to-index .ensures)) (c .if1 .left) ∙ c .before .before .before .loop .inv .1)
@@ -43,14 +31,5 @@ returns-2 c = any-none (c .before .before .before .args .t1) (c .before .before 
 pub decided-from-spec : {M : Type 1} → statement M
 decided-from-spec =
     tie.close
-    (tie.spec
-    Inv-loop
-    μ-loop
-    to-index-requires
-    loop-holds
-    element-copy-out-if1
-    returns
-    add-j
-    loop-less
-    loop-again
-    returns-2)
+    (tie.spec Inv-loop μ-loop (λ c κs. search needs) loop-holds (λ c. search needs) returns (λ c. search needs)
+    (λ c. search needs) loop-again returns-2)

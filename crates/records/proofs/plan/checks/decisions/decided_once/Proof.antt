@@ -1,4 +1,4 @@
--- No edge is decided twice. Assumes nothing.
+-- No edge is decided twice.
 use mathlib.Core.Path.{_≡_, sym, _∙_, ap}
 use Prim.Native.Nat.{_-_, _≤_}
 use native.Mathlib.Omega.{arith}
@@ -16,29 +16,14 @@ Inv-loop d n i₀ i = (i ≤ n) × (decidedOnce (decisionsLeft d i) ≡ decidedO
 abbrev μ-loop : tie.MeasureT-loop
 μ-loop d n i₀ i = n - i
 
-to-index-requires : tie.Need-to-index-requires Inv-loop μ-loop
-to-index-requires c κs = search needs
-
 loop-holds : tie.Need-loop-holds Inv-loop μ-loop
 loop-holds c = (omega arith, ap decidedOnce (from-all (c .before .args .t1)))
-
-element-copy-out-decided-from : tie.Need-element-copy-out-decided-from Inv-loop μ-loop
-element-copy-out-decided-from c = search needs
-
-add-decided-from : tie.Need-add-decided-from Inv-loop μ-loop
-add-decided-from c = search needs
 
 decided-from-requires : tie.Need-decided-from-requires Inv-loop μ-loop
 decided-from-requires c κs = (c .before .before .before .before .pre, omega (arith, c .before .loop-test .taken, c .before .before .before .to-index .ensures))
 
 returns : tie.Need-returns Inv-loop μ-loop
 returns c = once-not (c .before .before .before .before .before .before .args .t1) (c .before .before .before .before .loop .i) (omega (arith, c .before .before .before .loop-test .taken, c .before .before .before .before .before .to-index .ensures)) (sym (c .if1 .taken) ∙ c .before .decided-from .ensures) ∙ c .before .before .before .before .loop .inv .1
-
-add-i : tie.Need-add-i Inv-loop μ-loop
-add-i c = search needs
-
-loop-less : tie.Need-loop-less Inv-loop μ-loop
-loop-less c = search needs
 
 loop-again : tie.Need-loop-again Inv-loop μ-loop
 loop-again c = (omega arith, once-more (c .before .before .before .before .before .before .args .t1) (c .before .before .before .before .loop .i) (omega (arith, c .before .before .before .loop-test .taken, c .before .before .before .before .before .to-index .ensures)) (sym (c .if1 .left) ∙ c .before .decided-from .ensures) ∙ c .before .before .before .before .loop .inv .1)
@@ -49,16 +34,5 @@ returns-2 c = once-done (c .before .before .before .args .t1) (c .before .loop .
 pub decided-once-spec : {M : Type 1} → statement M
 decided-once-spec =
     tie.close
-    (tie.spec
-    Inv-loop
-    μ-loop
-    to-index-requires
-    loop-holds
-    element-copy-out-decided-from
-    add-decided-from
-    decided-from-requires
-    returns
-    add-i
-    loop-less
-    loop-again
-    returns-2)
+    (tie.spec Inv-loop μ-loop (λ c κs. search needs) loop-holds (λ c. search needs) (λ c. search needs)
+    decided-from-requires returns (λ c. search needs) (λ c. search needs) loop-again returns-2)

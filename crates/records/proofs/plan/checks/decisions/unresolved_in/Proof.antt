@@ -1,4 +1,4 @@
--- The unresolved decisions of a cut, counted. Assumes nothing.
+-- The unresolved decisions of a cut, counted.
 use mathlib.Core.Path.{_≡_, _∙_, ap}
 use mathlib.Core.Logic.{⊎-elim}
 use Prim.Native.Nat.{_+_, _-_, _≤_, _<_}
@@ -17,23 +17,11 @@ Inv-loop d n total₀ i₀ total i = (i ≤ n) × (total ≤ i) × (total + unre
 abbrev μ-loop : tie.MeasureT-loop
 μ-loop d n total₀ i₀ total i = n - i
 
-to-index-requires : tie.Need-to-index-requires Inv-loop μ-loop
-to-index-requires c κs = search needs
-
 loop-holds : tie.Need-loop-holds Inv-loop μ-loop
 loop-holds c = let e = ap unresolvedIn (from-all (c .before .args .t1)) in (omega arith, omega arith, omega (arith, e))
 
-element-copy-out-if1 : tie.Need-element-copy-out-if1 Inv-loop μ-loop
-element-copy-out-if1 c = search needs
-
 add-total : tie.Need-add-total Inv-loop μ-loop
 add-total c = let h = c .before .before .before .loop .inv in search (needs, h)
-
-add-i : tie.Need-add-i Inv-loop μ-loop
-add-i c = search needs
-
-loop-less : tie.Need-loop-less Inv-loop μ-loop
-loop-less c = search needs
 
 loop-again : tie.Need-loop-again Inv-loop μ-loop
 loop-again c =
@@ -51,14 +39,5 @@ returns c =
 pub unresolved-in-spec : {M : Type 1} → statement M
 unresolved-in-spec =
     tie.close
-    (tie.spec
-    Inv-loop
-    μ-loop
-    to-index-requires
-    loop-holds
-    element-copy-out-if1
-    add-total
-    add-i
-    loop-less
-    loop-again
-    returns)
+    (tie.spec Inv-loop μ-loop (λ c κs. search needs) loop-holds (λ c. search needs) add-total (λ c. search needs)
+    (λ c. search needs) loop-again returns)

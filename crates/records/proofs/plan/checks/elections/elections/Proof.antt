@@ -1,4 +1,4 @@
--- A loop over cuts and attachments that keeps an election for each fact, left at the first that differs. Assumes nothing.
+-- A loop over cuts and attachments that keeps an election for each fact, left at the first that differs.
 use mathlib.Core.Path.{_≡_, refl, sym, ap, _∙_, subst}
 use mathlib.Core.Bool.{Bool, cond}
 use mathlib.Core.List.{List, []}
@@ -39,9 +39,6 @@ Inv-loop first cut-count total cuts attachments kept₀ k₀ kept k =
 abbrev μ-loop : tie.MeasureT-loop
 μ-loop first cut-count total cuts attachments kept₀ k₀ kept k = total - k
 
-count-records-requires : tie.Need-count-records-requires Inv-loop μ-loop
-count-records-requires c κs = search needs
-
 add-first : tie.Need-add-first Inv-loop μ-loop
 add-first c = omega (arith, c .before .count-records .ensures .1)
 
@@ -54,14 +51,8 @@ add-first-3 c = omega (arith, c .before .before .before .count-records .ensures 
 add-total : tie.Need-add-total Inv-loop μ-loop
 add-total c = omega (arith, c .before .before .before .before .count-records .ensures .1)
 
-no-election-requires : tie.Need-no-election-requires Inv-loop μ-loop
-no-election-requires c κs = search needs
-
 loop-holds : tie.Need-loop-holds Inv-loop μ-loop
 loop-holds c = (omega arith, refl, λ P b m n. (going _ (agreement P) P, subst (λ z. Kept (electionRecords P) 0 (replicate 256 z)) (sym (c .no-election .ensures)) (kept-none (electionRecords P) 256)))
-
-no-election-requires-2 : tie.Need-no-election-requires-2 Inv-loop μ-loop
-no-election-requires-2 c κs = search needs
 
 mul-cut : tie.Need-mul-cut Inv-loop μ-loop
 mul-cut c = omega (arith, c .before .before .before .before .before .before .before .before .before .before .before .count-records .ensures .1)
@@ -75,17 +66,11 @@ mul-attachment c = omega (arith, c .before .before .before .before .before .befo
 element-copy-out-attachment : tie.Need-element-copy-out-attachment Inv-loop μ-loop
 element-copy-out-attachment c = omega (arith, c .before .before .before .before .before .before .before .before .before .before .before .count-records .ensures .1)
 
-wide-requires : tie.Need-wide-requires Inv-loop μ-loop
-wide-requires c κs = search needs
-
 mul-earlier : tie.Need-mul-earlier Inv-loop μ-loop
 mul-earlier c = omega (arith, c .wide .ensures .1)
 
 array-copy-out-earlier : tie.Need-array-copy-out-earlier Inv-loop μ-loop
 array-copy-out-earlier c = c .wide .ensures .1
-
-same-requires : tie.Need-same-requires Inv-loop μ-loop
-same-requires c κs = search needs
 
 add-t33 : tie.Need-add-t33 Inv-loop μ-loop
 add-t33 c = omega (arith, c .before .before .before .before .before .before .before .before .before .before .before .before .before .before .before .count-records .ensures .1)
@@ -106,9 +91,6 @@ returns c =
     let first = n .result .headings + n .result .facts + n .result .nodes + n .result .edges in
     let at : first ≡ cutsAt P = omega (arith, n .ensures .0) in
     ap checkedOf (fault-stops first fs (l .k) 6 (fine P) (firstFault first fs (fine P)) (omega (arith, length-agreement P, n .ensures .0)) t (inv .0)) ∙ ap (λ (i : ℕ). checkedOf (firstFault i fs (fine P))) at
-
-latest-requires : tie.Need-latest-requires Inv-loop μ-loop
-latest-requires c κs = search needs
 
 mul-kept : tie.Need-mul-kept Inv-loop μ-loop
 mul-kept c = omega (arith, c .before .before .before .before .wide .ensures .1)
@@ -157,31 +139,7 @@ returns-2 c =
 pub elections-spec : {M : Type 1} → statement M
 elections-spec =
     tie.close
-    (tie.spec
-    Inv-loop
-    μ-loop
-    count-records-requires
-    add-first
-    add-first-2
-    add-first-3
-    add-total
-    no-election-requires
-    loop-holds
-    no-election-requires-2
-    mul-cut
-    element-copy-out-cut
-    mul-attachment
-    element-copy-out-attachment
-    wide-requires
-    mul-earlier
-    array-copy-out-earlier
-    same-requires
-    add-t33
-    returns
-    latest-requires
-    mul-kept
-    array-set-from-kept
-    add-k
-    loop-less
-    loop-again
-    returns-2)
+    (tie.spec Inv-loop μ-loop (λ c κs. search needs) add-first add-first-2 add-first-3 add-total
+    (λ c κs. search needs) loop-holds (λ c κs. search needs) mul-cut element-copy-out-cut mul-attachment
+    element-copy-out-attachment (λ c κs. search needs) mul-earlier array-copy-out-earlier (λ c κs. search needs)
+    add-t33 returns (λ c κs. search needs) mul-kept array-set-from-kept add-k loop-less loop-again returns-2)

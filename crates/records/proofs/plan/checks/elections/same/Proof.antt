@@ -1,4 +1,4 @@
--- Two elections, byte by byte, if they are on one fact. Assumes nothing.
+-- Two elections, byte by byte, if they are on one fact.
 use borrow.Author.Tests.{not-true, not-false, eq-eqb, ne-eqb}
 use Rattle.records.specs.paper.Plan.{sameElection}
 use Rattle.records.specs.code.Decoded.{electionOf}

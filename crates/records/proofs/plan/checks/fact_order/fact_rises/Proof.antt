@@ -1,4 +1,4 @@
--- Booleans first, then by family and tuple. Assumes nothing.
+-- Booleans first, then by family and tuple.
 use mathlib.Core.Path.{sym}
 use borrow.Author.Tests.{eq-eqb, ne-eqb}
 use Rattle.records.specs.paper.Sets.{lexLess}
@@ -21,12 +21,9 @@ returns-3 : tie.Need-returns-3
 unfolding rises isBoolean factOf lexLess
 returns-3 c = rw (c .before .before .before .before .before .before .if1 .left, c .before .before .before .before .before .if2 .left, ne-eqb _ _ (c .before .before .if3 .taken))
 
-tuple-less-requires : tie.Need-tuple-less-requires
-tuple-less-requires c κs = search needs
-
 returns-4 : tie.Need-returns-4
 unfolding rises isBoolean factOf lexLess
 returns-4 c = rw (c .before .before .before .before .before .before .before .if1 .left, c .before .before .before .before .before .before .if2 .left, eq-eqb _ _ (c .before .before .before .if3 .left)) (c .tuple-less .ensures)
 
 pub fact-rises-spec : {M : Type 1} → statement M
-fact-rises-spec = tie.close (tie.spec returns returns-2 returns-3 tuple-less-requires returns-4)
+fact-rises-spec = tie.close (tie.spec returns returns-2 returns-3 (λ c κs. search needs) returns-4)

@@ -1,4 +1,4 @@
--- Two tuples compared place by place. Assumes nothing.
+-- Two tuples compared place by place.
 use mathlib.Core.Path.{_≡_, refl, _∙_, ap}
 use Prim.Native.Nat.{ℕ, _-_, _≤_}
 use native.Mathlib.Omega.{arith}
@@ -16,12 +16,6 @@ Inv-loop m n a b j k i₀ i = (i ≤ j) × (i ≤ k) × (lexLess (drop i (take m
 abbrev μ-loop : tie.MeasureT-loop
 μ-loop m n a b j k i₀ i = j - i
 
-to-index-requires : tie.Need-to-index-requires Inv-loop μ-loop
-to-index-requires c κs = search needs
-
-to-index-requires-2 : tie.Need-to-index-requires-2 Inv-loop μ-loop
-to-index-requires-2 c κs = search needs
-
 loop-holds : tie.Need-loop-holds Inv-loop μ-loop
 loop-holds c = (omega arith, omega arith, refl)
 
@@ -32,30 +26,12 @@ returns c =
     let lb : length (a .t3) ≡ 4 = search needs in
     lex-short (a .t1) (a .t3) (a .m) (a .n) (c .before .before .loop .i) (omega (arith, la, c .before .before .before .before .before .pre)) (omega (arith, lb, c .before .before .before .before .before .pre)) (omega (arith, c .before .loop-test .taken, c .before .before .before .before .to-index .ensures)) (omega (arith, c .if1 .taken, c .before .before .before .to-index2 .ensures)) ∙ c .before .before .loop .inv .2
 
-array-read-if2 : tie.Need-array-read-if2 Inv-loop μ-loop
-array-read-if2 c = search needs
-
-array-read-if2-2 : tie.Need-array-read-if2-2 Inv-loop μ-loop
-array-read-if2-2 c = search needs
-
-array-read-result : tie.Need-array-read-result Inv-loop μ-loop
-array-read-result c = search needs
-
-array-read-result-2 : tie.Need-array-read-result-2 Inv-loop μ-loop
-array-read-result-2 c = search needs
-
 returns-2 : tie.Need-returns-2 Inv-loop μ-loop
 returns-2 c =
     let a = c .before .before .before .before .before .before .args in
     let la : length (a .t1) ≡ 4 = search needs in
     let lb : length (a .t3) ≡ 4 = search needs in
     lex-differ (a .t1) (a .t3) (a .m) (a .n) (c .before .before .before .loop .i) (omega (arith, la, c .before .before .before .before .before .before .pre)) (omega (arith, lb, c .before .before .before .before .before .before .pre)) (omega (arith, c .before .before .loop-test .taken, c .before .before .before .before .before .to-index .ensures)) (omega (arith, c .before .if1 .left, c .before .before .before .before .to-index2 .ensures)) (c .if2 .taken) ∙ c .before .before .before .loop .inv .2
-
-add-i : tie.Need-add-i Inv-loop μ-loop
-add-i c = search needs
-
-loop-less : tie.Need-loop-less Inv-loop μ-loop
-loop-less c = search needs
 
 loop-again : tie.Need-loop-again Inv-loop μ-loop
 loop-again c =
@@ -75,19 +51,6 @@ returns-3 c =
 pub tuple-less-spec : {M : Type 1} → statement M
 tuple-less-spec =
     tie.close
-    (tie.spec
-    Inv-loop
-    μ-loop
-    to-index-requires
-    to-index-requires-2
-    loop-holds
-    returns
-    array-read-if2
-    array-read-if2-2
-    array-read-result
-    array-read-result-2
-    returns-2
-    add-i
-    loop-less
-    loop-again
-    returns-3)
+    (tie.spec Inv-loop μ-loop (λ c κs. search needs) (λ c κs. search needs) loop-holds returns (λ c. search needs)
+    (λ c. search needs) (λ c. search needs) (λ c. search needs) returns-2 (λ c. search needs) (λ c. search needs)
+    loop-again returns-3)

@@ -1,4 +1,4 @@
--- The pass over the attachments, left at the first that names what is not there. Assumes nothing.
+-- The pass over the attachments, left at the first that names what is not there.
 use mathlib.Core.Path.{_≡_, sym, _∙_}
 use mathlib.Core.List.{map}
 use Prim.Native.Nat.{_≤_, _-_}
@@ -22,38 +22,17 @@ Inv-loop facts nodes first attachments count k₀ k =
 abbrev μ-loop : tie.MeasureT-loop
 μ-loop facts nodes first attachments count k₀ k = count - k
 
-least-requires : tie.Need-least-requires Inv-loop μ-loop
-least-requires c κs = search needs
-
 loop-holds : tie.Need-loop-holds Inv-loop μ-loop
 loop-holds c =
     let x = c .before .args .t3 in
     let long : length (x .items) ≡ 32 = simp length-map at (c .before .good .1 .1 .0 .1 .1 .1 .0 .1 .0 .1) in
     (omega arith, omega (arith, c .least .ensures, min-le-right (x .count) 32), c .least .ensures ∙ sym (length-front attachmentOf (x .items) (x .count) 32 long), λ P e h. going (c .before .args .first) (attachmentFaults P x) P)
 
-mul-attachment-sound : tie.Need-mul-attachment-sound Inv-loop μ-loop
-mul-attachment-sound c = search needs
-
-element-copy-out-attachment-sound : tie.Need-element-copy-out-attachment-sound Inv-loop μ-loop
-element-copy-out-attachment-sound c = search needs
-
-attachment-sound-requires : tie.Need-attachment-sound-requires Inv-loop μ-loop
-attachment-sound-requires c κs = search needs
-
-add-t15 : tie.Need-add-t15 Inv-loop μ-loop
-add-t15 c = search needs
-
 returns : tie.Need-returns Inv-loop μ-loop
 returns c =
     let a = c .before .before .before .before .before .before .args in let l = c .before .before .before .before .loop in let r = c .before .attachment-sound in λ P e h.
     one-faulty (paper.attachmentSound P) attachmentOf (a .t3 .items) (a .t3 .count) _ (l .inv .2) (a .first) P (l .k) (l .inv .3 P e h) _ (c .before .before .before .loop-test .taken)
     (sym (r .ensures P e h) ∙ not-true (r .result) (c .if1 .taken))
-
-add-k : tie.Need-add-k Inv-loop μ-loop
-add-k c = search needs
-
-loop-less : tie.Need-loop-less Inv-loop μ-loop
-loop-less c = search needs
 
 loop-again : tie.Need-loop-again Inv-loop μ-loop
 loop-again c =
@@ -74,17 +53,5 @@ returns-2 c =
 pub attachment-faults-spec : {M : Type 1} → statement M
 attachment-faults-spec =
     tie.close
-    (tie.spec
-    Inv-loop
-    μ-loop
-    least-requires
-    loop-holds
-    mul-attachment-sound
-    element-copy-out-attachment-sound
-    attachment-sound-requires
-    add-t15
-    returns
-    add-k
-    loop-less
-    loop-again
-    returns-2)
+    (tie.spec Inv-loop μ-loop (λ c κs. search needs) loop-holds (λ c. search needs) (λ c. search needs)
+    (λ c κs. search needs) (λ c. search needs) returns (λ c. search needs) (λ c. search needs) loop-again returns-2)

@@ -1,4 +1,4 @@
--- The pass over the edges, left at the first that names what is not there. Assumes nothing.
+-- The pass over the edges, left at the first that names what is not there.
 use mathlib.Core.Path.{_≡_, sym, _∙_}
 use mathlib.Core.List.{map}
 use Prim.Native.Nat.{_≤_, _-_}
@@ -22,38 +22,17 @@ Inv-loop nodes first edges count k₀ k =
 abbrev μ-loop : tie.MeasureT-loop
 μ-loop nodes first edges count k₀ k = count - k
 
-least-requires : tie.Need-least-requires Inv-loop μ-loop
-least-requires c κs = search needs
-
 loop-holds : tie.Need-loop-holds Inv-loop μ-loop
 loop-holds c =
     let x = c .before .args .t2 in
     let long : length (x .items) ≡ 64 = simp length-map at (c .before .good .1 .0 .1 .1 .1 .0 .1 .0 .1) in
     (omega arith, omega (arith, c .least .ensures, min-le-right (x .count) 64), c .least .ensures ∙ sym (length-front edgeOf (x .items) (x .count) 64 long), λ P e. going (c .before .args .first) (edgeFaults P x) P)
 
-mul-edge-sound : tie.Need-mul-edge-sound Inv-loop μ-loop
-mul-edge-sound c = search needs
-
-element-copy-out-edge-sound : tie.Need-element-copy-out-edge-sound Inv-loop μ-loop
-element-copy-out-edge-sound c = search needs
-
-edge-sound-requires : tie.Need-edge-sound-requires Inv-loop μ-loop
-edge-sound-requires c κs = search needs
-
-add-t14 : tie.Need-add-t14 Inv-loop μ-loop
-add-t14 c = search needs
-
 returns : tie.Need-returns Inv-loop μ-loop
 returns c =
     let a = c .before .before .before .before .before .before .args in let l = c .before .before .before .before .loop in let r = c .before .edge-sound in λ P e.
     one-faulty (paper.edgeSound P) edgeOf (a .t2 .items) (a .t2 .count) _ (l .inv .2) (a .first) P (l .k) (l .inv .3 P e) _ (c .before .before .before .loop-test .taken)
     (sym (r .ensures P e) ∙ not-true (r .result) (c .if1 .taken))
-
-add-k : tie.Need-add-k Inv-loop μ-loop
-add-k c = search needs
-
-loop-less : tie.Need-loop-less Inv-loop μ-loop
-loop-less c = search needs
 
 loop-again : tie.Need-loop-again Inv-loop μ-loop
 loop-again c =
@@ -74,17 +53,5 @@ returns-2 c =
 pub edge-faults-spec : {M : Type 1} → statement M
 edge-faults-spec =
     tie.close
-    (tie.spec
-    Inv-loop
-    μ-loop
-    least-requires
-    loop-holds
-    mul-edge-sound
-    element-copy-out-edge-sound
-    edge-sound-requires
-    add-t14
-    returns
-    add-k
-    loop-less
-    loop-again
-    returns-2)
+    (tie.spec Inv-loop μ-loop (λ c κs. search needs) loop-holds (λ c. search needs) (λ c. search needs)
+    (λ c κs. search needs) (λ c. search needs) returns (λ c. search needs) (λ c. search needs) loop-again returns-2)

@@ -1,4 +1,4 @@
--- Refusal 4 over all kinds in their order. Assumes nothing.
+-- Refusal 4 over all kinds in their order.
 use mathlib.Core.Path.{_≡_, refl, sym, ap, _∙_}
 use mathlib.Core.List.{List, _++_}
 use Prim.Native.Nat.{ℕ, _+_}
@@ -92,20 +92,11 @@ module _ (p : Plan) (n : Counts) (h : CountsOf (planOf p) n) where
     over-bars : SaysFirst P at-bars (barFaults P (p .bars)) r → SaysFirst P (at-bars + n .bars) (statusFaults P (p .statuses)) s → SaysFirst P at-bars from-bars s
     over-bars is z = kind-passed at-bars (at-bars + n .bars) (barFaults P (p .bars)) (statusFaults P (p .statuses)) P r long-bars is e z
 
-count-records-requires : tie.Need-count-records-requires
-count-records-requires c κs = search needs
-
 add-at-nodes : tie.Need-add-at-nodes
 add-at-nodes c = omega (arith, c .before .before .count-records .ensures .1)
 
 node-faults-requires : tie.Need-node-faults-requires
 node-faults-requires c κs = omega (arith, c .before .before .before .count-records .ensures .1)
-
-enum-told : tie.Need-enum-told
-enum-told c = search needs
-
-enum-told-2 : tie.Need-enum-told-2
-enum-told-2 c = search needs
 
 returns : tie.Need-returns
 unfolding planOf
@@ -119,12 +110,6 @@ add-at-edges c = omega (arith, c .before .before .before .before .before .before
 edge-faults-requires : tie.Need-edge-faults-requires
 edge-faults-requires c κs = omega (arith, c .before .before .before .before .before .before .before .before .count-records .ensures .1)
 
-enum-told-3 : tie.Need-enum-told-3
-enum-told-3 c = search needs
-
-enum-told-4 : tie.Need-enum-told-4
-enum-told-4 c = search needs
-
 returns-2 : tie.Need-returns-2
 unfolding planOf
 returns-2 c =
@@ -136,12 +121,6 @@ add-at-cuts c = omega (arith, c .before .before .before .before .before .before 
 
 cut-faults-requires : tie.Need-cut-faults-requires
 cut-faults-requires c κs = omega (arith, c .before .before .before .before .before .before .before .before .before .before .before .before .before .count-records .ensures .1)
-
-enum-told-5 : tie.Need-enum-told-5
-enum-told-5 c = search needs
-
-enum-told-6 : tie.Need-enum-told-6
-enum-told-6 c = search needs
 
 returns-3 : tie.Need-returns-3
 unfolding planOf
@@ -156,12 +135,6 @@ add-at-attachments c = omega (arith, c .before .before .before .before .before .
 attachment-faults-requires : tie.Need-attachment-faults-requires
 attachment-faults-requires c κs = omega (arith, c .before .before .before .before .before .before .before .before .before .before .before .before .before .before .before .before .before .before .count-records .ensures .1)
 
-enum-told-7 : tie.Need-enum-told-7
-enum-told-7 c = search needs
-
-enum-told-8 : tie.Need-enum-told-8
-enum-told-8 c = search needs
-
 returns-4 : tie.Need-returns-4
 unfolding planOf
 returns-4 c =
@@ -175,12 +148,6 @@ add-at-bars c = omega (arith, c .before .before .before .before .before .before 
 
 bar-faults-requires : tie.Need-bar-faults-requires
 bar-faults-requires c κs = omega (arith, c .before .before .before .before .before .before .before .before .before .before .before .before .before .before .before .before .before .before .before .before .before .before .before .count-records .ensures .1)
-
-enum-told-9 : tie.Need-enum-told-9
-enum-told-9 c = search needs
-
-enum-told-10 : tie.Need-enum-told-10
-enum-told-10 c = search needs
 
 returns-5 : tie.Need-returns-5
 unfolding planOf
@@ -210,33 +177,8 @@ returns-6 c =
 pub naming-spec : {M : Type 1} → statement M
 naming-spec =
     tie.close
-    (tie.spec
-    count-records-requires
-    add-at-nodes
-    node-faults-requires
-    enum-told
-    enum-told-2
-    returns
-    add-at-edges
-    edge-faults-requires
-    enum-told-3
-    enum-told-4
-    returns-2
-    add-at-cuts
-    cut-faults-requires
-    enum-told-5
-    enum-told-6
-    returns-3
-    add-at-attachments
-    attachment-faults-requires
-    enum-told-7
-    enum-told-8
-    returns-4
-    add-at-bars
-    bar-faults-requires
-    enum-told-9
-    enum-told-10
-    returns-5
-    add-status-faults
-    status-faults-requires
-    returns-6)
+    (tie.spec (λ c κs. search needs) add-at-nodes node-faults-requires (λ c. search needs) (λ c. search needs) returns
+    add-at-edges edge-faults-requires (λ c. search needs) (λ c. search needs) returns-2 add-at-cuts
+    cut-faults-requires (λ c. search needs) (λ c. search needs) returns-3 add-at-attachments
+    attachment-faults-requires (λ c. search needs) (λ c. search needs) returns-4 add-at-bars bar-faults-requires
+    (λ c. search needs) (λ c. search needs) returns-5 add-status-faults status-faults-requires returns-6)

@@ -1,4 +1,4 @@
--- The pass over the nodes, left at the first that names no fact or no lower node. Assumes nothing.
+-- The pass over the nodes, left at the first that names no fact or no lower node.
 use mathlib.Core.Path.{_≡_, sym, _∙_}
 use mathlib.Core.List.{map}
 use Prim.Native.Nat.{_≤_, _-_}
@@ -22,38 +22,17 @@ Inv-loop facts first nodes count k₀ k =
 abbrev μ-loop : tie.MeasureT-loop
 μ-loop facts first nodes count k₀ k = count - k
 
-least-requires : tie.Need-least-requires Inv-loop μ-loop
-least-requires c κs = search needs
-
 loop-holds : tie.Need-loop-holds Inv-loop μ-loop
 loop-holds c =
     let x = c .before .args .t2 in
     let long : length (x .items) ≡ 256 = simp length-map at (c .before .good .1 .0 .1 .1 .1 .0 .1 .0 .1) in
     (omega arith, omega (arith, c .least .ensures, min-le-right (x .count) 256), c .least .ensures ∙ sym (length-front nodeOf (x .items) (x .count) 256 long), λ P e. going (c .before .args .first) (nodeFaults P x) P)
 
-mul-node-sound : tie.Need-mul-node-sound Inv-loop μ-loop
-mul-node-sound c = search needs
-
-element-copy-out-node-sound : tie.Need-element-copy-out-node-sound Inv-loop μ-loop
-element-copy-out-node-sound c = search needs
-
-node-sound-requires : tie.Need-node-sound-requires Inv-loop μ-loop
-node-sound-requires c κs = search needs
-
-add-t14 : tie.Need-add-t14 Inv-loop μ-loop
-add-t14 c = search needs
-
 returns : tie.Need-returns Inv-loop μ-loop
 returns c =
     let a = c .before .before .before .before .before .before .args in let l = c .before .before .before .before .loop in let r = c .before .node-sound in λ P e.
     node-faulty P (a .t2 .items) (a .t2 .count) _ (l .inv .2) (a .first) (l .k) (l .inv .3 P e) _ (c .before .before .before .loop-test .taken)
     (sym (r .ensures P e) ∙ not-true (r .result) (c .if1 .taken))
-
-add-k : tie.Need-add-k Inv-loop μ-loop
-add-k c = search needs
-
-loop-less : tie.Need-loop-less Inv-loop μ-loop
-loop-less c = search needs
 
 loop-again : tie.Need-loop-again Inv-loop μ-loop
 loop-again c =
@@ -74,17 +53,5 @@ returns-2 c =
 pub node-faults-spec : {M : Type 1} → statement M
 node-faults-spec =
     tie.close
-    (tie.spec
-    Inv-loop
-    μ-loop
-    least-requires
-    loop-holds
-    mul-node-sound
-    element-copy-out-node-sound
-    node-sound-requires
-    add-t14
-    returns
-    add-k
-    loop-less
-    loop-again
-    returns-2)
+    (tie.spec Inv-loop μ-loop (λ c κs. search needs) loop-holds (λ c. search needs) (λ c. search needs)
+    (λ c κs. search needs) (λ c. search needs) returns (λ c. search needs) (λ c. search needs) loop-again returns-2)

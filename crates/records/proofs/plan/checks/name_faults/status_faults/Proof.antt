@@ -1,4 +1,4 @@
--- The pass over the statuses, left at the first that names no node. Assumes nothing.
+-- The pass over the statuses, left at the first that names no node.
 use mathlib.Core.Path.{_≡_, sym, ap, _∙_}
 use Prim.Native.Nat.{_≤_, _-_}
 use native.Mathlib.Nat.{min-le-right}
@@ -27,26 +27,11 @@ Inv-loop nodes first statuses count k₀ k =
 abbrev μ-loop : tie.MeasureT-loop
 μ-loop nodes first statuses count k₀ k = count - k
 
-least-requires : tie.Need-least-requires Inv-loop μ-loop
-least-requires c κs = search needs
-
 loop-holds : tie.Need-loop-holds Inv-loop μ-loop
 loop-holds c =
     let x = c .before .args .t2 in
     let long : length (x .items) ≡ 32 = simp length-map at (c .before .good .1 .0 .1 .1 .1 .0 .1 .0 .1) in
     (omega arith, omega (arith, c .least .ensures, min-le-right (x .count) 32), c .least .ensures ∙ sym (length-front statusOf (x .items) (x .count) 32 long), λ P e. going (c .before .args .first) (statusFaults P x) P)
-
-mul-wide : tie.Need-mul-wide Inv-loop μ-loop
-mul-wide c = search needs
-
-element-copy-out-wide : tie.Need-element-copy-out-wide Inv-loop μ-loop
-element-copy-out-wide c = search needs
-
-wide-requires : tie.Need-wide-requires Inv-loop μ-loop
-wide-requires c κs = search needs
-
-add-t14 : tie.Need-add-t14 Inv-loop μ-loop
-add-t14 c = search needs
 
 returns : tie.Need-returns Inv-loop μ-loop
 unfolding statusOf
@@ -55,12 +40,6 @@ returns c =
     let w : c .before .wide .result ≡ (getD (a .t2 .items) (l .k) none) .condition = c .before .wide .ensures .0 in λ P e.
     one-faulty (λ t. paper.nodeNumber P (t .condition)) statusOf (a .t2 .items) (a .t2 .count) _ (l .inv .2) (a .first) P (l .k) (l .inv .3 P e) none (c .before .before .loop-test .taken)
     (ap (ltb _) (sym e) ∙ le-ltb ((getD (a .t2 .items) (l .k) none) .condition) (a .nodes) (omega (arith, c .if1 .taken, w)))
-
-add-k : tie.Need-add-k Inv-loop μ-loop
-add-k c = search needs
-
-loop-less : tie.Need-loop-less Inv-loop μ-loop
-loop-less c = search needs
 
 loop-again : tie.Need-loop-again Inv-loop μ-loop
 unfolding statusOf
@@ -83,17 +62,5 @@ returns-2 c =
 pub status-faults-spec : {M : Type 1} → statement M
 status-faults-spec =
     tie.close
-    (tie.spec
-    Inv-loop
-    μ-loop
-    least-requires
-    loop-holds
-    mul-wide
-    element-copy-out-wide
-    wide-requires
-    add-t14
-    returns
-    add-k
-    loop-less
-    loop-again
-    returns-2)
+    (tie.spec Inv-loop μ-loop (λ c κs. search needs) loop-holds (λ c. search needs) (λ c. search needs)
+    (λ c κs. search needs) (λ c. search needs) returns (λ c. search needs) (λ c. search needs) loop-again returns-2)

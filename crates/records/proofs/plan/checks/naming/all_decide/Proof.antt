@@ -1,4 +1,4 @@
--- A loop over the edges of the decisions, left at the first that is no edge. Assumes nothing.
+-- A loop over the edges of the decisions, left at the first that is no edge.
 use Rattle.records.specs.code.Named.{allUnder}
 use Rattle.records.proofs.ListLaws.{all-goes, all-fails, all-ends}
 use mathlib.Core.Path.{_≡_, refl, sym, _∙_}
@@ -20,17 +20,8 @@ Inv-loop edges list count i₀ i = (i ≤ count) × (count < 256) × (allUnder e
 abbrev μ-loop : tie.MeasureT-loop
 μ-loop edges list count i₀ i = count - i
 
-wide-requires : tie.Need-wide-requires Inv-loop μ-loop
-wide-requires c κs = search needs
-
 loop-holds : tie.Need-loop-holds Inv-loop μ-loop
 loop-holds c = (omega arith, c .wide .ensures .1, refl)
-
-entry-requires : tie.Need-entry-requires Inv-loop μ-loop
-entry-requires c κs = search needs
-
-wide-requires-2 : tie.Need-wide-requires-2 Inv-loop μ-loop
-wide-requires-2 c κs = search needs
 
 returns : tie.Need-returns Inv-loop μ-loop
 returns c =
@@ -40,12 +31,6 @@ returns c =
     let t : ltb (getD es (l .i) 0) (s .edges) ≡ false = rw (getD-below n (λ i. getD (s .decisions .edges) i 0) 0 (l .i) (omega arith), ← c .before .before .entry .ensures, ← c .before .wide2 .ensures .0) (le-ltb _ _ (c .if1 .taken)) in
     all-fails (λ (x : ℕ). ltb x (s .edges)) es (l .i) 0 (allUnder (s .edges) es) (omega arith) t (l .inv .2)
     ∙ rw (c .before .before .before .before .before .wide .ensures .0) (sym (all-edges (λ (x : ℕ). ltb x (s .edges)) (s .decisions)))
-
-add-i : tie.Need-add-i Inv-loop μ-loop
-add-i c = search needs
-
-loop-less : tie.Need-loop-less Inv-loop μ-loop
-loop-less c = search needs
 
 loop-again : tie.Need-loop-again Inv-loop μ-loop
 loop-again c =
@@ -66,15 +51,5 @@ returns-2 c =
 pub all-decide-spec : {M : Type 1} → statement M
 all-decide-spec =
     tie.close
-    (tie.spec
-    Inv-loop
-    μ-loop
-    wide-requires
-    loop-holds
-    entry-requires
-    wide-requires-2
-    returns
-    add-i
-    loop-less
-    loop-again
-    returns-2)
+    (tie.spec Inv-loop μ-loop (λ c κs. search needs) loop-holds (λ c κs. search needs) (λ c κs. search needs) returns
+    (λ c. search needs) (λ c. search needs) loop-again returns-2)

@@ -1,4 +1,4 @@
--- A loop over the numbers, left at the first that is not under the bound. Assumes nothing.
+-- A loop over the numbers, left at the first that is not under the bound.
 use mathlib.Core.Path.{_≡_, refl, _∙_}
 use mathlib.Core.Bool.{true, false}
 use Prim.Native.Nat.{ℕ, _≤_, _-_}
@@ -20,20 +20,8 @@ Inv-loop bound items count i₀ i = (i ≤ count) × (count ≤ 16) × (allUnder
 abbrev μ-loop : tie.MeasureT-loop
 μ-loop bound items count i₀ i = count - i
 
-wide-requires : tie.Need-wide-requires Inv-loop μ-loop
-wide-requires c κs = search needs
-
-least-requires : tie.Need-least-requires Inv-loop μ-loop
-least-requires c κs = search needs
-
 loop-holds : tie.Need-loop-holds Inv-loop μ-loop
 loop-holds c = (omega arith, omega (arith, c .least .ensures), refl)
-
-array-read-wide : tie.Need-array-read-wide Inv-loop μ-loop
-array-read-wide c = search needs
-
-wide-requires-2 : tie.Need-wide-requires-2 Inv-loop μ-loop
-wide-requires-2 c κs = search needs
 
 returns : tie.Need-returns Inv-loop μ-loop
 unfolding numbersOf
@@ -44,12 +32,6 @@ returns c =
     let front : length (take n xs) ≡ n = length-take-le n xs (omega arith) in
     let t : ltb (getD (take n xs) (l .i) 0) b ≡ false = rw (getD-take n xs (l .i) 0 (omega arith), ← c .before .wide2 .ensures .0) (le-ltb _ _ (c .if1 .taken)) in
     all-fails (λ (x : ℕ). ltb x b) (take n xs) (l .i) 0 (allUnder b (take n xs)) (omega arith) t (l .inv .2) ∙ rw (c .before .before .before .before .least .ensures, take-min _ 16 xs long, c .before .before .before .before .before .wide .ensures .0)
-
-add-i : tie.Need-add-i Inv-loop μ-loop
-add-i c = search needs
-
-loop-less : tie.Need-loop-less Inv-loop μ-loop
-loop-less c = search needs
 
 loop-again : tie.Need-loop-again Inv-loop μ-loop
 loop-again c =
@@ -72,16 +54,5 @@ returns-2 c =
 pub all-under-spec : {M : Type 1} → statement M
 all-under-spec =
     tie.close
-    (tie.spec
-    Inv-loop
-    μ-loop
-    wide-requires
-    least-requires
-    loop-holds
-    array-read-wide
-    wide-requires-2
-    returns
-    add-i
-    loop-less
-    loop-again
-    returns-2)
+    (tie.spec Inv-loop μ-loop (λ c κs. search needs) (λ c κs. search needs) loop-holds (λ c. search needs)
+    (λ c κs. search needs) returns (λ c. search needs) (λ c. search needs) loop-again returns-2)

@@ -1,4 +1,4 @@
--- Condition and election of an attachment. Assumes nothing.
+-- Condition and election of an attachment.
 use borrow.Author.Tests.{lt-ltb, le-ltb}
 use Rattle.records.specs.code.Decoded.{attachmentOf}
 use Rattle.records.specs.paper.Plan.{attachmentSound}
@@ -6,15 +6,9 @@ use borrow.Author.Needs.{needs}
 use Rattle.records.proofs.plan.checks.naming.attachment_sound.Statement.{statement}
 use Rattle.records.proofs.plan.checks.naming.attachment_sound.Tie as tie
 
-wide-requires : tie.Need-wide-requires
-wide-requires c κs = search needs
-
 returns : tie.Need-returns
 unfolding attachmentOf attachmentSound
 returns c = λ P f n. rw (← n, ← c .before .wide .ensures .0, le-ltb _ _ (c .if1 .taken))
-
-election-sound-requires : tie.Need-election-sound-requires
-election-sound-requires c κs = search needs
 
 returns-2 : tie.Need-returns-2
 unfolding attachmentOf attachmentSound
@@ -23,4 +17,4 @@ returns-2 c = λ P f n.
 
 pub attachment-sound-spec : {M : Type 1} → statement M
 attachment-sound-spec =
-    tie.close (tie.spec wide-requires returns election-sound-requires returns-2)
+    tie.close (tie.spec (λ c κs. search needs) returns (λ c κs. search needs) returns-2)

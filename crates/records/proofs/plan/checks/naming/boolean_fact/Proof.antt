@@ -1,4 +1,4 @@
--- A number of a boolean fact. Assumes nothing.
+-- A number of a boolean fact.
 use mathlib.Core.List.{[]}
 use Rattle.records.specs.declared.plan.Fact.{Fact}
 use mathlib.Core.Path.{_≡_}
@@ -14,24 +14,12 @@ use borrow.Author.Needs.{needs}
 use Rattle.records.proofs.plan.checks.naming.boolean_fact.Statement.{statement}
 use Rattle.records.proofs.plan.checks.naming.boolean_fact.Tie as tie
 
-least-requires : tie.Need-least-requires
-least-requires c κs = search needs
-
-wide-requires : tie.Need-wide-requires
-wide-requires c κs = search needs
-
 returns : tie.Need-returns
 unfolding getFact
 returns c = λ P e.
     let s = c .before .before .before in let n = s .args .t1 .count in let xs = s .args .t1 .items in
     let long : length xs ≡ 64 = simp length-map at (s .good .0 .1 .1 .1 .0 .1 .0 .1) in
     rw (← e, length-front factOf xs n 64 long, ← c .before .before .least .ensures, ← c .before .wide .ensures .0, le-ltb _ _ (c .if1 .taken))
-
-mul-result : tie.Need-mul-result
-mul-result c = search needs
-
-element-copy-out-result : tie.Need-element-copy-out-result
-element-copy-out-result c = search needs
 
 returns-2 : tie.Need-returns-2
 unfolding getFact
@@ -45,4 +33,4 @@ returns-2 c = λ P e.
 pub boolean-fact-spec : {M : Type 1} → statement M
 boolean-fact-spec =
     tie.close
-    (tie.spec least-requires wide-requires returns mul-result element-copy-out-result returns-2)
+    (tie.spec (λ c κs. search needs) (λ c κs. search needs) returns (λ c. search needs) (λ c. search needs) returns-2)

@@ -1,4 +1,4 @@
--- Condition, election, decisions and preceded cuts of a cut. Assumes nothing.
+-- Condition, election, decisions and preceded cuts of a cut.
 use mathlib.Core.Path.{_≡_, sym, ap, _∙_}
 use mathlib.Core.Bool.{true, false}
 use Prim.Native.Nat.{ℕ}
@@ -11,24 +11,15 @@ use borrow.Author.Needs.{needs}
 use Rattle.records.proofs.plan.checks.naming.cut_sound.Statement.{statement}
 use Rattle.records.proofs.plan.checks.naming.cut_sound.Tie as tie
 
-wide-requires : tie.Need-wide-requires
-wide-requires c κs = search needs
-
 returns : tie.Need-returns
 unfolding cutOf cutSound
 returns c = λ P f n. rw (← n .nodes, ← c .before .before .wide .ensures .0, le-ltb _ _ (c .if1 .taken))
-
-election-sound-requires : tie.Need-election-sound-requires
-election-sound-requires c κs = search needs
 
 returns-2 : tie.Need-returns-2
 unfolding cutOf cutSound
 returns-2 c = λ P f n.
     let e = sym (c .before .election-sound .ensures P f) ∙ not-true _ (c .if2 .taken) in
     rw (← n .nodes, ← c .before .before .before .before .before .wide .ensures .0, lt-ltb _ _ (c .before .before .before .if1 .left), e)
-
-all-decide-requires : tie.Need-all-decide-requires
-all-decide-requires c κs = search needs
 
 returns-3 : tie.Need-returns-3
 unfolding cutOf cutSound
@@ -37,9 +28,6 @@ returns-3 c = λ P f n.
     let e = sym (c .before .before .before .before .election-sound .ensures P f) ∙ not-false _ (c .before .before .before .if2 .left) in
     let d : allDecide (length (P .edges)) ds ≡ false = ap (λ (k : ℕ). allDecide k ds) (sym (n .edges)) ∙ sym (c .before .all-decide .ensures) ∙ not-true _ (c .if3 .taken) in
     rw (← n .nodes, ← c .before .before .before .before .before .before .before .before .wide .ensures .0, lt-ltb _ _ (c .before .before .before .before .before .before .if1 .left), e, d)
-
-all-under-requires : tie.Need-all-under-requires
-all-under-requires c κs = search needs
 
 returns-4 : tie.Need-returns-4
 unfolding cutOf cutSound
@@ -53,12 +41,5 @@ returns-4 c = λ P f n.
 pub cut-sound-spec : {M : Type 1} → statement M
 cut-sound-spec =
     tie.close
-    (tie.spec
-    wide-requires
-    returns
-    election-sound-requires
-    returns-2
-    all-decide-requires
-    returns-3
-    all-under-requires
-    returns-4)
+    (tie.spec (λ c κs. search needs) returns (λ c κs. search needs) returns-2 (λ c κs. search needs) returns-3
+    (λ c κs. search needs) returns-4)

@@ -1,4 +1,4 @@
--- The fact of an election that is given. Assumes nothing.
+-- The fact of an election that is given.
 use borrow.Author.Tests.{not-true, not-false}
 use Rattle.records.specs.code.Decoded.{electionOf}
 use Rattle.records.specs.paper.Plan.{electionSound}
@@ -11,12 +11,9 @@ returns : tie.Need-returns
 unfolding electionOf electionSound
 returns c = λ P e. rw (all-given, not-true (c .before .before .args .election .given) (c .if1 .taken))
 
-boolean-fact-requires : tie.Need-boolean-fact-requires
-boolean-fact-requires c κs = search needs
-
 returns-2 : tie.Need-returns-2
 unfolding electionOf electionSound
 returns-2 c = λ P e. rw (all-given, not-false (c .before .before .before .args .election .given) (c .before .if1 .left)) (c .boolean-fact .ensures P e)
 
 pub election-sound-spec : {M : Type 1} → statement M
-election-sound-spec = tie.close (tie.spec returns boolean-fact-requires returns-2)
+election-sound-spec = tie.close (tie.spec returns (λ c κs. search needs) returns-2)

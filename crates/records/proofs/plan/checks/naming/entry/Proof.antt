@@ -1,4 +1,4 @@
--- An entry of an array, 0 past its end. Assumes nothing.
+-- An entry of an array, 0 past its end.
 use mathlib.Core.Path.{_≡_, sym}
 use native.Mathlib.Omega.{arith}
 use lib.ListN.{length, List·getD-eq-default}
@@ -12,11 +12,5 @@ returns c =
     let long : length xs ≡ 64 = search needs in
     sym (List·getD-eq-default xs 0 (omega arith))
 
-array-read-result : tie.Need-array-read-result
-array-read-result c = search needs
-
-returns-2 : tie.Need-returns-2
-returns-2 c = search needs
-
 pub entry-spec : {M : Type 1} → statement M
-entry-spec = tie.close (tie.spec returns array-read-result returns-2)
+entry-spec = tie.close (tie.spec returns (λ c. search needs) (λ c. search needs))

@@ -1,4 +1,4 @@
--- A node by its sort. Assumes nothing.
+-- A node by its sort.
 use mathlib.Core.Path.{ap, _∙_}
 use Prim.Native.Nat.{ℕ}
 use lib.Dec.{ltb}
@@ -13,23 +13,14 @@ returns : tie.Need-returns
 unfolding nodeOf nodeSound nodeBy
 returns c = λ P e. rw (c .if1 .taken)
 
-wide-requires : tie.Need-wide-requires
-wide-requires c κs = search needs
-
 returns-2 : tie.Need-returns-2
 unfolding nodeOf nodeSound nodeBy
 returns-2 c = λ P e. rw (c .before .if2 .taken, e, c .wide .ensures .0)
-
-wide-requires-2 : tie.Need-wide-requires-2
-wide-requires-2 c κs = search needs
 
 returns-3 : tie.Need-returns-3
 unfolding nodeOf
 returns-3 c = λ P e. let s = c .before .before .before .before .args in
     ap (λ (x : ℕ). ltb x (s .k)) (c .wide2 .ensures .0) ∙ neg-sound P (s .k) (s .node .sort) (s .node .number) _ (c .before .if3 .taken)
-
-all-under-requires : tie.Need-all-under-requires
-all-under-requires c κs = search needs
 
 returns-4 : tie.Need-returns-4
 unfolding nodeOf
@@ -39,11 +30,5 @@ returns-4 c = λ P e. let s = c .before .before .before .before .before .args in
 pub node-sound-spec : {M : Type 1} → statement M
 node-sound-spec =
     tie.close
-    (tie.spec
-    returns
-    wide-requires
-    returns-2
-    wide-requires-2
-    returns-3
-    all-under-requires
+    (tie.spec returns (λ c κs. search needs) returns-2 (λ c κs. search needs) returns-3 (λ c κs. search needs)
     returns-4)

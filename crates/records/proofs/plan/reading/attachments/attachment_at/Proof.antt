@@ -1,4 +1,4 @@
--- Attachment from its bit map on. Assumes nothing.
+-- Attachment from its bit map on.
 use mathlib.Core.Path.{refl, sym, ap}
 use denote.Ref.{now}
 use Rattle.records.specs.paper.Fields.{little}
@@ -12,41 +12,14 @@ use borrow.Author.Needs.{needs}
 use Rattle.records.proofs.plan.reading.attachments.attachment_at.Statement.{statement}
 use Rattle.records.proofs.plan.reading.attachments.attachment_at.Tie as tie
 
-byte-at-requires : tie.Need-byte-at-requires
-byte-at-requires c κs = search needs
-
-enum-known-bits : tie.Need-enum-known-bits
-enum-known-bits c = search needs
-
-enum-told : tie.Need-enum-told
-enum-told c = search needs
-
 returns : tie.Need-returns
 returns c = sym (ap (mapRead (withBits paper.attachmentFrom)) (raw-bits paper.planFormats 6 (now (c .before .before .before .before .args .s)) (c .before .before .before .before .args .at) (seen fieldRead (c .before .before .byte-at .ensures) (c .enum-told .given .1))))
-
-mask-at-requires : tie.Need-mask-at-requires
-mask-at-requires c κs = search needs
-
-enum-known-members : tie.Need-enum-known-members
-enum-known-members c = search needs
-
-enum-told-2 : tie.Need-enum-told-2
-enum-told-2 c = search needs
 
 returns-2 : tie.Need-returns-2
 unfolding paper.planFormats
 returns-2 c =
     sym (ap (mapRead (withBits paper.attachmentFrom)) (raw-bad paper.planFormats 6 (now (c .before .before .before .before .before .before .before .before .args .s)) (c .before .before .before .before .before .before .before .before .args .at) (seen fieldRead (c .before .before .before .before .before .before .byte-at .ensures) (c .before .before .before .before .bits .given .1))
     (stop _ _ _ _ refl _ _ (none little _ (seen wideRead (c .before .before .mask-at .ensures) (c .enum-told2 .given .1))))))
-
-opt-at-requires : tie.Need-opt-at-requires
-opt-at-requires c κs = search needs
-
-enum-known-anchor : tie.Need-enum-known-anchor
-enum-known-anchor c = search needs
-
-enum-told-3 : tie.Need-enum-told-3
-enum-told-3 c = search needs
 
 returns-3 : tie.Need-returns-3
 unfolding paper.planFormats
@@ -55,15 +28,6 @@ returns-3 c =
     (skip _ _ _ _ refl _ _ (found little _ (seen wideRead (c .before .before .before .before .before .before .mask-at .ensures) (c .before .before .before .before .members .given .1)) .is)
     (stop _ _ _ _ (half-of _ 2) _ _ (none first _ (seen fieldRead (c .before .before .opt-at .ensures) (c .enum-told3 .given .1)))))))
 
-opt-at-requires-2 : tie.Need-opt-at-requires-2
-opt-at-requires-2 c κs = search needs
-
-enum-known-condition : tie.Need-enum-known-condition
-enum-known-condition c = search needs
-
-enum-told-4 : tie.Need-enum-told-4
-enum-told-4 c = search needs
-
 returns-4 : tie.Need-returns-4
 unfolding paper.planFormats
 returns-4 c =
@@ -71,15 +35,6 @@ returns-4 c =
     (skip _ _ _ _ refl _ _ (found little _ (seen wideRead (c .before .before .before .before .before .before .before .before .before .before .mask-at .ensures) (c .before .before .before .before .before .before .before .before .members .given .1)) .is)
     (skip _ _ _ _ (half-of _ 2) _ _ (found first _ (seen fieldRead (c .before .before .before .before .before .before .opt-at .ensures) (c .before .before .before .before .anchor .given .1)) .is)
     (stop _ _ _ _ (half-of _ 4) _ _ (none first _ (seen fieldRead (c .before .before .opt-at2 .ensures) (c .enum-told4 .given .1))))))))
-
-opt-at-requires-3 : tie.Need-opt-at-requires-3
-opt-at-requires-3 c κs = search needs
-
-enum-known-citation : tie.Need-enum-known-citation
-enum-known-citation c = search needs
-
-enum-told-5 : tie.Need-enum-told-5
-enum-told-5 c = search needs
 
 returns-5 : tie.Need-returns-5
 unfolding paper.planFormats
@@ -90,15 +45,6 @@ returns-5 c =
     (skip _ _ _ _ (half-of _ 4) _ _ (found first _ (seen fieldRead (c .before .before .before .before .before .before .opt-at2 .ensures) (c .before .before .before .before .condition .given .1)) .is)
     (stop _ _ _ _ (half-of _ 8) _ _ (none first _ (seen fieldRead (c .before .before .opt-at3 .ensures) (c .enum-told5 .given .1)))))))))
 
-opt-at-requires-4 : tie.Need-opt-at-requires-4
-opt-at-requires-4 c κs = search needs
-
-enum-known-actor : tie.Need-enum-known-actor
-enum-known-actor c = search needs
-
-enum-told-6 : tie.Need-enum-told-6
-enum-told-6 c = search needs
-
 returns-6 : tie.Need-returns-6
 unfolding paper.planFormats
 returns-6 c =
@@ -108,15 +54,6 @@ returns-6 c =
     (skip _ _ _ _ (half-of _ 4) _ _ (found first _ (seen fieldRead (c .before .before .before .before .before .before .before .before .before .before .opt-at2 .ensures) (c .before .before .before .before .before .before .before .before .condition .given .1)) .is)
     (skip _ _ _ _ (half-of _ 8) _ _ (found first _ (seen fieldRead (c .before .before .before .before .before .before .opt-at3 .ensures) (c .before .before .before .before .citation .given .1)) .is)
     (stop _ _ _ _ (half-of _ 16) _ _ (none first _ (seen fieldRead (c .before .before .opt-at4 .ensures) (c .enum-told6 .given .1))))))))))
-
-election-at-requires : tie.Need-election-at-requires
-election-at-requires c κs = search needs
-
-enum-known-election : tie.Need-enum-known-election
-enum-known-election c = search needs
-
-enum-told-7 : tie.Need-enum-told-7
-enum-told-7 c = search needs
 
 returns-7 : tie.Need-returns-7
 unfolding paper.planFormats
@@ -164,34 +101,8 @@ returns-9 c =
 pub attachment-at-spec : {M : Type 1} → statement M
 attachment-at-spec =
     tie.close
-    (tie.spec
-    byte-at-requires
-    enum-known-bits
-    enum-told
-    returns
-    mask-at-requires
-    enum-known-members
-    enum-told-2
-    returns-2
-    opt-at-requires
-    enum-known-anchor
-    enum-told-3
-    returns-3
-    opt-at-requires-2
-    enum-known-condition
-    enum-told-4
-    returns-4
-    opt-at-requires-3
-    enum-known-citation
-    enum-told-5
-    returns-5
-    opt-at-requires-4
-    enum-known-actor
-    enum-told-6
-    returns-6
-    election-at-requires
-    enum-known-election
-    enum-told-7
-    returns-7
-    returns-8
-    returns-9)
+    (tie.spec (λ c κs. search needs) (λ c. search needs) (λ c. search needs) returns (λ c κs. search needs)
+    (λ c. search needs) (λ c. search needs) returns-2 (λ c κs. search needs) (λ c. search needs) (λ c. search needs)
+    returns-3 (λ c κs. search needs) (λ c. search needs) (λ c. search needs) returns-4 (λ c κs. search needs)
+    (λ c. search needs) (λ c. search needs) returns-5 (λ c κs. search needs) (λ c. search needs) (λ c. search needs)
+    returns-6 (λ c κs. search needs) (λ c. search needs) (λ c. search needs) returns-7 returns-8 returns-9)

@@ -1,4 +1,4 @@
--- The pass over the attachments. Assumes nothing.
+-- The pass over the attachments.
 use mathlib.Core.Path.{_≡_, refl}
 use mathlib.Core.Bool.{true, false}
 use Prim.Native.Nat.{_-_, _≤_}
@@ -23,37 +23,16 @@ Inv-loop s start before headed attachments₀ at₀ k₀ attachments at k =
 abbrev μ-loop : tie.MeasureT-loop
 μ-loop s start before headed attachments₀ at₀ k₀ attachments at k = length s - at
 
-no-attachments-requires : tie.Need-no-attachments-requires Inv-loop μ-loop
-no-attachments-requires c κs = search needs
-
 loop-holds : tie.Need-loop-holds Inv-loop μ-loop
 loop-holds c =
     let a = c .before .before .args in
     let e = c .no-attachments .ensures in
     (c .before .before .pre, omega (arith, e .1), e .2, going attachmentKind (now (a .s)) (a .headed) (a .start) (a .before) (attachmentsOf (c .no-attachments .result)) (e .0))
 
-shared-slice-read-if1 : tie.Need-shared-slice-read-if1 Inv-loop μ-loop
-shared-slice-read-if1 c = search needs
-
-add-attachment-at : tie.Need-add-attachment-at Inv-loop μ-loop
-add-attachment-at c = search needs
-
-attachment-at-requires : tie.Need-attachment-at-requires Inv-loop μ-loop
-attachment-at-requires c κs = search needs
-
-enum-known-bits : tie.Need-enum-known-bits Inv-loop μ-loop
-enum-known-bits c = search needs
-
-enum-told : tie.Need-enum-told Inv-loop μ-loop
-enum-told c = search needs
-
 returns : tie.Need-returns Inv-loop μ-loop
 returns c =
     let i = c .before .before .before .before .before .before .loop .inv in
     (refused-bad attachmentKind _ _ _ _ (i .3) (i .0) (c .before .before .before .before .before .loop-test .taken) (c .before .before .before .if1 .left) (seen attachmentRead (c .before .before .attachment-at .ensures) (c .enum-told .given .1)), i .0)
-
-judged-requires : tie.Need-judged-requires Inv-loop μ-loop
-judged-requires c κs = search needs
 
 returns-2 : tie.Need-returns-2 Inv-loop μ-loop
 returns-2 c =
@@ -62,17 +41,11 @@ returns-2 c =
     let j = judge-same 32 (l .count) (length (attachmentsOf l)) false false _ (fields.needs 31 (c .before .before .before .bits .given .0 .0)) (c .before .before .before .before .before .before .before .before .before .before .before .before .args .headed) true true (c .before .judged .ensures .0) (length-made attachmentOf (l .items) (l .count) (omega (arith, i .1, i .2))) refl (needs-test (c .before .before .before .bits .given .0 .0) 31) refl in
     (refused-judged attachmentKind _ _ _ _ (i .3) (i .0) (c .before .before .before .before .before .before .before .before .loop-test .taken) (c .before .before .before .before .before .before .if1 .left) tt (seen attachmentRead (c .before .before .before .before .before .attachment-at .ensures) (c .before .before .before .bits .given .1)) _ j (c .if2 .taken), i .0)
 
-mul-attachment : tie.Need-mul-attachment Inv-loop μ-loop
-mul-attachment c = search needs
-
 element-set-from-attachment : tie.Need-element-set-from-attachment Inv-loop μ-loop
 element-set-from-attachment c = let h = c .before .judged .ensures .1 (c .if2 .left) in search (needs, h)
 
 add-attachments : tie.Need-add-attachments Inv-loop μ-loop
 add-attachments c = let h = c .before .judged .ensures .1 (c .if2 .left) in search (needs, h)
-
-add-k : tie.Need-add-k Inv-loop μ-loop
-add-k c = search needs
 
 loop-less : tie.Need-loop-less Inv-loop μ-loop
 loop-less c =
@@ -108,24 +81,7 @@ returns-4 c =
 pub read-attachments-spec : {M : Type 1} → statement M
 read-attachments-spec =
     tie.close
-    (tie.spec
-    Inv-loop
-    μ-loop
-    no-attachments-requires
-    loop-holds
-    shared-slice-read-if1
-    add-attachment-at
-    attachment-at-requires
-    enum-known-bits
-    enum-told
-    returns
-    judged-requires
-    returns-2
-    mul-attachment
-    element-set-from-attachment
-    add-attachments
-    add-k
-    loop-less
-    loop-again
-    returns-3
+    (tie.spec Inv-loop μ-loop (λ c κs. search needs) loop-holds (λ c. search needs) (λ c. search needs)
+    (λ c κs. search needs) (λ c. search needs) (λ c. search needs) returns (λ c κs. search needs) returns-2
+    (λ c. search needs) element-set-from-attachment add-attachments (λ c. search needs) loop-less loop-again returns-3
     returns-4)

@@ -1,4 +1,4 @@
--- The pass over the bars. Assumes nothing.
+-- The pass over the bars.
 use mathlib.Core.Path.{_≡_, refl}
 use mathlib.Core.Bool.{true, false}
 use Prim.Native.Nat.{_-_, _≤_}
@@ -23,37 +23,16 @@ Inv-loop s start before headed bars₀ at₀ k₀ bars at k =
 abbrev μ-loop : tie.MeasureT-loop
 μ-loop s start before headed bars₀ at₀ k₀ bars at k = length s - at
 
-no-bars-requires : tie.Need-no-bars-requires Inv-loop μ-loop
-no-bars-requires c κs = search needs
-
 loop-holds : tie.Need-loop-holds Inv-loop μ-loop
 loop-holds c =
     let a = c .before .before .args in
     let e = c .no-bars .ensures in
     (c .before .before .pre, omega (arith, e .1), e .2, going barKind (now (a .s)) (a .headed) (a .start) (a .before) (barsOf (c .no-bars .result)) (e .0))
 
-shared-slice-read-if1 : tie.Need-shared-slice-read-if1 Inv-loop μ-loop
-shared-slice-read-if1 c = search needs
-
-add-bar-at : tie.Need-add-bar-at Inv-loop μ-loop
-add-bar-at c = search needs
-
-bar-at-requires : tie.Need-bar-at-requires Inv-loop μ-loop
-bar-at-requires c κs = search needs
-
-enum-known-bits : tie.Need-enum-known-bits Inv-loop μ-loop
-enum-known-bits c = search needs
-
-enum-told : tie.Need-enum-told Inv-loop μ-loop
-enum-told c = search needs
-
 returns : tie.Need-returns Inv-loop μ-loop
 returns c =
     let i = c .before .before .before .before .before .before .loop .inv in
     (refused-bad barKind _ _ _ _ (i .3) (i .0) (c .before .before .before .before .before .loop-test .taken) (c .before .before .before .if1 .left) (seen barRead (c .before .before .bar-at .ensures) (c .enum-told .given .1)), i .0)
-
-judged-requires : tie.Need-judged-requires Inv-loop μ-loop
-judged-requires c κs = search needs
 
 returns-2 : tie.Need-returns-2 Inv-loop μ-loop
 returns-2 c =
@@ -62,17 +41,11 @@ returns-2 c =
     let j = judge-same 32 (l .count) (length (barsOf l)) false false _ (fields.needs 7 (c .before .before .before .bits .given .0 .0)) (c .before .before .before .before .before .before .before .before .before .before .before .before .args .headed) true true (c .before .judged .ensures .0) (length-made barOf (l .items) (l .count) (omega (arith, i .1, i .2))) refl (needs-test (c .before .before .before .bits .given .0 .0) 7) refl in
     (refused-judged barKind _ _ _ _ (i .3) (i .0) (c .before .before .before .before .before .before .before .before .loop-test .taken) (c .before .before .before .before .before .before .if1 .left) tt (seen barRead (c .before .before .before .before .before .bar-at .ensures) (c .before .before .before .bits .given .1)) _ j (c .if2 .taken), i .0)
 
-mul-bar : tie.Need-mul-bar Inv-loop μ-loop
-mul-bar c = search needs
-
 element-set-from-bar : tie.Need-element-set-from-bar Inv-loop μ-loop
 element-set-from-bar c = let h = c .before .judged .ensures .1 (c .if2 .left) in search (needs, h)
 
 add-bars : tie.Need-add-bars Inv-loop μ-loop
 add-bars c = let h = c .before .judged .ensures .1 (c .if2 .left) in search (needs, h)
-
-add-k : tie.Need-add-k Inv-loop μ-loop
-add-k c = search needs
 
 loop-less : tie.Need-loop-less Inv-loop μ-loop
 loop-less c =
@@ -108,24 +81,6 @@ returns-4 c =
 pub read-bars-spec : {M : Type 1} → statement M
 read-bars-spec =
     tie.close
-    (tie.spec
-    Inv-loop
-    μ-loop
-    no-bars-requires
-    loop-holds
-    shared-slice-read-if1
-    add-bar-at
-    bar-at-requires
-    enum-known-bits
-    enum-told
-    returns
-    judged-requires
-    returns-2
-    mul-bar
-    element-set-from-bar
-    add-bars
-    add-k
-    loop-less
-    loop-again
-    returns-3
-    returns-4)
+    (tie.spec Inv-loop μ-loop (λ c κs. search needs) loop-holds (λ c. search needs) (λ c. search needs)
+    (λ c κs. search needs) (λ c. search needs) (λ c. search needs) returns (λ c κs. search needs) returns-2
+    (λ c. search needs) element-set-from-bar add-bars (λ c. search needs) loop-less loop-again returns-3 returns-4)

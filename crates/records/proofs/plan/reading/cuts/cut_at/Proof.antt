@@ -1,4 +1,4 @@
--- A cut from its bit map on. Assumes nothing.
+-- A cut from its bit map on.
 use mathlib.Core.Path.{refl, sym, ap}
 use denote.Ref.{now}
 use Rattle.records.specs.paper.Fields.{little}
@@ -11,26 +11,8 @@ use borrow.Author.Needs.{needs}
 use Rattle.records.proofs.plan.reading.cuts.cut_at.Statement.{statement}
 use Rattle.records.proofs.plan.reading.cuts.cut_at.Tie as tie
 
-byte-at-requires : tie.Need-byte-at-requires
-byte-at-requires c κs = search needs
-
-enum-known-bits : tie.Need-enum-known-bits
-enum-known-bits c = search needs
-
-enum-told : tie.Need-enum-told
-enum-told c = search needs
-
 returns : tie.Need-returns
 returns c = (sym (ap (mapRead (withBits paper.cutFrom)) (raw-bits paper.planFormats 5 (now (c .before .before .before .before .args .s)) (c .before .before .before .before .args .at) (seen fieldRead (c .before .before .byte-at .ensures) (c .enum-told .given .1)))), tt)
-
-mask-at-requires : tie.Need-mask-at-requires
-mask-at-requires c κs = search needs
-
-enum-known-members : tie.Need-enum-known-members
-enum-known-members c = search needs
-
-enum-told-2 : tie.Need-enum-told-2
-enum-told-2 c = search needs
 
 returns-2 : tie.Need-returns-2
 unfolding paper.planFormats
@@ -39,15 +21,6 @@ returns-2 c = (
       (stop _ _ _ _ refl _ _ (none little _ (seen wideRead (c .before .before .mask-at .ensures) (c .enum-told2 .given .1)))))),
   tt,
 )
-
-opt-at-requires : tie.Need-opt-at-requires
-opt-at-requires c κs = search needs
-
-enum-known-condition : tie.Need-enum-known-condition
-enum-known-condition c = search needs
-
-enum-told-3 : tie.Need-enum-told-3
-enum-told-3 c = search needs
 
 returns-3 : tie.Need-returns-3
 unfolding paper.planFormats
@@ -58,15 +31,6 @@ returns-3 c = (
   tt,
 )
 
-opt-at-requires-2 : tie.Need-opt-at-requires-2
-opt-at-requires-2 c κs = search needs
-
-enum-known-citation : tie.Need-enum-known-citation
-enum-known-citation c = search needs
-
-enum-told-4 : tie.Need-enum-told-4
-enum-told-4 c = search needs
-
 returns-4 : tie.Need-returns-4
 unfolding paper.planFormats
 returns-4 c = (
@@ -76,15 +40,6 @@ returns-4 c = (
       (stop _ _ _ _ (half-of _ 4) _ _ (none first _ (seen fieldRead (c .before .before .opt-at2 .ensures) (c .enum-told4 .given .1)))))))),
   tt,
 )
-
-election-at-requires : tie.Need-election-at-requires
-election-at-requires c κs = search needs
-
-enum-known-election : tie.Need-enum-known-election
-enum-known-election c = search needs
-
-enum-told-5 : tie.Need-enum-told-5
-enum-told-5 c = search needs
 
 returns-5 : tie.Need-returns-5
 unfolding paper.planFormats
@@ -97,15 +52,6 @@ returns-5 c = (
   tt,
 )
 
-pairs-at-requires : tie.Need-pairs-at-requires
-pairs-at-requires c κs = search needs
-
-enum-known-pairs : tie.Need-enum-known-pairs
-enum-known-pairs c = search needs
-
-enum-told-6 : tie.Need-enum-told-6
-enum-told-6 c = search needs
-
 returns-6 : tie.Need-returns-6
 unfolding paper.planFormats
 returns-6 c = (
@@ -117,15 +63,6 @@ returns-6 c = (
       (stop _ _ _ _ (half-of _ 16) _ _ (seen (pairsRead (now (c .before .before .before .before .before .before .before .before .before .before .before .before .before .before .before .before .before .before .before .before .before .before .before .before .args .s))) (c .before .before .pairs-at .ensures .0) (c .enum-told6 .given .1))))))))),
   tt,
 )
-
-list-at-requires : tie.Need-list-at-requires
-list-at-requires c κs = search needs
-
-enum-known-first : tie.Need-enum-known-first
-enum-known-first c = search needs
-
-enum-told-7 : tie.Need-enum-told-7
-enum-told-7 c = search needs
 
 returns-7 : tie.Need-returns-7
 unfolding paper.planFormats
@@ -179,34 +116,8 @@ returns-9 c = (
 pub cut-at-spec : {M : Type 1} → statement M
 cut-at-spec =
     tie.close
-    (tie.spec
-    byte-at-requires
-    enum-known-bits
-    enum-told
-    returns
-    mask-at-requires
-    enum-known-members
-    enum-told-2
-    returns-2
-    opt-at-requires
-    enum-known-condition
-    enum-told-3
-    returns-3
-    opt-at-requires-2
-    enum-known-citation
-    enum-told-4
-    returns-4
-    election-at-requires
-    enum-known-election
-    enum-told-5
-    returns-5
-    pairs-at-requires
-    enum-known-pairs
-    enum-told-6
-    returns-6
-    list-at-requires
-    enum-known-first
-    enum-told-7
-    returns-7
-    returns-8
-    returns-9)
+    (tie.spec (λ c κs. search needs) (λ c. search needs) (λ c. search needs) returns (λ c κs. search needs)
+    (λ c. search needs) (λ c. search needs) returns-2 (λ c κs. search needs) (λ c. search needs) (λ c. search needs)
+    returns-3 (λ c κs. search needs) (λ c. search needs) (λ c. search needs) returns-4 (λ c κs. search needs)
+    (λ c. search needs) (λ c. search needs) returns-5 (λ c κs. search needs) (λ c. search needs) (λ c. search needs)
+    returns-6 (λ c κs. search needs) (λ c. search needs) (λ c. search needs) returns-7 returns-8 returns-9)

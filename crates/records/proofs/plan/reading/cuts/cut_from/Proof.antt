@@ -1,15 +1,9 @@
--- The cut that its fields and the bytes of its lists make. Assumes nothing.
+-- The cut that its fields and the bytes of its lists make.
 use native.Mathlib.Omega.{arith}
 use borrow.Author.Needs.{needs}
 use Rattle.records.proofs.KindLaws.{cut-is}
 use Rattle.records.proofs.plan.reading.cuts.cut_from.Statement.{statement}
 use Rattle.records.proofs.plan.reading.cuts.cut_from.Tie as tie
-
-decisions-from-requires : tie.Need-decisions-from-requires
-decisions-from-requires c κs = search needs
-
-numbers-from-requires : tie.Need-numbers-from-requires
-numbers-from-requires c κs = search needs
 
 returns : tie.Need-returns
 returns c =
@@ -17,4 +11,4 @@ returns c =
     (cut-is (x .members) (x .condition) (x .citation) (x .election) (d .result) (c .before .numbers-from .result) (d .ensures .0) (c .before .numbers-from .ensures), omega (arith, d .ensures .1, c .before .before .before .before .pre .0))
 
 pub cut-from-spec : {M : Type 1} → statement M
-cut-from-spec = tie.close (tie.spec decisions-from-requires numbers-from-requires returns)
+cut-from-spec = tie.close (tie.spec (λ c κs. search needs) (λ c κs. search needs) returns)

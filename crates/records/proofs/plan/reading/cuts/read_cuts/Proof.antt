@@ -1,4 +1,4 @@
--- The pass over the cuts. Assumes nothing.
+-- The pass over the cuts.
 use mathlib.Core.Path.{_≡_, sym, _∙_, ap, ap₂}
 use mathlib.Core.Bool.{true, _&&_}
 use mathlib.Core.List.{[], _∷_, _++_}
@@ -31,9 +31,6 @@ Inv-loop s start before headed cuts₀ pending₀ at₀ k₀ cuts pending at k =
 abbrev μ-loop : tie.MeasureT-loop
 μ-loop s start before headed cuts₀ pending₀ at₀ k₀ cuts pending at k = length s - at
 
-no-cuts-requires : tie.Need-no-cuts-requires Inv-loop μ-loop
-no-cuts-requires c κs = search needs
-
 loop-holds : tie.Need-loop-holds Inv-loop μ-loop
 unfolding paper.unresolved allOf
 loop-holds c =
@@ -48,20 +45,8 @@ loop-holds c =
       ap (allOf once) (e .0),
     )
 
-shared-slice-read-if1 : tie.Need-shared-slice-read-if1 Inv-loop μ-loop
-shared-slice-read-if1 c = search needs
-
 add-cut-at : tie.Need-add-cut-at Inv-loop μ-loop
 add-cut-at c = search needs
-
-cut-at-requires : tie.Need-cut-at-requires Inv-loop μ-loop
-cut-at-requires c κs = search needs
-
-enum-known-bits : tie.Need-enum-known-bits Inv-loop μ-loop
-enum-known-bits c = search needs
-
-enum-told : tie.Need-enum-told Inv-loop μ-loop
-enum-told c = search needs
 
 returns : tie.Need-returns Inv-loop μ-loop
 returns c =
@@ -84,9 +69,6 @@ add-total c = let h = c .unresolved-in .ensures in let i = c .before .before .be
 decided-once-requires : tie.Need-decided-once-requires Inv-loop μ-loop
 decided-once-requires c κs = c .before .before .cut-from .ensures .1
 
-judged-requires : tie.Need-judged-requires Inv-loop μ-loop
-judged-requires c κs = search needs
-
 returns-2 : tie.Need-returns-2 Inv-loop μ-loop
 unfolding cutOf
 returns-2 c =
@@ -103,9 +85,6 @@ returns-2 c =
       ap (ltb 16) (sym (i .4)) ∙ le-ltb 16 (c .before .before .before .before .before .before .before .before .before .before .before .before .before .loop .pending) (i .5),
       i .6,
     )
-
-mul-cut : tie.Need-mul-cut Inv-loop μ-loop
-mul-cut c = search needs
 
 element-set-from-cut : tie.Need-element-set-from-cut Inv-loop μ-loop
 element-set-from-cut c = let h = c .before .judged .ensures .1 (c .if2 .left) in search (needs, h)
@@ -136,9 +115,8 @@ loop-again c =
     let o = ap₂ (λ (x y : ℕ). ltb 16 (x + y)) (i .4) u in
     let d = c .before .before .decided-once .ensures ∙ ap paper.decidedOnce e in
     let j = judge-same 16 (l .count) (length (cutsOf l)) _ _ _ (fields.needs 7 b) (c .before .before .before .before .before .before .before .before .before .before .before .before .before .before .before .before .args .headed) _ _ (c .before .judged .ensures .0) (length-made cutOf (l .items) (l .count) (omega (arith, i .1, i .2))) o (needs-test b 7) d in
-    let q = sym (c .before .judged .ensures .0) ∙ c .if2 .left in
-    let over = not-over 16 (l .count) (ltb 16 (c .before .before .before .before .before .before .before .before .before .before .before .before .before .loop .pending + c .before .before .before .unresolved-in .result)) (eqb (bitAnd b 7) 7 && c .before .before .before .before .before .before .before .before .before .before .before .before .before .before .before .before .args .headed) (c .before .before .decided-once .result) q in
-    let sound = is-sound 16 (l .count) (ltb 16 (c .before .before .before .before .before .before .before .before .before .before .before .before .before .loop .pending + c .before .before .before .unresolved-in .result)) (eqb (bitAnd b 7) 7 && c .before .before .before .before .before .before .before .before .before .before .before .before .before .before .before .before .args .headed) (c .before .before .decided-once .result) q in
+    let over = not-over 16 (l .count) (ltb 16 (c .before .before .before .before .before .before .before .before .before .before .before .before .before .loop .pending + c .before .before .before .unresolved-in .result)) (eqb (bitAnd b 7) 7 && c .before .before .before .before .before .before .before .before .before .before .before .before .before .before .before .before .args .headed) (c .before .before .decided-once .result) (c .before .judged .ensures .0) (c .if2 .left) in
+    let sound = is-sound 16 (l .count) (ltb 16 (c .before .before .before .before .before .before .before .before .before .before .before .before .before .loop .pending + c .before .before .before .unresolved-in .result)) (eqb (bitAnd b 7) 7 && c .before .before .before .before .before .before .before .before .before .before .before .before .before .before .before .before .args .headed) (c .before .before .decided-once .result) (c .before .judged .ensures .0) (c .if2 .left) in
     let more = made-more cutOf (l .items) (l .count) (c .before .before .before .before .before .cut-from .result) (omega (arith, i .2, h)) ∙ ap (λ (y : paper.Cut). cutsOf l ++ (y ∷ [])) (c .before .before .before .before .before .cut-from .ensures .0) in (
       omega (arith, z),
       omega (arith, h),
@@ -162,28 +140,7 @@ returns-4 c =
 pub read-cuts-spec : {M : Type 1} → statement M
 read-cuts-spec =
     tie.close
-    (tie.spec
-    Inv-loop
-    μ-loop
-    no-cuts-requires
-    loop-holds
-    shared-slice-read-if1
-    add-cut-at
-    cut-at-requires
-    enum-known-bits
-    enum-told
-    returns
-    cut-from-requires
-    unresolved-in-requires
-    add-total
-    decided-once-requires
-    judged-requires
-    returns-2
-    mul-cut
-    element-set-from-cut
-    add-cuts
-    add-k
-    loop-less
-    loop-again
-    returns-3
-    returns-4)
+    (tie.spec Inv-loop μ-loop (λ c κs. search needs) loop-holds (λ c. search needs) add-cut-at (λ c κs. search needs)
+    (λ c. search needs) (λ c. search needs) returns cut-from-requires unresolved-in-requires add-total
+    decided-once-requires (λ c κs. search needs) returns-2 (λ c. search needs) element-set-from-cut add-cuts add-k
+    loop-less loop-again returns-3 returns-4)

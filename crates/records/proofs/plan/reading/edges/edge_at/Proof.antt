@@ -1,4 +1,4 @@
--- An edge from its bit map on. Assumes nothing.
+-- An edge from its bit map on.
 use mathlib.Core.Path.{refl, sym, ap}
 use Prim.Native.Nat.{_/_, _%_}
 use lib.Dec.{eqb}
@@ -12,26 +12,8 @@ use borrow.Author.Needs.{needs}
 use Rattle.records.proofs.plan.reading.edges.edge_at.Statement.{statement}
 use Rattle.records.proofs.plan.reading.edges.edge_at.Tie as tie
 
-byte-at-requires : tie.Need-byte-at-requires
-byte-at-requires c κs = search needs
-
-enum-known-bits : tie.Need-enum-known-bits
-enum-known-bits c = search needs
-
-enum-told : tie.Need-enum-told
-enum-told c = search needs
-
 returns : tie.Need-returns
 returns c = (sym (ap (mapRead (withBits paper.edgeFrom)) (raw-bits paper.planFormats 4 (now (c .before .before .before .before .args .s)) (c .before .before .before .before .args .at) (seen fieldRead (c .before .before .byte-at .ensures) (c .enum-told .given .1)))), tt)
-
-opt-at-requires : tie.Need-opt-at-requires
-opt-at-requires c κs = search needs
-
-enum-known-left : tie.Need-enum-known-left
-enum-known-left c = search needs
-
-enum-told-2 : tie.Need-enum-told-2
-enum-told-2 c = search needs
 
 returns-2 : tie.Need-returns-2
 unfolding paper.planFormats
@@ -41,15 +23,6 @@ returns-2 c = (
   tt,
 )
 
-opt-at-requires-2 : tie.Need-opt-at-requires-2
-opt-at-requires-2 c κs = search needs
-
-enum-known-right : tie.Need-enum-known-right
-enum-known-right c = search needs
-
-enum-told-3 : tie.Need-enum-told-3
-enum-told-3 c = search needs
-
 returns-3 : tie.Need-returns-3
 unfolding paper.planFormats
 returns-3 c = (
@@ -58,15 +31,6 @@ returns-3 c = (
       (stop _ _ _ _ (half-of _ 2) _ _ (none first _ (seen fieldRead (c .before .before .opt-at2 .ensures) (c .enum-told3 .given .1))))))),
   tt,
 )
-
-opt-at-requires-3 : tie.Need-opt-at-requires-3
-opt-at-requires-3 c κs = search needs
-
-enum-known-condition : tie.Need-enum-known-condition
-enum-known-condition c = search needs
-
-enum-told-4 : tie.Need-enum-told-4
-enum-told-4 c = search needs
 
 returns-4 : tie.Need-returns-4
 unfolding paper.planFormats
@@ -78,15 +42,6 @@ returns-4 c = (
   tt,
 )
 
-opt-at-requires-4 : tie.Need-opt-at-requires-4
-opt-at-requires-4 c κs = search needs
-
-enum-known-citation : tie.Need-enum-known-citation
-enum-known-citation c = search needs
-
-enum-told-5 : tie.Need-enum-told-5
-enum-told-5 c = search needs
-
 returns-5 : tie.Need-returns-5
 unfolding paper.planFormats
 returns-5 c = (
@@ -97,15 +52,6 @@ returns-5 c = (
       (stop _ _ _ _ (half-of _ 8) _ _ (none first _ (seen fieldRead (c .before .before .opt-at4 .ensures) (c .enum-told5 .given .1))))))))),
   tt,
 )
-
-list-at-requires : tie.Need-list-at-requires
-list-at-requires c κs = search needs
-
-enum-known-first : tie.Need-enum-known-first
-enum-known-first c = search needs
-
-enum-told-6 : tie.Need-enum-told-6
-enum-told-6 c = search needs
 
 returns-6 : tie.Need-returns-6
 unfolding paper.planFormats
@@ -157,30 +103,8 @@ returns-8 c = (
 pub edge-at-spec : {M : Type 1} → statement M
 edge-at-spec =
     tie.close
-    (tie.spec
-    byte-at-requires
-    enum-known-bits
-    enum-told
-    returns
-    opt-at-requires
-    enum-known-left
-    enum-told-2
-    returns-2
-    opt-at-requires-2
-    enum-known-right
-    enum-told-3
-    returns-3
-    opt-at-requires-3
-    enum-known-condition
-    enum-told-4
-    returns-4
-    opt-at-requires-4
-    enum-known-citation
-    enum-told-5
-    returns-5
-    list-at-requires
-    enum-known-first
-    enum-told-6
-    returns-6
-    returns-7
-    returns-8)
+    (tie.spec (λ c κs. search needs) (λ c. search needs) (λ c. search needs) returns (λ c κs. search needs)
+    (λ c. search needs) (λ c. search needs) returns-2 (λ c κs. search needs) (λ c. search needs) (λ c. search needs)
+    returns-3 (λ c κs. search needs) (λ c. search needs) (λ c. search needs) returns-4 (λ c κs. search needs)
+    (λ c. search needs) (λ c. search needs) returns-5 (λ c κs. search needs) (λ c. search needs) (λ c. search needs)
+    returns-6 returns-7 returns-8)

@@ -1,4 +1,4 @@
--- The edge that its fields and the bytes of its list make. Assumes nothing.
+-- The edge that its fields and the bytes of its list make.
 use borrow.Author.Needs.{needs}
 use Rattle.records.specs.paper.Sets.{has}
 use Rattle.records.specs.code.Decoded.{edgeOf}
@@ -6,12 +6,9 @@ use Rattle.records.proofs.KindLaws.{bit-test}
 use Rattle.records.proofs.plan.reading.edges.edge_from.Statement.{statement}
 use Rattle.records.proofs.plan.reading.edges.edge_from.Tie as tie
 
-numbers-from-requires : tie.Need-numbers-from-requires
-numbers-from-requires c κs = search needs
-
 returns : tie.Need-returns
 unfolding edgeOf has
 returns c = rw (c .numbers-from .ensures, bit-test (c .before .before .args .bits) 32)
 
 pub edge-from-spec : {M : Type 1} → statement M
-edge-from-spec = tie.close (tie.spec numbers-from-requires returns)
+edge-from-spec = tie.close (tie.spec (λ c κs. search needs) returns)

@@ -1,4 +1,4 @@
--- The pass over the edges. Assumes nothing.
+-- The pass over the edges.
 use mathlib.Core.Path.{_≡_, refl, _∙_, ap}
 use mathlib.Core.List.{[], _∷_, _++_}
 use mathlib.Core.Bool.{true, false}
@@ -25,37 +25,16 @@ Inv-loop s start before headed edges₀ at₀ k₀ edges at k =
 abbrev μ-loop : tie.MeasureT-loop
 μ-loop s start before headed edges₀ at₀ k₀ edges at k = length s - at
 
-no-edges-requires : tie.Need-no-edges-requires Inv-loop μ-loop
-no-edges-requires c κs = search needs
-
 loop-holds : tie.Need-loop-holds Inv-loop μ-loop
 loop-holds c =
     let a = c .before .before .args in
     let e = c .no-edges .ensures in
     (c .before .before .pre, omega (arith, e .1), e .2, going edgeKind (now (a .s)) (a .headed) (a .start) (a .before) (edgesOf (c .no-edges .result)) (e .0))
 
-shared-slice-read-if1 : tie.Need-shared-slice-read-if1 Inv-loop μ-loop
-shared-slice-read-if1 c = search needs
-
-add-edge-at : tie.Need-add-edge-at Inv-loop μ-loop
-add-edge-at c = search needs
-
-edge-at-requires : tie.Need-edge-at-requires Inv-loop μ-loop
-edge-at-requires c κs = search needs
-
-enum-known-bits : tie.Need-enum-known-bits Inv-loop μ-loop
-enum-known-bits c = search needs
-
-enum-told : tie.Need-enum-told Inv-loop μ-loop
-enum-told c = search needs
-
 returns : tie.Need-returns Inv-loop μ-loop
 returns c =
     let i = c .before .before .before .before .before .before .loop .inv in
     (refused-bad edgeKind _ _ _ _ (i .3) (i .0) (c .before .before .before .before .before .loop-test .taken) (c .before .before .before .if1 .left) (seen (edgeRead (now (c .before .before .before .before .before .before .before .before .before .args .s))) (c .before .before .edge-at .ensures .0) (c .enum-told .given .1)), i .0)
-
-judged-requires : tie.Need-judged-requires Inv-loop μ-loop
-judged-requires c κs = search needs
 
 returns-2 : tie.Need-returns-2 Inv-loop μ-loop
 returns-2 c =
@@ -67,17 +46,11 @@ returns-2 c =
 edge-from-requires : tie.Need-edge-from-requires Inv-loop μ-loop
 edge-from-requires c κs = let f = rw (c .before .before .before .bits .given .1) at (c .before .before .before .before .before .edge-at .ensures .1) in (f .0, f .1)
 
-mul-t14 : tie.Need-mul-t14 Inv-loop μ-loop
-mul-t14 c = search needs
-
 element-set-from-edges : tie.Need-element-set-from-edges Inv-loop μ-loop
 element-set-from-edges c = let h = c .before .before .judged .ensures .1 (c .before .if2 .left) in search (needs, h)
 
 add-edges : tie.Need-add-edges Inv-loop μ-loop
 add-edges c = let h = c .before .before .judged .ensures .1 (c .before .if2 .left) in search (needs, h)
-
-add-k : tie.Need-add-k Inv-loop μ-loop
-add-k c = search needs
 
 loop-less : tie.Need-loop-less Inv-loop μ-loop
 loop-less c =
@@ -114,25 +87,7 @@ returns-4 c =
 pub read-edges-spec : {M : Type 1} → statement M
 read-edges-spec =
     tie.close
-    (tie.spec
-    Inv-loop
-    μ-loop
-    no-edges-requires
-    loop-holds
-    shared-slice-read-if1
-    add-edge-at
-    edge-at-requires
-    enum-known-bits
-    enum-told
-    returns
-    judged-requires
-    returns-2
-    edge-from-requires
-    mul-t14
-    element-set-from-edges
-    add-edges
-    add-k
-    loop-less
-    loop-again
-    returns-3
-    returns-4)
+    (tie.spec Inv-loop μ-loop (λ c κs. search needs) loop-holds (λ c. search needs) (λ c. search needs)
+    (λ c κs. search needs) (λ c. search needs) (λ c. search needs) returns (λ c κs. search needs) returns-2
+    edge-from-requires (λ c. search needs) element-set-from-edges add-edges (λ c. search needs) loop-less loop-again
+    returns-3 returns-4)

@@ -1,4 +1,4 @@
--- Both bits or none. Assumes nothing.
+-- Both bits or none.
 use borrow.Author.Tests.{eq-eqb, ne-eqb}
 use Rattle.records.proofs.plan.reading.facts.both_or_none.Statement.{statement}
 use Rattle.records.proofs.plan.reading.facts.both_or_none.Tie as tie

@@ -1,4 +1,4 @@
--- A fact from its bit map on. Assumes nothing.
+-- A fact from its bit map on.
 use mathlib.Core.Path.{refl, sym, ap}
 use Prim.Native.Nat.{_%_}
 use lib.Dec.{eqb}
@@ -13,26 +13,8 @@ use borrow.Author.Needs.{needs}
 use Rattle.records.proofs.plan.reading.facts.fact_at.Statement.{statement}
 use Rattle.records.proofs.plan.reading.facts.fact_at.Tie as tie
 
-byte-at-requires : tie.Need-byte-at-requires
-byte-at-requires c κs = search needs
-
-enum-known-bits : tie.Need-enum-known-bits
-enum-known-bits c = search needs
-
-enum-told : tie.Need-enum-told
-enum-told c = search needs
-
 returns : tie.Need-returns
 returns c = (sym (ap (mapRead (withBits factFrom)) (raw-bits paper.planFormats 2 (now (c .before .before .before .before .args .s)) (c .before .before .before .before .args .at) (seen fieldRead (c .before .before .byte-at .ensures) (c .enum-told .given .1)))), tt)
-
-opt-at-requires : tie.Need-opt-at-requires
-opt-at-requires c κs = search needs
-
-enum-known-family : tie.Need-enum-known-family
-enum-known-family c = search needs
-
-enum-told-2 : tie.Need-enum-told-2
-enum-told-2 c = search needs
 
 returns-2 : tie.Need-returns-2
 unfolding paper.planFormats
@@ -41,15 +23,6 @@ returns-2 c = (
       (stop _ _ _ _ refl _ _ (none first _ (seen fieldRead (c .before .before .opt-at .ensures) (c .enum-told2 .given .1)))))),
   tt,
 )
-
-list-at-requires : tie.Need-list-at-requires
-list-at-requires c κs = search needs
-
-enum-known-first : tie.Need-enum-known-first
-enum-known-first c = search needs
-
-enum-told-3 : tie.Need-enum-told-3
-enum-told-3 c = search needs
 
 returns-3 : tie.Need-returns-3
 unfolding paper.planFormats
@@ -87,18 +60,6 @@ returns-5 c = (
 pub fact-at-spec : {M : Type 1} → statement M
 fact-at-spec =
     tie.close
-    (tie.spec
-    byte-at-requires
-    enum-known-bits
-    enum-told
-    returns
-    opt-at-requires
-    enum-known-family
-    enum-told-2
-    returns-2
-    list-at-requires
-    enum-known-first
-    enum-told-3
-    returns-3
-    returns-4
-    returns-5)
+    (tie.spec (λ c κs. search needs) (λ c. search needs) (λ c. search needs) returns (λ c κs. search needs)
+    (λ c. search needs) (λ c. search needs) returns-2 (λ c κs. search needs) (λ c. search needs) (λ c. search needs)
+    returns-3 returns-4 returns-5)

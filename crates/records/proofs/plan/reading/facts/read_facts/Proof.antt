@@ -1,4 +1,4 @@
--- The pass over the facts. Assumes nothing.
+-- The pass over the facts.
 use mathlib.Core.Path.{_≡_, refl, sym, _∙_, ap, ap₂}
 use mathlib.Core.Bool.{true, false, _&&_}
 use mathlib.Core.List.{[], _∷_, _++_}
@@ -28,9 +28,6 @@ Inv-loop s start before headed facts₀ last₀ at₀ k₀ facts last at k =
 abbrev μ-loop : tie.MeasureT-loop
 μ-loop s start before headed facts₀ last₀ at₀ k₀ facts last at k = length s - at
 
-no-facts-requires : tie.Need-no-facts-requires Inv-loop μ-loop
-no-facts-requires c κs = search needs
-
 loop-holds : tie.Need-loop-holds Inv-loop μ-loop
 unfolding factOf factsRise
 loop-holds c =
@@ -46,21 +43,6 @@ loop-holds c =
       λ z. refl,
     )
 
-shared-slice-read-if1 : tie.Need-shared-slice-read-if1 Inv-loop μ-loop
-shared-slice-read-if1 c = search needs
-
-add-fact-at : tie.Need-add-fact-at Inv-loop μ-loop
-add-fact-at c = search needs
-
-fact-at-requires : tie.Need-fact-at-requires Inv-loop μ-loop
-fact-at-requires c κs = search needs
-
-enum-known-bits : tie.Need-enum-known-bits Inv-loop μ-loop
-enum-known-bits c = search needs
-
-enum-told : tie.Need-enum-told Inv-loop μ-loop
-enum-told c = search needs
-
 returns : tie.Need-returns Inv-loop μ-loop
 returns c =
     let i = c .before .before .before .before .before .before .loop .inv in
@@ -72,12 +54,6 @@ tuple-from-requires c κs = let f = rw (c .before .bits .given .1) at (c .before
 fact-rises-requires : tie.Need-fact-rises-requires Inv-loop μ-loop
 fact-rises-requires c κs = let f = rw (c .before .before .bits .given .1) at (c .before .before .before .before .fact-at .ensures .1) in (c .before .before .before .before .before .before .before .before .loop .inv .6, f .0, c .before .before .before .before .before .before .before .before .loop .inv .7)
 
-both-or-none-requires : tie.Need-both-or-none-requires Inv-loop μ-loop
-both-or-none-requires c κs = search needs
-
-judged-requires : tie.Need-judged-requires Inv-loop μ-loop
-judged-requires c κs = search needs
-
 returns-2 : tie.Need-returns-2 Inv-loop μ-loop
 returns-2 c =
     let l = c .before .before .before .before .before .before .before .before .before .before .before .before .loop .facts in
@@ -87,9 +63,6 @@ returns-2 c =
     let d = c .before .before .before .fact-rises .ensures ∙ ap₂ rises (sym (i .5)) x in
     let j = judge-same 64 (l .count) (length (factsOf l)) false false _ (factBits b) (c .before .before .before .before .before .before .before .before .before .before .before .before .before .before .before .args .headed) _ _ (c .before .judged .ensures .0) (length-made factOf (l .items) (l .count) (omega (arith, i .1, i .2))) refl (c .before .before .both-or-none .ensures) d in
     (refused-judged factKind _ _ _ _ (i .3) (i .0) (c .before .before .before .before .before .before .before .before .before .before .before .loop-test .taken) (c .before .before .before .before .before .before .before .before .before .if1 .left) (i .4) (seen (factRead (now (c .before .before .before .before .before .before .before .before .before .before .before .before .before .before .before .args .s))) (c .before .before .before .before .before .before .before .before .fact-at .ensures .0) (c .before .before .before .before .before .before .bits .given .1)) _ j (c .if2 .taken), i .0, i .4)
-
-mul-fact : tie.Need-mul-fact Inv-loop μ-loop
-mul-fact c = search needs
 
 element-set-from-fact : tie.Need-element-set-from-fact Inv-loop μ-loop
 element-set-from-fact c = let h = c .before .judged .ensures .1 (c .if2 .left) in search (needs, h)
@@ -119,9 +92,8 @@ loop-again c =
     let d = c .before .before .before .fact-rises .ensures ∙ ap₂ rises (sym (i .5)) x in
     let j = judge-same 64 (l .count) (length (factsOf l)) false false _ (factBits b) (c .before .before .before .before .before .before .before .before .before .before .before .before .before .before .before .args .headed) _ _ (c .before .judged .ensures .0) (length-made factOf (l .items) (l .count) (omega (arith, i .1, i .2))) refl (c .before .before .both-or-none .ensures) d in
     let more = made-more factOf (l .items) (l .count) _ (omega (arith, i .2, h)) ∙ ap (λ (y : Fact). factsOf l ++ (y ∷ [])) x in
-    let q = sym (c .before .judged .ensures .0) ∙ c .if2 .left in
-    let r = is-sound 64 (l .count) false (c .before .before .both-or-none .result && c .before .before .before .before .before .before .before .before .before .before .before .before .before .before .before .args .headed) (c .before .before .before .fact-rises .result) q in
-    let t = it-fits 64 (l .count) false (c .before .before .both-or-none .result && c .before .before .before .before .before .before .before .before .before .before .before .before .before .before .before .args .headed) (c .before .before .before .fact-rises .result) q in (
+    let r = is-sound 64 (l .count) false (c .before .before .both-or-none .result && c .before .before .before .before .before .before .before .before .before .before .before .before .before .before .before .args .headed) (c .before .before .before .fact-rises .result) (c .before .judged .ensures .0) (c .if2 .left) in
+    let t = it-fits 64 (l .count) false (c .before .before .both-or-none .result && c .before .before .before .before .before .before .before .before .before .before .before .before .before .before .before .args .headed) (c .before .before .before .fact-rises .result) (c .before .judged .ensures .0) (c .if2 .left) in (
       omega (arith, z),
       omega (arith, h),
       rw length-set (i .2),
@@ -145,27 +117,7 @@ returns-4 c =
 pub read-facts-spec : {M : Type 1} → statement M
 read-facts-spec =
     tie.close
-    (tie.spec
-    Inv-loop
-    μ-loop
-    no-facts-requires
-    loop-holds
-    shared-slice-read-if1
-    add-fact-at
-    fact-at-requires
-    enum-known-bits
-    enum-told
-    returns
-    tuple-from-requires
-    fact-rises-requires
-    both-or-none-requires
-    judged-requires
-    returns-2
-    mul-fact
-    element-set-from-fact
-    add-facts
-    add-k
-    loop-less
-    loop-again
-    returns-3
-    returns-4)
+    (tie.spec Inv-loop μ-loop (λ c κs. search needs) loop-holds (λ c. search needs) (λ c. search needs)
+    (λ c κs. search needs) (λ c. search needs) (λ c. search needs) returns tuple-from-requires fact-rises-requires
+    (λ c κs. search needs) (λ c κs. search needs) returns-2 (λ c. search needs) element-set-from-fact add-facts add-k
+    loop-less loop-again returns-3 returns-4)

@@ -1,4 +1,4 @@
--- The heading from its bit map on. Assumes nothing.
+-- The heading from its bit map on.
 use mathlib.Core.Path.{refl, sym, ap}
 use Prim.Native.Nat.{_/_, _%_}
 use lib.Dec.{eqb}
@@ -13,41 +13,14 @@ use borrow.Author.Needs.{needs}
 use Rattle.records.proofs.plan.reading.heading.heading_at.Statement.{statement}
 use Rattle.records.proofs.plan.reading.heading.heading_at.Tie as tie
 
-byte-at-requires : tie.Need-byte-at-requires
-byte-at-requires c κs = search needs
-
-enum-known-bits : tie.Need-enum-known-bits
-enum-known-bits c = search needs
-
-enum-told : tie.Need-enum-told
-enum-told c = search needs
-
 returns : tie.Need-returns
 returns c = sym (ap (mapRead (withBits headingFrom)) (raw-bits paper.planFormats 1 (now (c .before .before .before .before .args .s)) (c .before .before .before .before .args .at) (seen fieldRead (c .before .before .byte-at .ensures) (c .enum-told .given .1))))
-
-opt-at-requires : tie.Need-opt-at-requires
-opt-at-requires c κs = search needs
-
-enum-known-relation : tie.Need-enum-known-relation
-enum-known-relation c = search needs
-
-enum-told-2 : tie.Need-enum-told-2
-enum-told-2 c = search needs
 
 returns-2 : tie.Need-returns-2
 unfolding paper.planFormats
 returns-2 c =
     sym (ap (mapRead (withBits headingFrom)) (raw-bad paper.planFormats 1 (now (c .before .before .before .before .before .before .before .before .args .s)) (c .before .before .before .before .before .before .before .before .args .at) (seen fieldRead (c .before .before .before .before .before .before .byte-at .ensures) (c .before .before .before .before .bits .given .1))
     (stop _ _ _ _ refl _ _ (none first _ (seen fieldRead (c .before .before .opt-at .ensures) (c .enum-told2 .given .1))))))
-
-opt-at-requires-2 : tie.Need-opt-at-requires-2
-opt-at-requires-2 c κs = search needs
-
-enum-known-chain : tie.Need-enum-known-chain
-enum-known-chain c = search needs
-
-enum-told-3 : tie.Need-enum-told-3
-enum-told-3 c = search needs
 
 returns-3 : tie.Need-returns-3
 unfolding paper.planFormats
@@ -79,18 +52,6 @@ returns-5 c =
 pub heading-at-spec : {M : Type 1} → statement M
 heading-at-spec =
     tie.close
-    (tie.spec
-    byte-at-requires
-    enum-known-bits
-    enum-told
-    returns
-    opt-at-requires
-    enum-known-relation
-    enum-told-2
-    returns-2
-    opt-at-requires-2
-    enum-known-chain
-    enum-told-3
-    returns-3
-    returns-4
-    returns-5)
+    (tie.spec (λ c κs. search needs) (λ c. search needs) (λ c. search needs) returns (λ c κs. search needs)
+    (λ c. search needs) (λ c. search needs) returns-2 (λ c κs. search needs) (λ c. search needs) (λ c. search needs)
+    returns-3 returns-4 returns-5)

@@ -1,4 +1,4 @@
--- A node from its bit map on. Assumes nothing.
+-- A node from its bit map on.
 use mathlib.Core.Path.{refl, sym, ap}
 use denote.Ref.{now}
 use Rattle.records.specs.paper.Plan as paper
@@ -10,26 +10,8 @@ use borrow.Author.Needs.{needs}
 use Rattle.records.proofs.plan.reading.nodes.node_at.Statement.{statement}
 use Rattle.records.proofs.plan.reading.nodes.node_at.Tie as tie
 
-byte-at-requires : tie.Need-byte-at-requires
-byte-at-requires c κs = search needs
-
-enum-known-bits : tie.Need-enum-known-bits
-enum-known-bits c = search needs
-
-enum-told : tie.Need-enum-told
-enum-told c = search needs
-
 returns : tie.Need-returns
 returns c = (sym (ap (mapRead (withBits paper.nodeFrom)) (raw-bits paper.planFormats 3 (now (c .before .before .before .before .args .s)) (c .before .before .before .before .args .at) (seen fieldRead (c .before .before .byte-at .ensures) (c .enum-told .given .1)))), tt)
-
-opt-at-requires : tie.Need-opt-at-requires
-opt-at-requires c κs = search needs
-
-enum-known-literal : tie.Need-enum-known-literal
-enum-known-literal c = search needs
-
-enum-told-2 : tie.Need-enum-told-2
-enum-told-2 c = search needs
 
 returns-2 : tie.Need-returns-2
 unfolding paper.planFormats
@@ -39,15 +21,6 @@ returns-2 c = (
   tt,
 )
 
-opt-at-requires-2 : tie.Need-opt-at-requires-2
-opt-at-requires-2 c κs = search needs
-
-enum-known-fact : tie.Need-enum-known-fact
-enum-known-fact c = search needs
-
-enum-told-3 : tie.Need-enum-told-3
-enum-told-3 c = search needs
-
 returns-3 : tie.Need-returns-3
 unfolding paper.planFormats
 returns-3 c = (
@@ -56,15 +29,6 @@ returns-3 c = (
       (stop _ _ _ _ (half-of _ 2) _ _ (none first _ (seen fieldRead (c .before .before .opt-at2 .ensures) (c .enum-told3 .given .1))))))),
   tt,
 )
-
-list-at-requires : tie.Need-list-at-requires
-list-at-requires c κs = search needs
-
-enum-known-ands : tie.Need-enum-known-ands
-enum-known-ands c = search needs
-
-enum-told-4 : tie.Need-enum-told-4
-enum-told-4 c = search needs
 
 returns-4 : tie.Need-returns-4
 unfolding paper.planFormats
@@ -76,15 +40,6 @@ returns-4 c = (
   tt,
 )
 
-list-at-requires-2 : tie.Need-list-at-requires-2
-list-at-requires-2 c κs = search needs
-
-enum-known-ors : tie.Need-enum-known-ors
-enum-known-ors c = search needs
-
-enum-told-5 : tie.Need-enum-told-5
-enum-told-5 c = search needs
-
 returns-5 : tie.Need-returns-5
 unfolding paper.planFormats
 returns-5 c = (
@@ -95,15 +50,6 @@ returns-5 c = (
       (stop _ _ _ _ (half-of _ 8) _ _ (seen (listRead (now (c .before .before .before .before .before .before .before .before .before .before .before .before .before .before .before .before .before .before .before .before .args .s))) (c .before .before .list-at2 .ensures .0) (c .enum-told5 .given .1)))))))),
   tt,
 )
-
-opt-at-requires-3 : tie.Need-opt-at-requires-3
-opt-at-requires-3 c κs = search needs
-
-enum-known-negated : tie.Need-enum-known-negated
-enum-known-negated c = search needs
-
-enum-told-6 : tie.Need-enum-told-6
-enum-told-6 c = search needs
 
 returns-6 : tie.Need-returns-6
 unfolding paper.planFormats
@@ -153,30 +99,8 @@ returns-8 c = (
 pub node-at-spec : {M : Type 1} → statement M
 node-at-spec =
     tie.close
-    (tie.spec
-    byte-at-requires
-    enum-known-bits
-    enum-told
-    returns
-    opt-at-requires
-    enum-known-literal
-    enum-told-2
-    returns-2
-    opt-at-requires-2
-    enum-known-fact
-    enum-told-3
-    returns-3
-    list-at-requires
-    enum-known-ands
-    enum-told-4
-    returns-4
-    list-at-requires-2
-    enum-known-ors
-    enum-told-5
-    returns-5
-    opt-at-requires-3
-    enum-known-negated
-    enum-told-6
-    returns-6
-    returns-7
-    returns-8)
+    (tie.spec (λ c κs. search needs) (λ c. search needs) (λ c. search needs) returns (λ c κs. search needs)
+    (λ c. search needs) (λ c. search needs) returns-2 (λ c κs. search needs) (λ c. search needs) (λ c. search needs)
+    returns-3 (λ c κs. search needs) (λ c. search needs) (λ c. search needs) returns-4 (λ c κs. search needs)
+    (λ c. search needs) (λ c. search needs) returns-5 (λ c κs. search needs) (λ c. search needs) (λ c. search needs)
+    returns-6 returns-7 returns-8)

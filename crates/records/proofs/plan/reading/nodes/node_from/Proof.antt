@@ -1,4 +1,4 @@
--- The node that the lowest bit says. Assumes nothing.
+-- The node that the lowest bit says.
 use Rattle.records.specs.code.Decoded as decoded
 use Rattle.records.proofs.KindLaws.{bit0-on, bit0-off, bit-on, bit-off}
 use Rattle.records.proofs.plan.reading.nodes.node_from.Statement.{statement}
@@ -32,12 +32,4 @@ returns-5 c = rw (bit0-off (c .before .before .before .before .before .args .bit
 
 pub node-from-spec : {M : Type 1} → statement M
 node-from-spec =
-    tie.close
-    (tie.spec
-    returns
-    returns-2
-    numbers-from-requires
-    returns-3
-    numbers-from-requires-2
-    returns-4
-    returns-5)
+    tie.close (tie.spec returns returns-2 numbers-from-requires returns-3 numbers-from-requires-2 returns-4 returns-5)

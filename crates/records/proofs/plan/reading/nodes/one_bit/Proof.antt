@@ -1,4 +1,4 @@
--- Just one bit: the count of ones. Assumes nothing.
+-- Just one bit: the count of ones.
 use mathlib.Core.Path.{_∙_, ap}
 use Prim.Native.Nat.{ℕ}
 use native.Mathlib.Omega.{arith}
@@ -9,15 +9,9 @@ use borrow.Author.Needs.{needs}
 use Rattle.records.proofs.plan.reading.nodes.one_bit.Statement.{statement}
 use Rattle.records.proofs.plan.reading.nodes.one_bit.Tie as tie
 
-to-u64-requires : tie.Need-to-u64-requires
-to-u64-requires c κs = search needs
-
 returns : tie.Need-returns
 returns c = ap (λ (x : ℕ). eqb x 1) (ones-size (c .to-u64 .result) (omega (arith, c .to-u64 .ensures)) ∙ ap size (c .to-u64 .ensures .0))
 
 pub one-bit-spec : {M : Type 1} → statement M
 one-bit-spec =
-    tie.close
-    (tie.spec
-    to-u64-requires
-    returns)
+    tie.close (tie.spec (λ c κs. search needs) returns)

@@ -1,4 +1,4 @@
--- The pass over the nodes. Assumes nothing.
+-- The pass over the nodes.
 use mathlib.Core.Path.{_≡_, refl, _∙_, ap}
 use mathlib.Core.Bool.{true, false}
 use mathlib.Core.List.{[], _∷_, _++_}
@@ -24,40 +24,19 @@ Inv-loop s start before headed nodes₀ at₀ k₀ nodes at k =
 abbrev μ-loop : tie.MeasureT-loop
 μ-loop s start before headed nodes₀ at₀ k₀ nodes at k = length s - at
 
-no-nodes-requires : tie.Need-no-nodes-requires Inv-loop μ-loop
-no-nodes-requires c κs = search needs
-
 loop-holds : tie.Need-loop-holds Inv-loop μ-loop
 loop-holds c =
     let a = c .before .before .args in
     let e = c .no-nodes .ensures in
     (c .before .before .pre, omega (arith, e .1), e .2, going nodeKind (now (a .s)) (a .headed) (a .start) (a .before) (nodesOf (c .no-nodes .result)) (e .0))
 
-shared-slice-read-if1 : tie.Need-shared-slice-read-if1 Inv-loop μ-loop
-shared-slice-read-if1 c = search needs
-
 add-node-at : tie.Need-add-node-at Inv-loop μ-loop
 add-node-at c = search needs
-
-node-at-requires : tie.Need-node-at-requires Inv-loop μ-loop
-node-at-requires c κs = search needs
-
-enum-known-bits : tie.Need-enum-known-bits Inv-loop μ-loop
-enum-known-bits c = search needs
-
-enum-told : tie.Need-enum-told Inv-loop μ-loop
-enum-told c = search needs
 
 returns : tie.Need-returns Inv-loop μ-loop
 returns c =
     let i = c .before .before .before .before .before .before .loop .inv in
     (refused-bad nodeKind _ _ _ _ (i .3) (i .0) (c .before .before .before .before .before .loop-test .taken) (c .before .before .before .if1 .left) (seen (nodeRead (now (c .before .before .before .before .before .before .before .before .before .args .s))) (c .before .before .node-at .ensures .0) (c .enum-told .given .1)), i .0)
-
-one-bit-requires : tie.Need-one-bit-requires Inv-loop μ-loop
-one-bit-requires c κs = search needs
-
-judged-requires : tie.Need-judged-requires Inv-loop μ-loop
-judged-requires c κs = search needs
 
 returns-2 : tie.Need-returns-2 Inv-loop μ-loop
 returns-2 c =
@@ -68,9 +47,6 @@ returns-2 c =
 
 node-from-requires : tie.Need-node-from-requires Inv-loop μ-loop
 node-from-requires c κs = let f = rw (c .before .before .before .before .bits .given .1) at (c .before .before .before .before .before .before .node-at .ensures .1) in (f .0, f .1, f .2, f .3)
-
-mul-t14 : tie.Need-mul-t14 Inv-loop μ-loop
-mul-t14 c = search needs
 
 element-set-from-nodes : tie.Need-element-set-from-nodes Inv-loop μ-loop
 element-set-from-nodes c = let h = c .before .before .judged .ensures .1 (c .before .if2 .left) in search (needs, h)
@@ -115,26 +91,7 @@ returns-4 c =
 pub read-nodes-spec : {M : Type 1} → statement M
 read-nodes-spec =
     tie.close
-    (tie.spec
-    Inv-loop
-    μ-loop
-    no-nodes-requires
-    loop-holds
-    shared-slice-read-if1
-    add-node-at
-    node-at-requires
-    enum-known-bits
-    enum-told
-    returns
-    one-bit-requires
-    judged-requires
-    returns-2
-    node-from-requires
-    mul-t14
-    element-set-from-nodes
-    add-nodes
-    add-k
-    loop-less
-    loop-again
-    returns-3
+    (tie.spec Inv-loop μ-loop (λ c κs. search needs) loop-holds (λ c. search needs) add-node-at (λ c κs. search needs)
+    (λ c. search needs) (λ c. search needs) returns (λ c κs. search needs) (λ c κs. search needs) returns-2
+    node-from-requires (λ c. search needs) element-set-from-nodes add-nodes add-k loop-less loop-again returns-3
     returns-4)
