@@ -82,6 +82,7 @@ pub fn read_booleans(s: &[u8], start: usize, before: usize, headed: bool) -> Boo
         × (r .record ≤ r .at) ⌝ }
 {
     let mut booleans = no_booleans();
+    let mut number: u8 = 0;
     let mut at = start;
     let mut k = before;
     while at < s.len() {
@@ -90,22 +91,13 @@ pub fn read_booleans(s: &[u8], start: usize, before: usize, headed: bool) -> Boo
         }
         let BooleanSeen::Got(bits, fact, evidence, first, count, next) = boolean_at(s, at + 1)
         else {
-            return BooleansRead {
-                number: 1,
-                record: k,
-                at: at,
-                booleans: booleans,
-            };
+            number = 1;
+            break;
         };
         let n = booleans.count;
-        let number = judged(n, 64, false, bits & 1 == 1, headed, true);
+        number = judged(n, 64, false, bits & 1 == 1, headed, true);
         if number != 0 {
-            return BooleansRead {
-                number: number,
-                record: k,
-                at: at,
-                booleans: booleans,
-            };
+            break;
         }
         let observations = observations_from(s, first, count);
         booleans.items[n] = Boolean {
@@ -119,7 +111,7 @@ pub fn read_booleans(s: &[u8], start: usize, before: usize, headed: bool) -> Boo
         k = k + 1;
     }
     BooleansRead {
-        number: 0,
+        number: number,
         record: k,
         at: at,
         booleans: booleans,

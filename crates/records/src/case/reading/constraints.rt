@@ -60,6 +60,7 @@ pub fn read_constraints(s: &[u8], start: usize, before: usize, headed: bool) -> 
         × (r .record ≤ r .at) ⌝ }
 {
     let mut constraints = no_constraints();
+    let mut number: u8 = 0;
     let mut at = start;
     let mut k = before;
     while at < s.len() {
@@ -67,22 +68,13 @@ pub fn read_constraints(s: &[u8], start: usize, before: usize, headed: bool) -> 
             break;
         }
         let ConstraintSeen::Got(bits, node, next) = constraint_at(s, at + 1) else {
-            return ConstraintsRead {
-                number: 1,
-                record: k,
-                at: at,
-                constraints: constraints,
-            };
+            number = 1;
+            break;
         };
         let n = constraints.count;
-        let number = judged(n, 16, false, bits & 1 == 1, headed, true);
+        number = judged(n, 16, false, bits & 1 == 1, headed, true);
         if number != 0 {
-            return ConstraintsRead {
-                number: number,
-                record: k,
-                at: at,
-                constraints: constraints,
-            };
+            break;
         }
         constraints.items[n] = node;
         constraints.count = n + 1;
@@ -90,7 +82,7 @@ pub fn read_constraints(s: &[u8], start: usize, before: usize, headed: bool) -> 
         k = k + 1;
     }
     ConstraintsRead {
-        number: 0,
+        number: number,
         record: k,
         at: at,
         constraints: constraints,

@@ -79,6 +79,7 @@ pub fn read_families(s: &[u8], start: usize, before: usize, headed: bool) -> Fam
         × (r .record ≤ r .at) ⌝ }
 {
     let mut families = no_families();
+    let mut number: u8 = 0;
     let mut at = start;
     let mut k = before;
     while at < s.len() {
@@ -86,22 +87,13 @@ pub fn read_families(s: &[u8], start: usize, before: usize, headed: bool) -> Fam
             break;
         }
         let FamilySeen::Got(bits, family, next) = family_at(s, at + 1) else {
-            return FamiliesRead {
-                number: 1,
-                record: k,
-                at: at,
-                families: families,
-            };
+            number = 1;
+            break;
         };
         let n = families.count;
-        let number = judged(n, 16, false, bits & 1 == 1, headed, true);
+        number = judged(n, 16, false, bits & 1 == 1, headed, true);
         if number != 0 {
-            return FamiliesRead {
-                number: number,
-                record: k,
-                at: at,
-                families: families,
-            };
+            break;
         }
         families.items[n] = family;
         families.count = n + 1;
@@ -109,7 +101,7 @@ pub fn read_families(s: &[u8], start: usize, before: usize, headed: bool) -> Fam
         k = k + 1;
     }
     FamiliesRead {
-        number: 0,
+        number: number,
         record: k,
         at: at,
         families: families,

@@ -94,6 +94,7 @@ pub fn read_case_heading(s: &[u8]) -> CaseHeadingRead
 {
     let mut headings: usize = 0;
     let mut heading = no_heading();
+    let mut number: u8 = 0;
     let mut at: usize = 0;
     let mut k: usize = 0;
     while at < s.len() {
@@ -101,23 +102,12 @@ pub fn read_case_heading(s: &[u8]) -> CaseHeadingRead
             break;
         }
         let HeadingSeen::Got(bits, seen, next) = heading_at(s, at + 1) else {
-            return CaseHeadingRead {
-                number: 1,
-                record: k,
-                at: at,
-                headings: headings,
-                heading: heading,
-            };
+            number = 1;
+            break;
         };
-        let number = judged(headings, 1, false, bits & 81 == 81, true, true);
+        number = judged(headings, 1, false, bits & 81 == 81, true, true);
         if number != 0 {
-            return CaseHeadingRead {
-                number: number,
-                record: k,
-                at: at,
-                headings: headings,
-                heading: heading,
-            };
+            break;
         }
         headings = 1;
         heading = seen;
@@ -125,7 +115,7 @@ pub fn read_case_heading(s: &[u8]) -> CaseHeadingRead
         k = k + 1;
     }
     CaseHeadingRead {
-        number: 0,
+        number: number,
         record: k,
         at: at,
         headings: headings,

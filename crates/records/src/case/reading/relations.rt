@@ -77,6 +77,7 @@ pub fn read_relations(s: &[u8], start: usize, before: usize, headed: bool) -> Re
         × (r .record ≤ r .at) ⌝ }
 {
     let mut relations = no_relations();
+    let mut number: u8 = 0;
     let mut at = start;
     let mut k = before;
     while at < s.len() {
@@ -84,22 +85,13 @@ pub fn read_relations(s: &[u8], start: usize, before: usize, headed: bool) -> Re
             break;
         }
         let RelationSeen::Got(bits, relation, next) = relation_at(s, at + 1) else {
-            return RelationsRead {
-                number: 1,
-                record: k,
-                at: at,
-                relations: relations,
-            };
+            number = 1;
+            break;
         };
         let n = relations.count;
-        let number = judged(n, 256, false, bits & 7 == 7, headed, true);
+        number = judged(n, 256, false, bits & 7 == 7, headed, true);
         if number != 0 {
-            return RelationsRead {
-                number: number,
-                record: k,
-                at: at,
-                relations: relations,
-            };
+            break;
         }
         relations.items[n] = relation;
         relations.count = n + 1;
@@ -107,7 +99,7 @@ pub fn read_relations(s: &[u8], start: usize, before: usize, headed: bool) -> Re
         k = k + 1;
     }
     RelationsRead {
-        number: 0,
+        number: number,
         record: k,
         at: at,
         relations: relations,

@@ -97,6 +97,7 @@ pub fn read_attachments(s: &[u8], start: usize, before: usize, headed: bool) -> 
         × (r .record ≤ r .at) ⌝ }
 {
     let mut attachments = no_attachments();
+    let mut number: u8 = 0;
     let mut at = start;
     let mut k = before;
     while at < s.len() {
@@ -104,22 +105,13 @@ pub fn read_attachments(s: &[u8], start: usize, before: usize, headed: bool) -> 
             break;
         }
         let AttachmentSeen::Got(bits, attachment, next) = attachment_at(s, at + 1) else {
-            return AttachmentsRead {
-                number: 1,
-                record: k,
-                at: at,
-                attachments: attachments,
-            };
+            number = 1;
+            break;
         };
         let n = attachments.count;
-        let number = judged(n, 32, false, bits & 31 == 31, headed, true);
+        number = judged(n, 32, false, bits & 31 == 31, headed, true);
         if number != 0 {
-            return AttachmentsRead {
-                number: number,
-                record: k,
-                at: at,
-                attachments: attachments,
-            };
+            break;
         }
         attachments.items[n] = attachment;
         attachments.count = n + 1;
@@ -127,7 +119,7 @@ pub fn read_attachments(s: &[u8], start: usize, before: usize, headed: bool) -> 
         k = k + 1;
     }
     AttachmentsRead {
-        number: 0,
+        number: number,
         record: k,
         at: at,
         attachments: attachments,

@@ -79,6 +79,7 @@ pub fn read_bars(s: &[u8], start: usize, before: usize, headed: bool) -> BarsRea
         × (r .record ≤ r .at) ⌝ }
 {
     let mut bars = no_bars();
+    let mut number: u8 = 0;
     let mut at = start;
     let mut k = before;
     while at < s.len() {
@@ -86,22 +87,13 @@ pub fn read_bars(s: &[u8], start: usize, before: usize, headed: bool) -> BarsRea
             break;
         }
         let BarSeen::Got(bits, bar, next) = bar_at(s, at + 1) else {
-            return BarsRead {
-                number: 1,
-                record: k,
-                at: at,
-                bars: bars,
-            };
+            number = 1;
+            break;
         };
         let n = bars.count;
-        let number = judged(n, 32, false, bits & 7 == 7, headed, true);
+        number = judged(n, 32, false, bits & 7 == 7, headed, true);
         if number != 0 {
-            return BarsRead {
-                number: number,
-                record: k,
-                at: at,
-                bars: bars,
-            };
+            break;
         }
         bars.items[n] = bar;
         bars.count = n + 1;
@@ -109,7 +101,7 @@ pub fn read_bars(s: &[u8], start: usize, before: usize, headed: bool) -> BarsRea
         k = k + 1;
     }
     BarsRead {
-        number: 0,
+        number: number,
         record: k,
         at: at,
         bars: bars,

@@ -152,6 +152,7 @@ pub fn read_cuts(s: &[u8], start: usize, before: usize, headed: bool) -> CutsRea
 {
     let mut cuts = no_cuts();
     let mut pending: usize = 0;
+    let mut number: u8 = 0;
     let mut at = start;
     let mut k = before;
     while at < s.len() {
@@ -159,26 +160,17 @@ pub fn read_cuts(s: &[u8], start: usize, before: usize, headed: bool) -> CutsRea
             break;
         }
         let CutSeen::Got(bits, fields, next) = cut_at(s, at + 1) else {
-            return CutsRead {
-                number: 1,
-                record: k,
-                at: at,
-                cuts: cuts,
-            };
+            number = 1;
+            break;
         };
         let n = cuts.count;
         let cut = cut_from(s, fields);
         let decisions = cut.decisions;
         let total = pending + unresolved_in(decisions);
         let once = decided_once(decisions);
-        let number = judged(n, 16, 16 < total, bits & 7 == 7, headed, once);
+        number = judged(n, 16, 16 < total, bits & 7 == 7, headed, once);
         if number != 0 {
-            return CutsRead {
-                number: number,
-                record: k,
-                at: at,
-                cuts: cuts,
-            };
+            break;
         }
         cuts.items[n] = cut;
         cuts.count = n + 1;
@@ -187,7 +179,7 @@ pub fn read_cuts(s: &[u8], start: usize, before: usize, headed: bool) -> CutsRea
         k = k + 1;
     }
     CutsRead {
-        number: 0,
+        number: number,
         record: k,
         at: at,
         cuts: cuts,

@@ -121,6 +121,7 @@ pub fn read_edges(s: &[u8], start: usize, before: usize, headed: bool) -> EdgesR
         × (r .record ≤ r .at) ⌝ }
 {
     let mut edges = no_edges();
+    let mut number: u8 = 0;
     let mut at = start;
     let mut k = before;
     while at < s.len() {
@@ -128,22 +129,13 @@ pub fn read_edges(s: &[u8], start: usize, before: usize, headed: bool) -> EdgesR
             break;
         }
         let EdgeSeen::Got(bits, fields, next) = edge_at(s, at + 1) else {
-            return EdgesRead {
-                number: 1,
-                record: k,
-                at: at,
-                edges: edges,
-            };
+            number = 1;
+            break;
         };
         let n = edges.count;
-        let number = judged(n, 64, false, bits & 15 == 15, headed, true);
+        number = judged(n, 64, false, bits & 15 == 15, headed, true);
         if number != 0 {
-            return EdgesRead {
-                number: number,
-                record: k,
-                at: at,
-                edges: edges,
-            };
+            break;
         }
         edges.items[n] = edge_from(s, bits, fields);
         edges.count = n + 1;
@@ -151,7 +143,7 @@ pub fn read_edges(s: &[u8], start: usize, before: usize, headed: bool) -> EdgesR
         k = k + 1;
     }
     EdgesRead {
-        number: 0,
+        number: number,
         record: k,
         at: at,
         edges: edges,

@@ -81,6 +81,7 @@ pub fn read_facts(s: &[u8], start: usize, before: usize, headed: bool) -> FactsR
         count: 0,
         tuple: [0; 4],
     };
+    let mut number: u8 = 0;
     let mut at = start;
     let mut k = before;
     while at < s.len() {
@@ -88,12 +89,8 @@ pub fn read_facts(s: &[u8], start: usize, before: usize, headed: bool) -> FactsR
             break;
         }
         let FactSeen::Got(bits, family, first, count, next) = fact_at(s, at + 1) else {
-            return FactsRead {
-                number: 1,
-                record: k,
-                at: at,
-                facts: facts,
-            };
+            number = 1;
+            break;
         };
         let n = facts.count;
         let tuple = tuple_from(s, first, count);
@@ -104,14 +101,9 @@ pub fn read_facts(s: &[u8], start: usize, before: usize, headed: bool) -> FactsR
             tuple: tuple,
         };
         let rises = fact_rises(last, fact);
-        let number = judged(n, 64, false, both_or_none(bits), headed, rises);
+        number = judged(n, 64, false, both_or_none(bits), headed, rises);
         if number != 0 {
-            return FactsRead {
-                number: number,
-                record: k,
-                at: at,
-                facts: facts,
-            };
+            break;
         }
         facts.items[n] = fact;
         facts.count = n + 1;
@@ -120,7 +112,7 @@ pub fn read_facts(s: &[u8], start: usize, before: usize, headed: bool) -> FactsR
         k = k + 1;
     }
     FactsRead {
-        number: 0,
+        number: number,
         record: k,
         at: at,
         facts: facts,

@@ -57,6 +57,7 @@ pub fn read_heading(s: &[u8]) -> HeadingRead
     let mut relation: u8 = 0;
     let mut chained = false;
     let mut chain: u8 = 0;
+    let mut number: u8 = 0;
     let mut at: usize = 0;
     let mut k: usize = 0;
     while at < s.len() {
@@ -64,27 +65,12 @@ pub fn read_heading(s: &[u8]) -> HeadingRead
             break;
         }
         let HeadingSeen::Got(bits, named, cited, next) = heading_at(s, at + 1) else {
-            return HeadingRead {
-                number: 1,
-                record: k,
-                at: at,
-                headings: headings,
-                relation: relation,
-                chained: chained,
-                chain: chain,
-            };
+            number = 1;
+            break;
         };
-        let number = judged(headings, 1, false, bits & 1 == 1, true, true);
+        number = judged(headings, 1, false, bits & 1 == 1, true, true);
         if number != 0 {
-            return HeadingRead {
-                number: number,
-                record: k,
-                at: at,
-                headings: headings,
-                relation: relation,
-                chained: chained,
-                chain: chain,
-            };
+            break;
         }
         headings = 1;
         relation = named;
@@ -94,7 +80,7 @@ pub fn read_heading(s: &[u8]) -> HeadingRead
         k = k + 1;
     }
     HeadingRead {
-        number: 0,
+        number: number,
         record: k,
         at: at,
         headings: headings,

@@ -160,6 +160,7 @@ pub fn read_nodes(s: &[u8], start: usize, before: usize, headed: bool) -> NodesR
         × (r .record ≤ r .at) ⌝ }
 {
     let mut nodes = no_nodes();
+    let mut number: u8 = 0;
     let mut at = start;
     let mut k = before;
     while at < s.len() {
@@ -167,22 +168,13 @@ pub fn read_nodes(s: &[u8], start: usize, before: usize, headed: bool) -> NodesR
             break;
         }
         let NodeSeen::Got(bits, fields, next) = node_at(s, at + 1) else {
-            return NodesRead {
-                number: 1,
-                record: k,
-                at: at,
-                nodes: nodes,
-            };
+            number = 1;
+            break;
         };
         let n = nodes.count;
-        let number = judged(n, 256, false, one_bit(bits), headed, true);
+        number = judged(n, 256, false, one_bit(bits), headed, true);
         if number != 0 {
-            return NodesRead {
-                number: number,
-                record: k,
-                at: at,
-                nodes: nodes,
-            };
+            break;
         }
         nodes.items[n] = node_from(s, bits, fields);
         nodes.count = n + 1;
@@ -190,7 +182,7 @@ pub fn read_nodes(s: &[u8], start: usize, before: usize, headed: bool) -> NodesR
         k = k + 1;
     }
     NodesRead {
-        number: 0,
+        number: number,
         record: k,
         at: at,
         nodes: nodes,

@@ -77,6 +77,7 @@ pub fn read_statuses(s: &[u8], start: usize, before: usize, headed: bool) -> Sta
         × (r .record ≤ r .at) ⌝ }
 {
     let mut statuses = no_statuses();
+    let mut number: u8 = 0;
     let mut at = start;
     let mut k = before;
     while at < s.len() {
@@ -84,22 +85,13 @@ pub fn read_statuses(s: &[u8], start: usize, before: usize, headed: bool) -> Sta
             break;
         }
         let StatusSeen::Got(bits, status, next) = status_at(s, at + 1) else {
-            return StatusesRead {
-                number: 1,
-                record: k,
-                at: at,
-                statuses: statuses,
-            };
+            number = 1;
+            break;
         };
         let n = statuses.count;
-        let number = judged(n, 32, false, bits & 7 == 7, headed, true);
+        number = judged(n, 32, false, bits & 7 == 7, headed, true);
         if number != 0 {
-            return StatusesRead {
-                number: number,
-                record: k,
-                at: at,
-                statuses: statuses,
-            };
+            break;
         }
         statuses.items[n] = status;
         statuses.count = n + 1;
@@ -107,7 +99,7 @@ pub fn read_statuses(s: &[u8], start: usize, before: usize, headed: bool) -> Sta
         k = k + 1;
     }
     StatusesRead {
-        number: 0,
+        number: number,
         record: k,
         at: at,
         statuses: statuses,

@@ -18,29 +18,17 @@ use Rattle.records.proofs.case.reading.booleans.read_booleans.Statement
 use Rattle.records.proofs.case.reading.booleans.read_booleans.Tie as tie
 
 abbrev Inv-loop : tie.InvT-loop
-Inv-loop s start before headed booleans₀ at₀ k₀ booleans at k =
-    (k ≤ at) × (booleans .count ≤ 64) × (length (booleans .items) ≡ 64) × Going booleanKind s headed start before k at (booleansOf booleans)
+Inv-loop s start before headed booleans₀ number₀ at₀ k₀ booleans number at k =
+    (k ≤ at) × (booleans .count ≤ 64) × (length (booleans .items) ≡ 64) × Going booleanKind s headed start before k at (booleansOf booleans) × (number ≡ 0)
 
 abbrev μ-loop : tie.MeasureT-loop
-μ-loop s start before headed booleans₀ at₀ k₀ booleans at k = length s - at
+μ-loop s start before headed booleans₀ number₀ at₀ k₀ booleans number at k = length s - at
 
 loop-holds : tie.Need-loop-holds Inv-loop μ-loop
 loop-holds c =
     let a = c .before .before .args in
     let e = c .no-booleans .ensures in
-    (c .before .before .pre, omega (arith, e .1), e .2, going booleanKind (now (a .s)) (a .headed) (a .start) (a .before) (booleansOf (c .no-booleans .result)) (e .0))
-
-returns : tie.Need-returns Inv-loop μ-loop
-returns c =
-    let i = c .before .before .before .before .before .before .loop .inv in
-    (refused-bad booleanKind _ _ _ _ (i .3) (i .0) (c .before .before .before .before .before .loop-test .taken) (c .before .before .before .if1 .left) (seen (booleanRead (now (c .before .before .before .before .before .before .before .before .before .args .s))) (c .before .before .boolean-at .ensures .0) (c .enum-told .given .1)), i .0)
-
-returns-2 : tie.Need-returns-2 Inv-loop μ-loop
-returns-2 c =
-    let i = c .before .before .before .before .before .before .before .before .before .loop .inv in
-    let l = c .before .before .before .before .before .before .before .before .before .loop .booleans in
-    let j = judge-same 64 (l .count) (length (booleansOf l)) false false _ (fields.needs 1 (c .before .before .before .bits .given .0 .0)) (c .before .before .before .before .before .before .before .before .before .before .before .before .args .headed) true true (c .before .judged .ensures .0) (length-made booleanOf (l .items) (l .count) (omega (arith, i .1, i .2))) refl (needs-test (c .before .before .before .bits .given .0 .0) 1) refl in
-    (refused-judged booleanKind _ _ _ _ (i .3) (i .0) (c .before .before .before .before .before .before .before .before .loop-test .taken) (c .before .before .before .before .before .before .if1 .left) tt (seen (booleanRead (now (c .before .before .before .before .before .before .before .before .before .before .before .before .args .s))) (c .before .before .before .before .before .boolean-at .ensures .0) (c .before .before .before .bits .given .1)) _ j (c .if2 .taken), i .0)
+    (c .before .before .pre, omega (arith, e .1), e .2, going booleanKind (now (a .s)) (a .headed) (a .start) (a .before) (booleansOf (c .no-booleans .result)) (e .0), refl)
 
 observations-from-requires : tie.Need-observations-from-requires Inv-loop μ-loop
 observations-from-requires c κs = let f = rw (c .before .before .before .bits .given .1) at (c .before .before .before .before .before .boolean-at .ensures .1) in (f .0, f .1)
@@ -72,22 +60,35 @@ loop-again c =
       rw length-set (i .2),
       goes-on booleanKind _ _ _ _ (i .3) (i .0) (c .before .before .before .before .before .before .before .before .before .loop-test .taken) (c .before .before .before .before .before .before .before .if1 .left) tt f _ j (c .before .if2 .left) _
           (made-more booleanOf (l .items) (l .count) _ (omega (arith, i .2, h)) ∙ rw (c .observations-from .ensures)),
+      c .before .if2 .left,
     )
+
+returns : tie.Need-returns Inv-loop μ-loop
+returns c =
+    let i = c .before .loop .inv in
+    (ends-short booleanKind _ _ _ _ (i .3) (i .4) (c .loop-test .left), i .0)
+
+returns-2 : tie.Need-returns-2 Inv-loop μ-loop
+returns-2 c =
+    let i = c .before .before .before .loop .inv in
+    (ends-other booleanKind _ _ _ _ (i .3) (i .4) (c .if1 .taken), i .0)
 
 returns-3 : tie.Need-returns-3 Inv-loop μ-loop
 returns-3 c =
-    let i = c .before .loop .inv in
-    (ends-short booleanKind _ _ _ _ (i .3) (c .loop-test .left), i .0)
+    let i = c .before .before .before .before .before .before .loop .inv in
+    (refused-bad booleanKind _ _ _ _ (i .3) (i .0) (c .before .before .before .before .before .loop-test .taken) (c .before .before .before .if1 .left) (seen (booleanRead (now (c .before .before .before .before .before .before .before .before .before .args .s))) (c .before .before .boolean-at .ensures .0) (c .enum-told .given .1)), i .0)
 
 returns-4 : tie.Need-returns-4 Inv-loop μ-loop
 returns-4 c =
-    let i = c .before .before .before .loop .inv in
-    (ends-other booleanKind _ _ _ _ (i .3) (c .if1 .taken), i .0)
+    let i = c .before .before .before .before .before .before .before .before .before .loop .inv in
+    let l = c .before .before .before .before .before .before .before .before .before .loop .booleans in
+    let j = judge-same 64 (l .count) (length (booleansOf l)) false false _ (fields.needs 1 (c .before .before .before .bits .given .0 .0)) (c .before .before .before .before .before .before .before .before .before .before .before .before .args .headed) true true (c .before .judged .ensures .0) (length-made booleanOf (l .items) (l .count) (omega (arith, i .1, i .2))) refl (needs-test (c .before .before .before .bits .given .0 .0) 1) refl in
+    (refused-judged booleanKind _ _ _ _ (i .3) (i .0) (c .before .before .before .before .before .before .before .before .loop-test .taken) (c .before .before .before .before .before .before .if1 .left) tt (seen (booleanRead (now (c .before .before .before .before .before .before .before .before .before .before .before .before .args .s))) (c .before .before .before .before .before .boolean-at .ensures .0) (c .before .before .before .bits .given .1)) _ j (c .if2 .taken), i .0)
 
 pub read-booleans-spec : {M : Type 1} → statement M
 read-booleans-spec =
     tie.close
     (tie.spec Inv-loop μ-loop (λ c κs. search needs) loop-holds (λ c. search needs) (λ c. search needs)
-    (λ c κs. search needs) (λ c. search needs) (λ c. search needs) returns (λ c κs. search needs) returns-2
-    observations-from-requires (λ c. search needs) element-set-from-booleans add-booleans (λ c. search needs)
-    loop-less loop-again returns-3 returns-4)
+    (λ c κs. search needs) (λ c. search needs) (λ c. search needs) (λ c κs. search needs) observations-from-requires
+    (λ c. search needs) element-set-from-booleans add-booleans (λ c. search needs) loop-less loop-again returns
+    returns-2 returns-3 returns-4)

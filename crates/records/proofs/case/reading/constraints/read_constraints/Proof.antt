@@ -18,29 +18,17 @@ use Rattle.records.proofs.case.reading.constraints.read_constraints.Sta
 use Rattle.records.proofs.case.reading.constraints.read_constraints.Tie as tie
 
 abbrev Inv-loop : tie.InvT-loop
-Inv-loop s start before headed constraints₀ at₀ k₀ constraints at k =
-    (k ≤ at) × (constraints .count ≤ 16) × (length (constraints .items) ≡ 16) × Going constraintKind s headed start before k at (constraintsOf constraints)
+Inv-loop s start before headed constraints₀ number₀ at₀ k₀ constraints number at k =
+    (k ≤ at) × (constraints .count ≤ 16) × (length (constraints .items) ≡ 16) × Going constraintKind s headed start before k at (constraintsOf constraints) × (number ≡ 0)
 
 abbrev μ-loop : tie.MeasureT-loop
-μ-loop s start before headed constraints₀ at₀ k₀ constraints at k = length s - at
+μ-loop s start before headed constraints₀ number₀ at₀ k₀ constraints number at k = length s - at
 
 loop-holds : tie.Need-loop-holds Inv-loop μ-loop
 loop-holds c =
     let a = c .before .before .args in
     let e = c .no-constraints .ensures in
-    (c .before .before .pre, omega (arith, e .1), e .2, going constraintKind (now (a .s)) (a .headed) (a .start) (a .before) (constraintsOf (c .no-constraints .result)) (e .0))
-
-returns : tie.Need-returns Inv-loop μ-loop
-returns c =
-    let i = c .before .before .before .before .before .before .loop .inv in
-    (refused-bad constraintKind _ _ _ _ (i .3) (i .0) (c .before .before .before .before .before .loop-test .taken) (c .before .before .before .if1 .left) (seen constraintRead (c .before .before .constraint-at .ensures) (c .enum-told .given .1)), i .0)
-
-returns-2 : tie.Need-returns-2 Inv-loop μ-loop
-returns-2 c =
-    let i = c .before .before .before .before .before .before .before .before .before .loop .inv in
-    let l = c .before .before .before .before .before .before .before .before .before .loop .constraints in
-    let j = judge-same 16 (l .count) (length (constraintsOf l)) false false _ (fields.needs 1 (c .before .before .before .bits .given .0 .0)) (c .before .before .before .before .before .before .before .before .before .before .before .before .args .headed) true true (c .before .judged .ensures .0) (length-take-le (l .count) (l .items) (omega (arith, i .1, i .2))) refl (needs-test (c .before .before .before .bits .given .0 .0) 1) refl in
-    (refused-judged constraintKind _ _ _ _ (i .3) (i .0) (c .before .before .before .before .before .before .before .before .loop-test .taken) (c .before .before .before .before .before .before .if1 .left) tt (seen constraintRead (c .before .before .before .before .before .constraint-at .ensures) (c .before .before .before .bits .given .1)) _ j (c .if2 .taken), i .0)
+    (c .before .before .pre, omega (arith, e .1), e .2, going constraintKind (now (a .s)) (a .headed) (a .start) (a .before) (constraintsOf (c .no-constraints .result)) (e .0), refl)
 
 element-write-constraints : tie.Need-element-write-constraints Inv-loop μ-loop
 element-write-constraints c = let h = c .before .judged .ensures .1 (c .if2 .left) in search (needs, h)
@@ -67,21 +55,34 @@ loop-again c =
       omega (arith, h),
       rw length-set (i .2),
       goes-on constraintKind _ _ _ _ (i .3) (i .0) (c .before .before .before .before .before .before .before .before .loop-test .taken) (c .before .before .before .before .before .before .if1 .left) tt f _ j (c .if2 .left) _ (take-more (l .items) (l .count) _ (omega (arith, i .2, h))),
+      c .if2 .left,
     )
+
+returns : tie.Need-returns Inv-loop μ-loop
+returns c =
+    let i = c .before .loop .inv in
+    (ends-short constraintKind _ _ _ _ (i .3) (i .4) (c .loop-test .left), i .0)
+
+returns-2 : tie.Need-returns-2 Inv-loop μ-loop
+returns-2 c =
+    let i = c .before .before .before .loop .inv in
+    (ends-other constraintKind _ _ _ _ (i .3) (i .4) (c .if1 .taken), i .0)
 
 returns-3 : tie.Need-returns-3 Inv-loop μ-loop
 returns-3 c =
-    let i = c .before .loop .inv in
-    (ends-short constraintKind _ _ _ _ (i .3) (c .loop-test .left), i .0)
+    let i = c .before .before .before .before .before .before .loop .inv in
+    (refused-bad constraintKind _ _ _ _ (i .3) (i .0) (c .before .before .before .before .before .loop-test .taken) (c .before .before .before .if1 .left) (seen constraintRead (c .before .before .constraint-at .ensures) (c .enum-told .given .1)), i .0)
 
 returns-4 : tie.Need-returns-4 Inv-loop μ-loop
 returns-4 c =
-    let i = c .before .before .before .loop .inv in
-    (ends-other constraintKind _ _ _ _ (i .3) (c .if1 .taken), i .0)
+    let i = c .before .before .before .before .before .before .before .before .before .loop .inv in
+    let l = c .before .before .before .before .before .before .before .before .before .loop .constraints in
+    let j = judge-same 16 (l .count) (length (constraintsOf l)) false false _ (fields.needs 1 (c .before .before .before .bits .given .0 .0)) (c .before .before .before .before .before .before .before .before .before .before .before .before .args .headed) true true (c .before .judged .ensures .0) (length-take-le (l .count) (l .items) (omega (arith, i .1, i .2))) refl (needs-test (c .before .before .before .bits .given .0 .0) 1) refl in
+    (refused-judged constraintKind _ _ _ _ (i .3) (i .0) (c .before .before .before .before .before .before .before .before .loop-test .taken) (c .before .before .before .before .before .before .if1 .left) tt (seen constraintRead (c .before .before .before .before .before .constraint-at .ensures) (c .before .before .before .bits .given .1)) _ j (c .if2 .taken), i .0)
 
 pub read-constraints-spec : {M : Type 1} → statement M
 read-constraints-spec =
     tie.close
     (tie.spec Inv-loop μ-loop (λ c κs. search needs) loop-holds (λ c. search needs) (λ c. search needs)
-    (λ c κs. search needs) (λ c. search needs) (λ c. search needs) returns (λ c κs. search needs) returns-2
-    element-write-constraints add-constraints (λ c. search needs) loop-less loop-again returns-3 returns-4)
+    (λ c κs. search needs) (λ c. search needs) (λ c. search needs) (λ c κs. search needs) element-write-constraints
+    add-constraints (λ c. search needs) loop-less loop-again returns returns-2 returns-3 returns-4)

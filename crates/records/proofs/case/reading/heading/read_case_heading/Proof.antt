@@ -1,5 +1,5 @@
 -- The pass over a case's headings.
-use mathlib.Core.Path.{refl}
+use mathlib.Core.Path.{_≡_, refl}
 use mathlib.Core.Bool.{true, false}
 use mathlib.Core.List.{[]}
 use Prim.Native.Nat.{_-_, _≤_}
@@ -18,27 +18,14 @@ use Rattle.records.proofs.case.reading.heading.read_case_heading.Statem
 use Rattle.records.proofs.case.reading.heading.read_case_heading.Tie as tie
 
 abbrev Inv-loop : tie.InvT-loop
-Inv-loop s headings₀ heading₀ at₀ k₀ headings heading at k =
-    (k ≤ at) × (headings ≤ 1) × Going headingKind s false 0 0 k at (caseHeadingsOf headings heading)
+Inv-loop s headings₀ heading₀ number₀ at₀ k₀ headings heading number at k =
+    (k ≤ at) × (headings ≤ 1) × Going headingKind s false 0 0 k at (caseHeadingsOf headings heading) × (number ≡ 0)
 
 abbrev μ-loop : tie.MeasureT-loop
-μ-loop s headings₀ heading₀ at₀ k₀ headings heading at k = length s - at
+μ-loop s headings₀ heading₀ number₀ at₀ k₀ headings heading number at k = length s - at
 
 loop-holds : tie.Need-loop-holds Inv-loop μ-loop
-loop-holds c = (omega arith, omega arith, going headingKind (now (c .before .before .args .s)) false 0 0 [] refl)
-
-returns : tie.Need-returns Inv-loop μ-loop
-returns c =
-    let i = c .before .before .before .before .before .before .loop .inv in
-    (refused-bad headingKind _ _ _ _ (i .2) (i .0) (c .before .before .before .before .before .loop-test .taken) (c .before .before .before .if1 .left) (seen caseHeadingRead (c .before .before .heading-at .ensures) (c .enum-told .given .1)), i .0, i .1)
-
-returns-2 : tie.Need-returns-2 Inv-loop μ-loop
-returns-2 c =
-    let l = c .before .before .before .before .before .before .before .before .before .loop in
-    let i = l .inv in
-    let x = caseHeadingOf (l .heading) in
-    let j = judge-same 1 (l .headings) (length (caseHeadingsOf (l .headings) (l .heading))) false false _ (fields.needs 81 (c .before .before .before .bits .given .0 .0)) true true true (c .before .judged .ensures .0) (heading-count (l .headings) x (i .1)) refl (needs-test (c .before .before .before .bits .given .0 .0) 81) refl in
-    (refused-judged headingKind _ _ _ _ (i .2) (i .0) (c .before .before .before .before .before .before .before .before .loop-test .taken) (c .before .before .before .before .before .before .if1 .left) tt (seen caseHeadingRead (c .before .before .before .before .before .heading-at .ensures) (c .before .before .before .bits .given .1)) _ j (c .if2 .taken), i .0, i .1)
+loop-holds c = (omega arith, omega arith, going headingKind (now (c .before .before .args .s)) false 0 0 [] refl, refl)
 
 loop-less : tie.Need-loop-less Inv-loop μ-loop
 loop-less c =
@@ -59,21 +46,35 @@ loop-again c =
       omega (arith, z),
       omega arith,
       goes-on headingKind _ _ _ _ (i .2) (i .0) (c .before .before .before .before .before .before .before .before .loop-test .taken) (c .before .before .before .before .before .before .if1 .left) tt f _ j (c .if2 .left) _ (rw (heading-none (l .headings) x h)),
+      c .if2 .left,
     )
+
+returns : tie.Need-returns Inv-loop μ-loop
+returns c =
+    let i = c .before .loop .inv in
+    (ends-short headingKind _ _ _ _ (i .2) (i .3) (c .loop-test .left), i .0, i .1)
+
+returns-2 : tie.Need-returns-2 Inv-loop μ-loop
+returns-2 c =
+    let i = c .before .before .before .loop .inv in
+    (ends-other headingKind _ _ _ _ (i .2) (i .3) (c .if1 .taken), i .0, i .1)
 
 returns-3 : tie.Need-returns-3 Inv-loop μ-loop
 returns-3 c =
-    let i = c .before .loop .inv in
-    (ends-short headingKind _ _ _ _ (i .2) (c .loop-test .left), i .0, i .1)
+    let i = c .before .before .before .before .before .before .loop .inv in
+    (refused-bad headingKind _ _ _ _ (i .2) (i .0) (c .before .before .before .before .before .loop-test .taken) (c .before .before .before .if1 .left) (seen caseHeadingRead (c .before .before .heading-at .ensures) (c .enum-told .given .1)), i .0, i .1)
 
 returns-4 : tie.Need-returns-4 Inv-loop μ-loop
 returns-4 c =
-    let i = c .before .before .before .loop .inv in
-    (ends-other headingKind _ _ _ _ (i .2) (c .if1 .taken), i .0, i .1)
+    let l = c .before .before .before .before .before .before .before .before .before .loop in
+    let i = l .inv in
+    let x = caseHeadingOf (l .heading) in
+    let j = judge-same 1 (l .headings) (length (caseHeadingsOf (l .headings) (l .heading))) false false _ (fields.needs 81 (c .before .before .before .bits .given .0 .0)) true true true (c .before .judged .ensures .0) (heading-count (l .headings) x (i .1)) refl (needs-test (c .before .before .before .bits .given .0 .0) 81) refl in
+    (refused-judged headingKind _ _ _ _ (i .2) (i .0) (c .before .before .before .before .before .before .before .before .loop-test .taken) (c .before .before .before .before .before .before .if1 .left) tt (seen caseHeadingRead (c .before .before .before .before .before .heading-at .ensures) (c .before .before .before .bits .given .1)) _ j (c .if2 .taken), i .0, i .1)
 
 pub read-case-heading-spec : {M : Type 1} → statement M
 read-case-heading-spec =
     tie.close
     (tie.spec Inv-loop μ-loop (λ c κs. search needs) loop-holds (λ c. search needs) (λ c. search needs)
-    (λ c κs. search needs) (λ c. search needs) (λ c. search needs) returns (λ c κs. search needs) returns-2
-    (λ c. search needs) loop-less loop-again returns-3 returns-4)
+    (λ c κs. search needs) (λ c. search needs) (λ c. search needs) (λ c κs. search needs) (λ c. search needs)
+    loop-less loop-again returns returns-2 returns-3 returns-4)

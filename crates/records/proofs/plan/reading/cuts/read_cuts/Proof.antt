@@ -1,5 +1,5 @@
 -- The pass over the cuts.
-use mathlib.Core.Path.{_≡_, sym, _∙_, ap, ap₂}
+use mathlib.Core.Path.{_≡_, refl, sym, _∙_, ap, ap₂}
 use mathlib.Core.Bool.{true, _&&_}
 use mathlib.Core.List.{[], _∷_, _++_}
 use Prim.Native.Nat.{ℕ, _+_, _-_, _≤_}
@@ -24,12 +24,12 @@ use Rattle.records.proofs.plan.reading.cuts.read_cuts.Statement.{statem
 use Rattle.records.proofs.plan.reading.cuts.read_cuts.Tie as tie
 
 abbrev Inv-loop : tie.InvT-loop
-Inv-loop s start before headed cuts₀ pending₀ at₀ k₀ cuts pending at k =
+Inv-loop s start before headed cuts₀ pending₀ number₀ at₀ k₀ cuts pending number at k =
     (k ≤ at) × (cuts .count ≤ 16) × (length (cuts .items) ≡ 16) × Going cutKind s headed start before k at (cutsOf cuts)
-    × (pending ≡ paper.unresolved (cutsOf cuts)) × (pending ≤ 16) × (allOf once (cutsOf cuts) ≡ true)
+    × (pending ≡ paper.unresolved (cutsOf cuts)) × (pending ≤ 16) × (allOf once (cutsOf cuts) ≡ true) × (number ≡ 0)
 
 abbrev μ-loop : tie.MeasureT-loop
-μ-loop s start before headed cuts₀ pending₀ at₀ k₀ cuts pending at k = length s - at
+μ-loop s start before headed cuts₀ pending₀ number₀ at₀ k₀ cuts pending number at k = length s - at
 
 loop-holds : tie.Need-loop-holds Inv-loop μ-loop
 unfolding paper.unresolved allOf
@@ -43,19 +43,11 @@ loop-holds c =
       sym (ap paper.unresolved (e .0)),
       omega arith,
       ap (allOf once) (e .0),
+      refl,
     )
 
 add-cut-at : tie.Need-add-cut-at Inv-loop μ-loop
 add-cut-at c = search needs
-
-returns : tie.Need-returns Inv-loop μ-loop
-returns c =
-    let i = c .before .before .before .before .before .before .loop .inv in (
-      refused-bad cutKind _ _ _ _ (i .3) (i .0) (c .before .before .before .before .before .loop-test .taken) (c .before .before .before .if1 .left) (seen (cutRead (now (c .before .before .before .before .before .before .before .before .before .args .s))) (c .before .before .cut-at .ensures .0) (c .enum-told .given .1)),
-      i .0,
-      ap (ltb 16) (sym (i .4)) ∙ le-ltb 16 (c .before .before .before .before .before .before .loop .pending) (i .5),
-      i .6,
-    )
 
 cut-from-requires : tie.Need-cut-from-requires Inv-loop μ-loop
 cut-from-requires c κs = let f = rw (c .before .bits .given .1) at (c .before .before .before .cut-at .ensures .1) in (f .0, f .1, f .2, f .3)
@@ -68,23 +60,6 @@ add-total c = let h = c .unresolved-in .ensures in let i = c .before .before .be
 
 decided-once-requires : tie.Need-decided-once-requires Inv-loop μ-loop
 decided-once-requires c κs = c .before .before .cut-from .ensures .1
-
-returns-2 : tie.Need-returns-2 Inv-loop μ-loop
-unfolding cutOf
-returns-2 c =
-    let l = c .before .before .before .before .before .before .before .before .before .before .before .before .before .loop .cuts in
-    let i = c .before .before .before .before .before .before .before .before .before .before .before .before .before .loop .inv in
-    let b = c .before .before .before .before .before .before .before .bits .given .0 .0 in
-    let e = ap (λ (y : paper.Cut). y .decisions) (c .before .before .before .before .before .cut-from .ensures .0) in
-    let u = c .before .before .before .unresolved-in .ensures .0 ∙ ap paper.unresolvedIn e in
-    let o = ap₂ (λ (x y : ℕ). ltb 16 (x + y)) (i .4) u in
-    let d = c .before .before .decided-once .ensures ∙ ap paper.decidedOnce e in
-    let j = judge-same 16 (l .count) (length (cutsOf l)) _ _ _ (fields.needs 7 b) (c .before .before .before .before .before .before .before .before .before .before .before .before .before .before .before .before .args .headed) _ _ (c .before .judged .ensures .0) (length-made cutOf (l .items) (l .count) (omega (arith, i .1, i .2))) o (needs-test b 7) d in (
-      refused-judged cutKind _ _ _ _ (i .3) (i .0) (c .before .before .before .before .before .before .before .before .before .before .before .before .loop-test .taken) (c .before .before .before .before .before .before .before .before .before .before .if1 .left) (i .6) (seen (cutRead (now (c .before .before .before .before .before .before .before .before .before .before .before .before .before .before .before .before .args .s))) (c .before .before .before .before .before .before .before .before .before .cut-at .ensures .0) (c .before .before .before .before .before .before .before .bits .given .1)) _ j (c .if2 .taken),
-      i .0,
-      ap (ltb 16) (sym (i .4)) ∙ le-ltb 16 (c .before .before .before .before .before .before .before .before .before .before .before .before .before .loop .pending) (i .5),
-      i .6,
-    )
 
 element-set-from-cut : tie.Need-element-set-from-cut Inv-loop μ-loop
 element-set-from-cut c = let h = c .before .judged .ensures .1 (c .if2 .left) in search (needs, h)
@@ -125,22 +100,49 @@ loop-again c =
       ap₂ _+_ (i .4) u ∙ sym (ap paper.unresolved more ∙ unresolved-more (cutsOf l) _),
       ltb-false 16 (c .before .before .before .before .before .before .before .before .before .before .before .before .before .loop .pending + c .before .before .before .unresolved-in .result) over,
       ap (allOf once) more ∙ all-more once (cutsOf l) _ ∙ ap₂ _&&_ (i .6) (sym d ∙ sound),
+      c .if2 .left,
     )
+
+returns : tie.Need-returns Inv-loop μ-loop
+returns c =
+    let i = c .before .loop .inv in
+    (ends-short cutKind _ _ _ _ (i .3) (i .7) (c .loop-test .left), i .0, ap (ltb 16) (sym (i .4)) ∙ le-ltb 16 (c .before .loop .pending) (i .5), i .6)
+
+returns-2 : tie.Need-returns-2 Inv-loop μ-loop
+returns-2 c =
+    let i = c .before .before .before .loop .inv in
+    (ends-other cutKind _ _ _ _ (i .3) (i .7) (c .if1 .taken), i .0, ap (ltb 16) (sym (i .4)) ∙ le-ltb 16 (c .before .before .before .loop .pending) (i .5), i .6)
 
 returns-3 : tie.Need-returns-3 Inv-loop μ-loop
 returns-3 c =
-    let i = c .before .loop .inv in
-    (ends-short cutKind _ _ _ _ (i .3) (c .loop-test .left), i .0, ap (ltb 16) (sym (i .4)) ∙ le-ltb 16 (c .before .loop .pending) (i .5), i .6)
+    let i = c .before .before .before .before .before .before .loop .inv in (
+      refused-bad cutKind _ _ _ _ (i .3) (i .0) (c .before .before .before .before .before .loop-test .taken) (c .before .before .before .if1 .left) (seen (cutRead (now (c .before .before .before .before .before .before .before .before .before .args .s))) (c .before .before .cut-at .ensures .0) (c .enum-told .given .1)),
+      i .0,
+      ap (ltb 16) (sym (i .4)) ∙ le-ltb 16 (c .before .before .before .before .before .before .loop .pending) (i .5),
+      i .6,
+    )
 
 returns-4 : tie.Need-returns-4 Inv-loop μ-loop
+unfolding cutOf
 returns-4 c =
-    let i = c .before .before .before .loop .inv in
-    (ends-other cutKind _ _ _ _ (i .3) (c .if1 .taken), i .0, ap (ltb 16) (sym (i .4)) ∙ le-ltb 16 (c .before .before .before .loop .pending) (i .5), i .6)
+    let l = c .before .before .before .before .before .before .before .before .before .before .before .before .before .loop .cuts in
+    let i = c .before .before .before .before .before .before .before .before .before .before .before .before .before .loop .inv in
+    let b = c .before .before .before .before .before .before .before .bits .given .0 .0 in
+    let e = ap (λ (y : paper.Cut). y .decisions) (c .before .before .before .before .before .cut-from .ensures .0) in
+    let u = c .before .before .before .unresolved-in .ensures .0 ∙ ap paper.unresolvedIn e in
+    let o = ap₂ (λ (x y : ℕ). ltb 16 (x + y)) (i .4) u in
+    let d = c .before .before .decided-once .ensures ∙ ap paper.decidedOnce e in
+    let j = judge-same 16 (l .count) (length (cutsOf l)) _ _ _ (fields.needs 7 b) (c .before .before .before .before .before .before .before .before .before .before .before .before .before .before .before .before .args .headed) _ _ (c .before .judged .ensures .0) (length-made cutOf (l .items) (l .count) (omega (arith, i .1, i .2))) o (needs-test b 7) d in (
+      refused-judged cutKind _ _ _ _ (i .3) (i .0) (c .before .before .before .before .before .before .before .before .before .before .before .before .loop-test .taken) (c .before .before .before .before .before .before .before .before .before .before .if1 .left) (i .6) (seen (cutRead (now (c .before .before .before .before .before .before .before .before .before .before .before .before .before .before .before .before .args .s))) (c .before .before .before .before .before .before .before .before .before .cut-at .ensures .0) (c .before .before .before .before .before .before .before .bits .given .1)) _ j (c .if2 .taken),
+      i .0,
+      ap (ltb 16) (sym (i .4)) ∙ le-ltb 16 (c .before .before .before .before .before .before .before .before .before .before .before .before .before .loop .pending) (i .5),
+      i .6,
+    )
 
 pub read-cuts-spec : {M : Type 1} → statement M
 read-cuts-spec =
     tie.close
     (tie.spec Inv-loop μ-loop (λ c κs. search needs) loop-holds (λ c. search needs) add-cut-at (λ c κs. search needs)
-    (λ c. search needs) (λ c. search needs) returns cut-from-requires unresolved-in-requires add-total
-    decided-once-requires (λ c κs. search needs) returns-2 (λ c. search needs) element-set-from-cut add-cuts add-k
-    loop-less loop-again returns-3 returns-4)
+    (λ c. search needs) (λ c. search needs) cut-from-requires unresolved-in-requires add-total decided-once-requires
+    (λ c κs. search needs) (λ c. search needs) element-set-from-cut add-cuts add-k loop-less loop-again returns
+    returns-2 returns-3 returns-4)

@@ -21,12 +21,12 @@ use Rattle.records.proofs.plan.reading.facts.read_facts.Statement.{stat
 use Rattle.records.proofs.plan.reading.facts.read_facts.Tie as tie
 
 abbrev Inv-loop : tie.InvT-loop
-Inv-loop s start before headed facts₀ last₀ at₀ k₀ facts last at k =
+Inv-loop s start before headed facts₀ last₀ number₀ at₀ k₀ facts last number at k =
     (k ≤ at) × (facts .count ≤ 64) × (length (facts .items) ≡ 64) × Going factKind s headed start before k at (factsOf facts)
-    × (factsRise (factsOf facts) ≡ true) × (lastFact (factsOf facts) ≡ factOf last) × (last .count ≤ 4) × (last .boolean ≡ true → last .count ≡ 0)
+    × (factsRise (factsOf facts) ≡ true) × (lastFact (factsOf facts) ≡ factOf last) × (last .count ≤ 4) × (last .boolean ≡ true → last .count ≡ 0) × (number ≡ 0)
 
 abbrev μ-loop : tie.MeasureT-loop
-μ-loop s start before headed facts₀ last₀ at₀ k₀ facts last at k = length s - at
+μ-loop s start before headed facts₀ last₀ number₀ at₀ k₀ facts last number at k = length s - at
 
 loop-holds : tie.Need-loop-holds Inv-loop μ-loop
 unfolding factOf factsRise
@@ -41,28 +41,14 @@ loop-holds c =
       ap lastFact (e .0) ∙ last-none,
       omega arith,
       λ z. refl,
+      refl,
     )
-
-returns : tie.Need-returns Inv-loop μ-loop
-returns c =
-    let i = c .before .before .before .before .before .before .loop .inv in
-    (refused-bad factKind _ _ _ _ (i .3) (i .0) (c .before .before .before .before .before .loop-test .taken) (c .before .before .before .if1 .left) (seen (factRead (now (c .before .before .before .before .before .before .before .before .before .args .s))) (c .before .before .fact-at .ensures .0) (c .enum-told .given .1)), i .0, i .4)
 
 tuple-from-requires : tie.Need-tuple-from-requires Inv-loop μ-loop
 tuple-from-requires c κs = let f = rw (c .before .bits .given .1) at (c .before .before .before .fact-at .ensures .1) in (f .0, f .1)
 
 fact-rises-requires : tie.Need-fact-rises-requires Inv-loop μ-loop
 fact-rises-requires c κs = let f = rw (c .before .before .bits .given .1) at (c .before .before .before .before .fact-at .ensures .1) in (c .before .before .before .before .before .before .before .before .loop .inv .6, f .0, c .before .before .before .before .before .before .before .before .loop .inv .7)
-
-returns-2 : tie.Need-returns-2 Inv-loop μ-loop
-returns-2 c =
-    let l = c .before .before .before .before .before .before .before .before .before .before .before .before .loop .facts in
-    let i = c .before .before .before .before .before .before .before .before .before .before .before .before .loop .inv in
-    let b = c .before .before .before .before .before .before .bits .given .0 .0 in
-    let x = fact-is (now (c .before .before .before .before .before .before .before .before .before .before .before .before .before .before .before .args .s)) b (c .before .before .before .before .before .before .bits .given .0 .1 .0) (c .before .before .before .before .before .before .bits .given .0 .1 .1 .0) (c .before .before .before .before .before .before .bits .given .0 .1 .1 .1 .0) (c .before .before .before .before .tuple-from .result) (c .before .before .before .before .tuple-from .ensures) in
-    let d = c .before .before .before .fact-rises .ensures ∙ ap₂ rises (sym (i .5)) x in
-    let j = judge-same 64 (l .count) (length (factsOf l)) false false _ (factBits b) (c .before .before .before .before .before .before .before .before .before .before .before .before .before .before .before .args .headed) _ _ (c .before .judged .ensures .0) (length-made factOf (l .items) (l .count) (omega (arith, i .1, i .2))) refl (c .before .before .both-or-none .ensures) d in
-    (refused-judged factKind _ _ _ _ (i .3) (i .0) (c .before .before .before .before .before .before .before .before .before .before .before .loop-test .taken) (c .before .before .before .before .before .before .before .before .before .if1 .left) (i .4) (seen (factRead (now (c .before .before .before .before .before .before .before .before .before .before .before .before .before .before .before .args .s))) (c .before .before .before .before .before .before .before .before .fact-at .ensures .0) (c .before .before .before .before .before .before .bits .given .1)) _ j (c .if2 .taken), i .0, i .4)
 
 element-set-from-fact : tie.Need-element-set-from-fact Inv-loop μ-loop
 element-set-from-fact c = let h = c .before .judged .ensures .1 (c .if2 .left) in search (needs, h)
@@ -102,22 +88,38 @@ loop-again c =
       ap lastFact more ∙ last-more (factsOf l) _ ∙ sym x,
       g .0,
       λ y. no-tuple b _ (sym (c .before .before .both-or-none .ensures) ∙ and-parts (c .before .before .both-or-none .result) (c .before .before .before .before .before .before .before .before .before .before .before .before .before .before .before .args .headed) t .0) y (g .2),
+      c .if2 .left,
     )
+
+returns : tie.Need-returns Inv-loop μ-loop
+returns c =
+    let i = c .before .loop .inv in
+    (ends-short factKind _ _ _ _ (i .3) (i .8) (c .loop-test .left), i .0, i .4)
+
+returns-2 : tie.Need-returns-2 Inv-loop μ-loop
+returns-2 c =
+    let i = c .before .before .before .loop .inv in
+    (ends-other factKind _ _ _ _ (i .3) (i .8) (c .if1 .taken), i .0, i .4)
 
 returns-3 : tie.Need-returns-3 Inv-loop μ-loop
 returns-3 c =
-    let i = c .before .loop .inv in
-    (ends-short factKind _ _ _ _ (i .3) (c .loop-test .left), i .0, i .4)
+    let i = c .before .before .before .before .before .before .loop .inv in
+    (refused-bad factKind _ _ _ _ (i .3) (i .0) (c .before .before .before .before .before .loop-test .taken) (c .before .before .before .if1 .left) (seen (factRead (now (c .before .before .before .before .before .before .before .before .before .args .s))) (c .before .before .fact-at .ensures .0) (c .enum-told .given .1)), i .0, i .4)
 
 returns-4 : tie.Need-returns-4 Inv-loop μ-loop
 returns-4 c =
-    let i = c .before .before .before .loop .inv in
-    (ends-other factKind _ _ _ _ (i .3) (c .if1 .taken), i .0, i .4)
+    let l = c .before .before .before .before .before .before .before .before .before .before .before .before .loop .facts in
+    let i = c .before .before .before .before .before .before .before .before .before .before .before .before .loop .inv in
+    let b = c .before .before .before .before .before .before .bits .given .0 .0 in
+    let x = fact-is (now (c .before .before .before .before .before .before .before .before .before .before .before .before .before .before .before .args .s)) b (c .before .before .before .before .before .before .bits .given .0 .1 .0) (c .before .before .before .before .before .before .bits .given .0 .1 .1 .0) (c .before .before .before .before .before .before .bits .given .0 .1 .1 .1 .0) (c .before .before .before .before .tuple-from .result) (c .before .before .before .before .tuple-from .ensures) in
+    let d = c .before .before .before .fact-rises .ensures ∙ ap₂ rises (sym (i .5)) x in
+    let j = judge-same 64 (l .count) (length (factsOf l)) false false _ (factBits b) (c .before .before .before .before .before .before .before .before .before .before .before .before .before .before .before .args .headed) _ _ (c .before .judged .ensures .0) (length-made factOf (l .items) (l .count) (omega (arith, i .1, i .2))) refl (c .before .before .both-or-none .ensures) d in
+    (refused-judged factKind _ _ _ _ (i .3) (i .0) (c .before .before .before .before .before .before .before .before .before .before .before .loop-test .taken) (c .before .before .before .before .before .before .before .before .before .if1 .left) (i .4) (seen (factRead (now (c .before .before .before .before .before .before .before .before .before .before .before .before .before .before .before .args .s))) (c .before .before .before .before .before .before .before .before .fact-at .ensures .0) (c .before .before .before .before .before .before .bits .given .1)) _ j (c .if2 .taken), i .0, i .4)
 
 pub read-facts-spec : {M : Type 1} → statement M
 read-facts-spec =
     tie.close
     (tie.spec Inv-loop μ-loop (λ c κs. search needs) loop-holds (λ c. search needs) (λ c. search needs)
-    (λ c κs. search needs) (λ c. search needs) (λ c. search needs) returns tuple-from-requires fact-rises-requires
-    (λ c κs. search needs) (λ c κs. search needs) returns-2 (λ c. search needs) element-set-from-fact add-facts add-k
-    loop-less loop-again returns-3 returns-4)
+    (λ c κs. search needs) (λ c. search needs) (λ c. search needs) tuple-from-requires fact-rises-requires
+    (λ c κs. search needs) (λ c κs. search needs) (λ c. search needs) element-set-from-fact add-facts add-k loop-less
+    loop-again returns returns-2 returns-3 returns-4)

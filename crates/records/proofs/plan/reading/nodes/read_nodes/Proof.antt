@@ -18,32 +18,20 @@ use Rattle.records.proofs.plan.reading.nodes.read_nodes.Statement.{stat
 use Rattle.records.proofs.plan.reading.nodes.read_nodes.Tie as tie
 
 abbrev Inv-loop : tie.InvT-loop
-Inv-loop s start before headed nodes₀ at₀ k₀ nodes at k =
-    (k ≤ at) × (nodes .count ≤ 256) × (length (nodes .items) ≡ 256) × Going nodeKind s headed start before k at (nodesOf nodes)
+Inv-loop s start before headed nodes₀ number₀ at₀ k₀ nodes number at k =
+    (k ≤ at) × (nodes .count ≤ 256) × (length (nodes .items) ≡ 256) × Going nodeKind s headed start before k at (nodesOf nodes) × (number ≡ 0)
 
 abbrev μ-loop : tie.MeasureT-loop
-μ-loop s start before headed nodes₀ at₀ k₀ nodes at k = length s - at
+μ-loop s start before headed nodes₀ number₀ at₀ k₀ nodes number at k = length s - at
 
 loop-holds : tie.Need-loop-holds Inv-loop μ-loop
 loop-holds c =
     let a = c .before .before .args in
     let e = c .no-nodes .ensures in
-    (c .before .before .pre, omega (arith, e .1), e .2, going nodeKind (now (a .s)) (a .headed) (a .start) (a .before) (nodesOf (c .no-nodes .result)) (e .0))
+    (c .before .before .pre, omega (arith, e .1), e .2, going nodeKind (now (a .s)) (a .headed) (a .start) (a .before) (nodesOf (c .no-nodes .result)) (e .0), refl)
 
 add-node-at : tie.Need-add-node-at Inv-loop μ-loop
 add-node-at c = search needs
-
-returns : tie.Need-returns Inv-loop μ-loop
-returns c =
-    let i = c .before .before .before .before .before .before .loop .inv in
-    (refused-bad nodeKind _ _ _ _ (i .3) (i .0) (c .before .before .before .before .before .loop-test .taken) (c .before .before .before .if1 .left) (seen (nodeRead (now (c .before .before .before .before .before .before .before .before .before .args .s))) (c .before .before .node-at .ensures .0) (c .enum-told .given .1)), i .0)
-
-returns-2 : tie.Need-returns-2 Inv-loop μ-loop
-returns-2 c =
-    let i = c .before .before .before .before .before .before .before .before .before .before .loop .inv in
-    let l = c .before .before .before .before .before .before .before .before .before .before .loop .nodes in
-    let j = judge-same 256 (l .count) (length (nodesOf l)) false false _ (fields.single (c .before .before .before .before .bits .given .0 .0)) (c .before .before .before .before .before .before .before .before .before .before .before .before .before .args .headed) true true (c .before .judged .ensures .0) (length-made nodeOf (l .items) (l .count) (omega (arith, i .1, i .2))) refl (c .before .before .one-bit .ensures) refl in
-    (refused-judged nodeKind _ _ _ _ (i .3) (i .0) (c .before .before .before .before .before .before .before .before .before .loop-test .taken) (c .before .before .before .before .before .before .before .if1 .left) tt (seen (nodeRead (now (c .before .before .before .before .before .before .before .before .before .before .before .before .before .args .s))) (c .before .before .before .before .before .before .node-at .ensures .0) (c .before .before .before .before .bits .given .1)) _ j (c .if2 .taken), i .0)
 
 node-from-requires : tie.Need-node-from-requires Inv-loop μ-loop
 node-from-requires c κs = let f = rw (c .before .before .before .before .bits .given .1) at (c .before .before .before .before .before .before .node-at .ensures .1) in (f .0, f .1, f .2, f .3)
@@ -76,22 +64,35 @@ loop-again c =
       omega (arith, h),
       rw length-set (i .2),
       goes-on nodeKind _ _ _ _ (i .3) (i .0) (c .before .before .before .before .before .before .before .before .before .before .loop-test .taken) (c .before .before .before .before .before .before .before .before .if1 .left) tt f _ j (c .before .if2 .left) _ (made-more nodeOf (l .items) (l .count) _ (omega (arith, i .2, h)) ∙ ap (λ x. nodesOf l ++ (x ∷ [])) (c .node-from .ensures)),
+      c .before .if2 .left,
     )
+
+returns : tie.Need-returns Inv-loop μ-loop
+returns c =
+    let i = c .before .loop .inv in
+    (ends-short nodeKind _ _ _ _ (i .3) (i .4) (c .loop-test .left), i .0)
+
+returns-2 : tie.Need-returns-2 Inv-loop μ-loop
+returns-2 c =
+    let i = c .before .before .before .loop .inv in
+    (ends-other nodeKind _ _ _ _ (i .3) (i .4) (c .if1 .taken), i .0)
 
 returns-3 : tie.Need-returns-3 Inv-loop μ-loop
 returns-3 c =
-    let i = c .before .loop .inv in
-    (ends-short nodeKind _ _ _ _ (i .3) (c .loop-test .left), i .0)
+    let i = c .before .before .before .before .before .before .loop .inv in
+    (refused-bad nodeKind _ _ _ _ (i .3) (i .0) (c .before .before .before .before .before .loop-test .taken) (c .before .before .before .if1 .left) (seen (nodeRead (now (c .before .before .before .before .before .before .before .before .before .args .s))) (c .before .before .node-at .ensures .0) (c .enum-told .given .1)), i .0)
 
 returns-4 : tie.Need-returns-4 Inv-loop μ-loop
 returns-4 c =
-    let i = c .before .before .before .loop .inv in
-    (ends-other nodeKind _ _ _ _ (i .3) (c .if1 .taken), i .0)
+    let i = c .before .before .before .before .before .before .before .before .before .before .loop .inv in
+    let l = c .before .before .before .before .before .before .before .before .before .before .loop .nodes in
+    let j = judge-same 256 (l .count) (length (nodesOf l)) false false _ (fields.single (c .before .before .before .before .bits .given .0 .0)) (c .before .before .before .before .before .before .before .before .before .before .before .before .before .args .headed) true true (c .before .judged .ensures .0) (length-made nodeOf (l .items) (l .count) (omega (arith, i .1, i .2))) refl (c .before .before .one-bit .ensures) refl in
+    (refused-judged nodeKind _ _ _ _ (i .3) (i .0) (c .before .before .before .before .before .before .before .before .before .loop-test .taken) (c .before .before .before .before .before .before .before .if1 .left) tt (seen (nodeRead (now (c .before .before .before .before .before .before .before .before .before .before .before .before .before .args .s))) (c .before .before .before .before .before .before .node-at .ensures .0) (c .before .before .before .before .bits .given .1)) _ j (c .if2 .taken), i .0)
 
 pub read-nodes-spec : {M : Type 1} → statement M
 read-nodes-spec =
     tie.close
     (tie.spec Inv-loop μ-loop (λ c κs. search needs) loop-holds (λ c. search needs) add-node-at (λ c κs. search needs)
-    (λ c. search needs) (λ c. search needs) returns (λ c κs. search needs) (λ c κs. search needs) returns-2
-    node-from-requires (λ c. search needs) element-set-from-nodes add-nodes add-k loop-less loop-again returns-3
+    (λ c. search needs) (λ c. search needs) (λ c κs. search needs) (λ c κs. search needs) node-from-requires
+    (λ c. search needs) element-set-from-nodes add-nodes add-k loop-less loop-again returns returns-2 returns-3
     returns-4)

@@ -17,29 +17,17 @@ use Rattle.records.proofs.plan.reading.statuses.read_statuses.Statement
 use Rattle.records.proofs.plan.reading.statuses.read_statuses.Tie as tie
 
 abbrev Inv-loop : tie.InvT-loop
-Inv-loop s start before headed statuses₀ at₀ k₀ statuses at k =
-    (k ≤ at) × (statuses .count ≤ 32) × (length (statuses .items) ≡ 32) × Going statusKind s headed start before k at (statusesOf statuses)
+Inv-loop s start before headed statuses₀ number₀ at₀ k₀ statuses number at k =
+    (k ≤ at) × (statuses .count ≤ 32) × (length (statuses .items) ≡ 32) × Going statusKind s headed start before k at (statusesOf statuses) × (number ≡ 0)
 
 abbrev μ-loop : tie.MeasureT-loop
-μ-loop s start before headed statuses₀ at₀ k₀ statuses at k = length s - at
+μ-loop s start before headed statuses₀ number₀ at₀ k₀ statuses number at k = length s - at
 
 loop-holds : tie.Need-loop-holds Inv-loop μ-loop
 loop-holds c =
     let a = c .before .before .args in
     let e = c .no-statuses .ensures in
-    (c .before .before .pre, omega (arith, e .1), e .2, going statusKind (now (a .s)) (a .headed) (a .start) (a .before) (statusesOf (c .no-statuses .result)) (e .0))
-
-returns : tie.Need-returns Inv-loop μ-loop
-returns c =
-    let i = c .before .before .before .before .before .before .loop .inv in
-    (refused-bad statusKind _ _ _ _ (i .3) (i .0) (c .before .before .before .before .before .loop-test .taken) (c .before .before .before .if1 .left) (seen statusRead (c .before .before .status-at .ensures) (c .enum-told .given .1)), i .0)
-
-returns-2 : tie.Need-returns-2 Inv-loop μ-loop
-returns-2 c =
-    let i = c .before .before .before .before .before .before .before .before .before .loop .inv in
-    let l = c .before .before .before .before .before .before .before .before .before .loop .statuses in
-    let j = judge-same 32 (l .count) (length (statusesOf l)) false false _ (fields.needs 7 (c .before .before .before .bits .given .0 .0)) (c .before .before .before .before .before .before .before .before .before .before .before .before .args .headed) true true (c .before .judged .ensures .0) (length-made statusOf (l .items) (l .count) (omega (arith, i .1, i .2))) refl (needs-test (c .before .before .before .bits .given .0 .0) 7) refl in
-    (refused-judged statusKind _ _ _ _ (i .3) (i .0) (c .before .before .before .before .before .before .before .before .loop-test .taken) (c .before .before .before .before .before .before .if1 .left) tt (seen statusRead (c .before .before .before .before .before .status-at .ensures) (c .before .before .before .bits .given .1)) _ j (c .if2 .taken), i .0)
+    (c .before .before .pre, omega (arith, e .1), e .2, going statusKind (now (a .s)) (a .headed) (a .start) (a .before) (statusesOf (c .no-statuses .result)) (e .0), refl)
 
 element-set-from-status : tie.Need-element-set-from-status Inv-loop μ-loop
 element-set-from-status c = let h = c .before .judged .ensures .1 (c .if2 .left) in search (needs, h)
@@ -66,22 +54,35 @@ loop-again c =
       omega (arith, h),
       rw length-set (i .2),
       goes-on statusKind _ _ _ _ (i .3) (i .0) (c .before .before .before .before .before .before .before .before .loop-test .taken) (c .before .before .before .before .before .before .if1 .left) tt f _ j (c .if2 .left) _ (made-more statusOf (l .items) (l .count) _ (omega (arith, i .2, h))),
+      c .if2 .left,
     )
+
+returns : tie.Need-returns Inv-loop μ-loop
+returns c =
+    let i = c .before .loop .inv in
+    (ends-short statusKind _ _ _ _ (i .3) (i .4) (c .loop-test .left), i .0)
+
+returns-2 : tie.Need-returns-2 Inv-loop μ-loop
+returns-2 c =
+    let i = c .before .before .before .loop .inv in
+    (ends-other statusKind _ _ _ _ (i .3) (i .4) (c .if1 .taken), i .0)
 
 returns-3 : tie.Need-returns-3 Inv-loop μ-loop
 returns-3 c =
-    let i = c .before .loop .inv in
-    (ends-short statusKind _ _ _ _ (i .3) (c .loop-test .left), i .0)
+    let i = c .before .before .before .before .before .before .loop .inv in
+    (refused-bad statusKind _ _ _ _ (i .3) (i .0) (c .before .before .before .before .before .loop-test .taken) (c .before .before .before .if1 .left) (seen statusRead (c .before .before .status-at .ensures) (c .enum-told .given .1)), i .0)
 
 returns-4 : tie.Need-returns-4 Inv-loop μ-loop
 returns-4 c =
-    let i = c .before .before .before .loop .inv in
-    (ends-other statusKind _ _ _ _ (i .3) (c .if1 .taken), i .0)
+    let i = c .before .before .before .before .before .before .before .before .before .loop .inv in
+    let l = c .before .before .before .before .before .before .before .before .before .loop .statuses in
+    let j = judge-same 32 (l .count) (length (statusesOf l)) false false _ (fields.needs 7 (c .before .before .before .bits .given .0 .0)) (c .before .before .before .before .before .before .before .before .before .before .before .before .args .headed) true true (c .before .judged .ensures .0) (length-made statusOf (l .items) (l .count) (omega (arith, i .1, i .2))) refl (needs-test (c .before .before .before .bits .given .0 .0) 7) refl in
+    (refused-judged statusKind _ _ _ _ (i .3) (i .0) (c .before .before .before .before .before .before .before .before .loop-test .taken) (c .before .before .before .before .before .before .if1 .left) tt (seen statusRead (c .before .before .before .before .before .status-at .ensures) (c .before .before .before .bits .given .1)) _ j (c .if2 .taken), i .0)
 
 pub read-statuses-spec : {M : Type 1} → statement M
 read-statuses-spec =
     tie.close
     (tie.spec Inv-loop μ-loop (λ c κs. search needs) loop-holds (λ c. search needs) (λ c. search needs)
-    (λ c κs. search needs) (λ c. search needs) (λ c. search needs) returns (λ c κs. search needs) returns-2
-    (λ c. search needs) element-set-from-status add-statuses (λ c. search needs) loop-less loop-again returns-3
+    (λ c κs. search needs) (λ c. search needs) (λ c. search needs) (λ c κs. search needs) (λ c. search needs)
+    element-set-from-status add-statuses (λ c. search needs) loop-less loop-again returns returns-2 returns-3
     returns-4)
