@@ -53,15 +53,22 @@ pub struct FactsRead {
     pub facts: Facts,
 }
 
-pub fn no_facts() -> Facts
-    ensures { λ r. ⌜ (factsOf r ≡ []) × (r .count ≡ 0) × (length (r .items) ≡ 64) ⌝ }
+// A boolean fact, which any fact may follow.
+fn no_fact() -> Fact
+    ensures { λ r. ⌜ (r .boolean ≡ true) × (r .count ≡ 0) ⌝ }
 {
-    let blank = Fact {
+    Fact {
         boolean: true,
         family: 0,
         count: 0,
         tuple: [0; 4],
-    };
+    }
+}
+
+pub fn no_facts() -> Facts
+    ensures { λ r. ⌜ (factsOf r ≡ []) × (r .count ≡ 0) × (length (r .items) ≡ 64) ⌝ }
+{
+    let blank = no_fact();
     Facts {
         count: 0,
         items: [blank; 64],
@@ -75,12 +82,7 @@ pub fn read_facts(s: &[u8], start: usize, before: usize, headed: bool) -> FactsR
         × (r .record ≤ r .at) × (paper.factsRise (factsOf (r .facts)) ≡ true) ⌝ }
 {
     let mut facts = no_facts();
-    let mut last = Fact {
-        boolean: true,
-        family: 0,
-        count: 0,
-        tuple: [0; 4],
-    };
+    let mut last = no_fact();
     let mut number: u8 = 0;
     let mut at = start;
     let mut k = before;

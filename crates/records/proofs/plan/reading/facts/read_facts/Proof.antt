@@ -31,16 +31,17 @@ abbrev μ-loop : tie.MeasureT-loop
 loop-holds : tie.Need-loop-holds Inv-loop μ-loop
 unfolding factOf factsRise
 loop-holds c =
-    let a = c .before .before .args in
-    let e = c .no-facts .ensures in (
-      c .before .before .pre,
+    let a = c .before .before .before .args in
+    let e = c .before .no-facts .ensures in
+    let n = c .no-fact .ensures in (
+      c .before .before .before .pre,
       omega (arith, e .1),
       e .2,
-      going factKind (now (a .s)) (a .headed) (a .start) (a .before) (factsOf (c .no-facts .result)) (e .0),
+      going factKind (now (a .s)) (a .headed) (a .start) (a .before) (factsOf (c .before .no-facts .result)) (e .0),
       ap factsRise (e .0),
-      ap lastFact (e .0) ∙ last-none,
-      omega arith,
-      λ z. refl,
+      ap lastFact (e .0) ∙ last-none ∙ rw (n .0, n .1),
+      omega (arith, n .1),
+      λ z. n .1,
       refl,
     )
 
@@ -62,7 +63,7 @@ add-k c = let i = c .before .before .before .before .before .before .before .bef
 loop-less : tie.Need-loop-less Inv-loop μ-loop
 loop-less c =
     let i = c .before .before .before .before .before .before .before .before .before .before .before .before .loop .inv in
-    let z = goes-later factKind _ _ _ _ (i .3) (i .0) (c .before .before .before .before .before .before .before .before .before .before .before .loop-test .taken) (c .before .before .before .before .before .before .before .before .before .if1 .left) (i .4) (seen (factRead (now (c .before .before .before .before .before .before .before .before .before .before .before .before .before .before .before .args .s))) (c .before .before .before .before .before .before .before .before .fact-at .ensures .0) (c .before .before .before .before .before .before .bits .given .1)) in
+    let z = goes-later factKind _ _ _ _ (i .3) (i .0) (c .before .before .before .before .before .before .before .before .before .before .before .loop-test .taken) (c .before .before .before .before .before .before .before .before .before .if1 .left) (i .4) (seen (factRead (now (c .before .before .before .before .before .before .before .before .before .before .before .before .before .before .before .before .args .s))) (c .before .before .before .before .before .before .before .before .fact-at .ensures .0) (c .before .before .before .before .before .before .bits .given .1)) in
     omega (arith, z)
 
 loop-again : tie.Need-loop-again Inv-loop μ-loop
@@ -71,15 +72,15 @@ loop-again c =
     let i = c .before .before .before .before .before .before .before .before .before .before .before .before .loop .inv in
     let b = c .before .before .before .before .before .before .bits .given .0 .0 in
     let g = rw (c .before .before .before .before .before .before .bits .given .1) at (c .before .before .before .before .before .before .before .before .fact-at .ensures .1) in
-    let f = seen (factRead (now (c .before .before .before .before .before .before .before .before .before .before .before .before .before .before .before .args .s))) (c .before .before .before .before .before .before .before .before .fact-at .ensures .0) (c .before .before .before .before .before .before .bits .given .1) in
+    let f = seen (factRead (now (c .before .before .before .before .before .before .before .before .before .before .before .before .before .before .before .before .args .s))) (c .before .before .before .before .before .before .before .before .fact-at .ensures .0) (c .before .before .before .before .before .before .bits .given .1) in
     let z = goes-later factKind _ _ _ _ (i .3) (i .0) (c .before .before .before .before .before .before .before .before .before .before .before .loop-test .taken) (c .before .before .before .before .before .before .before .before .before .if1 .left) (i .4) f in
     let h = c .before .judged .ensures .1 (c .if2 .left) in
-    let x = fact-is (now (c .before .before .before .before .before .before .before .before .before .before .before .before .before .before .before .args .s)) b (c .before .before .before .before .before .before .bits .given .0 .1 .0) (c .before .before .before .before .before .before .bits .given .0 .1 .1 .0) (c .before .before .before .before .before .before .bits .given .0 .1 .1 .1 .0) (c .before .before .before .before .tuple-from .result) (c .before .before .before .before .tuple-from .ensures) in
+    let x = fact-is (now (c .before .before .before .before .before .before .before .before .before .before .before .before .before .before .before .before .args .s)) b (c .before .before .before .before .before .before .bits .given .0 .1 .0) (c .before .before .before .before .before .before .bits .given .0 .1 .1 .0) (c .before .before .before .before .before .before .bits .given .0 .1 .1 .1 .0) (c .before .before .before .before .tuple-from .result) (c .before .before .before .before .tuple-from .ensures) in
     let d = c .before .before .before .fact-rises .ensures ∙ ap₂ rises (sym (i .5)) x in
-    let j = judge-same 64 (l .count) (length (factsOf l)) false false _ (factBits b) (c .before .before .before .before .before .before .before .before .before .before .before .before .before .before .before .args .headed) _ _ (c .before .judged .ensures .0) (length-made factOf (l .items) (l .count) (omega (arith, i .1, i .2))) refl (c .before .before .both-or-none .ensures) d in
+    let j = judge-same 64 (l .count) (length (factsOf l)) false false _ (factBits b) (c .before .before .before .before .before .before .before .before .before .before .before .before .before .before .before .before .args .headed) _ _ (c .before .judged .ensures .0) (length-made factOf (l .items) (l .count) (omega (arith, i .1, i .2))) refl (c .before .before .both-or-none .ensures) d in
     let more = made-more factOf (l .items) (l .count) _ (omega (arith, i .2, h)) ∙ ap (λ (y : Fact). factsOf l ++ (y ∷ [])) x in
-    let r = is-sound 64 (l .count) false (c .before .before .both-or-none .result && c .before .before .before .before .before .before .before .before .before .before .before .before .before .before .before .args .headed) (c .before .before .before .fact-rises .result) (c .before .judged .ensures .0) (c .if2 .left) in
-    let t = it-fits 64 (l .count) false (c .before .before .both-or-none .result && c .before .before .before .before .before .before .before .before .before .before .before .before .before .before .before .args .headed) (c .before .before .before .fact-rises .result) (c .before .judged .ensures .0) (c .if2 .left) in (
+    let r = is-sound 64 (l .count) false (c .before .before .both-or-none .result && c .before .before .before .before .before .before .before .before .before .before .before .before .before .before .before .before .args .headed) (c .before .before .before .fact-rises .result) (c .before .judged .ensures .0) (c .if2 .left) in
+    let t = it-fits 64 (l .count) false (c .before .before .both-or-none .result && c .before .before .before .before .before .before .before .before .before .before .before .before .before .before .before .before .args .headed) (c .before .before .before .fact-rises .result) (c .before .judged .ensures .0) (c .if2 .left) in (
       omega (arith, z),
       omega (arith, h),
       rw length-set (i .2),
@@ -87,7 +88,7 @@ loop-again c =
       ap factsRise more ∙ rise-more (factsOf l) _ ∙ ap₂ _&&_ (i .4) (sym d ∙ r),
       ap lastFact more ∙ last-more (factsOf l) _ ∙ sym x,
       g .0,
-      λ y. no-tuple b _ (sym (c .before .before .both-or-none .ensures) ∙ and-parts (c .before .before .both-or-none .result) (c .before .before .before .before .before .before .before .before .before .before .before .before .before .before .before .args .headed) t .0) y (g .2),
+      λ y. no-tuple b _ (sym (c .before .before .both-or-none .ensures) ∙ and-parts (c .before .before .both-or-none .result) (c .before .before .before .before .before .before .before .before .before .before .before .before .before .before .before .before .args .headed) t .0) y (g .2),
       c .if2 .left,
     )
 
@@ -104,22 +105,22 @@ returns-2 c =
 returns-3 : tie.Need-returns-3 Inv-loop μ-loop
 returns-3 c =
     let i = c .before .before .before .before .before .before .loop .inv in
-    (refused-bad factKind _ _ _ _ (i .3) (i .0) (c .before .before .before .before .before .loop-test .taken) (c .before .before .before .if1 .left) (seen (factRead (now (c .before .before .before .before .before .before .before .before .before .args .s))) (c .before .before .fact-at .ensures .0) (c .enum-told .given .1)), i .0, i .4)
+    (refused-bad factKind _ _ _ _ (i .3) (i .0) (c .before .before .before .before .before .loop-test .taken) (c .before .before .before .if1 .left) (seen (factRead (now (c .before .before .before .before .before .before .before .before .before .before .args .s))) (c .before .before .fact-at .ensures .0) (c .enum-told .given .1)), i .0, i .4)
 
 returns-4 : tie.Need-returns-4 Inv-loop μ-loop
 returns-4 c =
     let l = c .before .before .before .before .before .before .before .before .before .before .before .before .loop .facts in
     let i = c .before .before .before .before .before .before .before .before .before .before .before .before .loop .inv in
     let b = c .before .before .before .before .before .before .bits .given .0 .0 in
-    let x = fact-is (now (c .before .before .before .before .before .before .before .before .before .before .before .before .before .before .before .args .s)) b (c .before .before .before .before .before .before .bits .given .0 .1 .0) (c .before .before .before .before .before .before .bits .given .0 .1 .1 .0) (c .before .before .before .before .before .before .bits .given .0 .1 .1 .1 .0) (c .before .before .before .before .tuple-from .result) (c .before .before .before .before .tuple-from .ensures) in
+    let x = fact-is (now (c .before .before .before .before .before .before .before .before .before .before .before .before .before .before .before .before .args .s)) b (c .before .before .before .before .before .before .bits .given .0 .1 .0) (c .before .before .before .before .before .before .bits .given .0 .1 .1 .0) (c .before .before .before .before .before .before .bits .given .0 .1 .1 .1 .0) (c .before .before .before .before .tuple-from .result) (c .before .before .before .before .tuple-from .ensures) in
     let d = c .before .before .before .fact-rises .ensures ∙ ap₂ rises (sym (i .5)) x in
-    let j = judge-same 64 (l .count) (length (factsOf l)) false false _ (factBits b) (c .before .before .before .before .before .before .before .before .before .before .before .before .before .before .before .args .headed) _ _ (c .before .judged .ensures .0) (length-made factOf (l .items) (l .count) (omega (arith, i .1, i .2))) refl (c .before .before .both-or-none .ensures) d in
-    (refused-judged factKind _ _ _ _ (i .3) (i .0) (c .before .before .before .before .before .before .before .before .before .before .before .loop-test .taken) (c .before .before .before .before .before .before .before .before .before .if1 .left) (i .4) (seen (factRead (now (c .before .before .before .before .before .before .before .before .before .before .before .before .before .before .before .args .s))) (c .before .before .before .before .before .before .before .before .fact-at .ensures .0) (c .before .before .before .before .before .before .bits .given .1)) _ j (c .if2 .taken), i .0, i .4)
+    let j = judge-same 64 (l .count) (length (factsOf l)) false false _ (factBits b) (c .before .before .before .before .before .before .before .before .before .before .before .before .before .before .before .before .args .headed) _ _ (c .before .judged .ensures .0) (length-made factOf (l .items) (l .count) (omega (arith, i .1, i .2))) refl (c .before .before .both-or-none .ensures) d in
+    (refused-judged factKind _ _ _ _ (i .3) (i .0) (c .before .before .before .before .before .before .before .before .before .before .before .loop-test .taken) (c .before .before .before .before .before .before .before .before .before .if1 .left) (i .4) (seen (factRead (now (c .before .before .before .before .before .before .before .before .before .before .before .before .before .before .before .before .args .s))) (c .before .before .before .before .before .before .before .before .fact-at .ensures .0) (c .before .before .before .before .before .before .bits .given .1)) _ j (c .if2 .taken), i .0, i .4)
 
 pub read-facts-spec : {M : Type 1} → statement M
 read-facts-spec =
     tie.close
-    (tie.spec Inv-loop μ-loop (λ c κs. search needs) loop-holds (λ c. search needs) (λ c. search needs)
+    (tie.spec Inv-loop μ-loop (λ c κs. search needs) (λ c κs. search needs) loop-holds (λ c. search needs) (λ c. search needs)
     (λ c κs. search needs) (λ c. search needs) (λ c. search needs) tuple-from-requires fact-rises-requires
     (λ c κs. search needs) (λ c κs. search needs) (λ c. search needs) element-set-from-fact add-facts add-k loop-less
     loop-again returns returns-2 returns-3 returns-4)
