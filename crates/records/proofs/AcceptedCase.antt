@@ -11,7 +11,7 @@ use lib.Pow.{pow-pos}
 use borrow.Author.Tests.{ltb-false, eqb-false}
 use Rattle.records.specs.paper.Fields.{Raw, field, num, formatOf, number, evidence, upTo, list, fine}
 use Rattle.records.specs.paper.Plan.{Plan, booleanFact, faults}
-use Rattle.records.specs.paper.Case.{Case, Family, Observation, Boolean, Relation, caseFormats, observationsFrom, caseHeadingFrom, familyFrom, booleanFrom, relationFrom, constraintFrom, addToCase, caseCounts, judgeCase, emptyCase, caseRecords, relationSound, caseNamingFaults, booleansAt, readCase, caseHeading}
+use Rattle.records.specs.paper.Case.{Case, Observation, caseFormats, observationsFrom, caseHeadingFrom, familyFrom, booleanFrom, relationFrom, constraintFrom, addToCase, caseCounts, judgeCase, emptyCase, caseRecords, relationSound, caseNamingFaults, booleansAt, readCase, caseHeading}
 use Rattle.records.specs.promises.Sound.{All, SoundCaseHeading, SoundFamily, SoundObservation, SoundBoolean, SoundRelation, SoundCase}
 use Rattle.records.proofs.Every.{all-any, exactly-one, all-less, all-parts, all-getD}
 use Rattle.records.proofs.FieldLaws.{InFormat, Held, Fitting, held, byte-top, byte-numbers, mask-below, most-top, pairs, list-pairs}

@@ -19,7 +19,6 @@ use Rattle.records.specs.code.CaseNamed.{sameFamily}
 use Rattle.records.specs.declared.plan.Fact.{Fact}
 use Rattle.records.specs.declared.case.Family.{Family}
 use Rattle.records.specs.declared.case.Relation.{Relation}
-use Rattle.records.specs.declared.case.Case.{Case}
 use Rattle.records.specs.declared.checked.Checked.{Checked}
 use Rattle.records.specs.declared.checked.Checked.the-variants.{Accepted, Refused}
 use Rattle.records.specs.declared.case.reading.CaseRead.{CaseRead}

@@ -2,14 +2,13 @@
 use mathlib.Core.Path.{_≡_, refl, ap, _∙_}
 use mathlib.Core.Bool.{Bool, true, false, _&&_, not, cond, or-false}
 use mathlib.Core.List.{List, [], _∷_, _++_}
-use Prim.Native.Nat.{ℕ, suc, _≤_}
+use Prim.Native.Nat.{ℕ, _≤_}
 use native.Mathlib.Omega.{arith}
 use lib.ListN.{length, take}
 use lib.Dec.{eqb, ltb, leb}
 use Rattle.records.specs.paper.Fields.{needs}
-use Rattle.records.specs.paper.Case.{Case, CaseHeading, Family, Boolean, Relation, caseFormats, caseCounts, caseHeadingFrom, addToCase, judgeCase, emptyCase, caseRecords}
+use Rattle.records.specs.paper.Case.{Case, CaseHeading, Family, Boolean, Relation, caseFormats, caseCounts, caseHeadingFrom, addToCase, judgeCase, emptyCase, caseRecords, familyFrom, booleanFrom, relationFrom, constraintFrom}
 use Rattle.records.specs.code.Passes.{Passed, judgement}
-use Rattle.records.specs.paper.Case.{familyFrom, booleanFrom, relationFrom, constraintFrom}
 use Rattle.records.specs.code.CasePasses.{CleanCase, caseReading, withCaseHeadings, withFamilies, withBooleans, withRelations, withConstraints}
 use Rattle.records.proofs.KindLaws.{length-more, past, Plain, plainKind, not-not, heading-there}
 use Rattle.records.proofs.Chain.{raw}

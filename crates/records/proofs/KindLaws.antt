@@ -14,7 +14,7 @@ use borrow.Author.Tests.{eq-eqb, ne-eqb, eqb-true, leb-false}
 use Rattle.records.specs.paper.Sets.{odd, has, subset, allOf}
 use Rattle.records.specs.paper.Fields.{Raw, needs, single}
 use Rattle.records.specs.paper.Plan as paper
-use Rattle.records.specs.paper.Plan.{Plan, planFormats, addToPlan, planCounts, judgePlan}
+use Rattle.records.specs.paper.Plan.{Plan, planFormats, addToPlan, planCounts, judgePlan, factBits, headingFrom, factFrom, barFrom, statusFrom}
 use Rattle.records.specs.code.Decoded as decoded
 use Rattle.records.specs.code.Decoded.{ifGiven}
 use Rattle.records.specs.code.Readers.{bytesFrom}
@@ -22,7 +22,6 @@ use Rattle.records.specs.declared.plan.Election.{Election}
 use Rattle.records.specs.declared.plan.Decisions.{Decisions}
 use Rattle.records.specs.declared.plan.Numbers.{Numbers}
 use Rattle.records.specs.code.Passes.{Reading, judgement}
-use Rattle.records.specs.paper.Plan.{factBits, headingFrom, factFrom, barFrom, statusFrom}
 use Rattle.records.specs.code.PlanPasses.{Clean, planReading, withHeadings, withFacts, withNodes, withCuts, withEdges, withAttachments, withBars, withStatuses}
 use Rattle.records.proofs.SetLaws.{has-zero, Within, antisym, of-meet, in-meet, subset-true, within-subset}
 use Rattle.records.proofs.Listing.{map-more}

@@ -11,7 +11,6 @@ use Rattle.records.specs.paper.Sets.{allOf, below, numbers}
 use Rattle.records.specs.paper.Plan as paper
 use Rattle.records.specs.code.Decoded.{ifGiven, nodeBy, factOf, decisionsOf}
 use Rattle.records.specs.code.Named.{allUnder}
-use Rattle.records.specs.declared.plan.Plan.{Plan}
 use Rattle.records.proofs.ListLaws.{all-mapped}
 use Rattle.records.specs.declared.plan.Fact.{Fact}
 use Rattle.records.specs.declared.plan.Decisions.{Decisions}

@@ -9,8 +9,8 @@ use lib.ListN.{length}
 use lib.Dec.{eqb, ltb}
 use borrow.Author.Tests.{ltb-true, eqb-true}
 use Rattle.records.specs.paper.Sets.{has, allOf}
-use Rattle.records.specs.paper.Fields.{Raw, field, num, wide, number, citation, person, actor, upTo, byte, election, list, fault}
-use Rattle.records.specs.paper.Plan.{Plan, Fact, Node, literal, fact, conj, disj, neg, Decision, Bar, Status, planFormats, factBits, headingFrom, factFrom, nodeFrom, electionFrom, decisionsFrom, edgeFrom, cutFrom, attachmentFrom, barFrom, statusFrom, isBoolean, decidedOnce, eachFrom, booleanFact, nodeSound, edgeSound, electionSound, cutSound, attachmentSound, nodeNumber, crossingsDecided}
+use Rattle.records.specs.paper.Fields.{Raw, field, num, number, citation, person, actor, upTo, byte, election, list, fault}
+use Rattle.records.specs.paper.Plan.{Plan, Node, literal, fact, conj, disj, neg, Decision, planFormats, factBits, headingFrom, factFrom, nodeFrom, electionFrom, decisionsFrom, edgeFrom, cutFrom, attachmentFrom, barFrom, statusFrom, isBoolean, decidedOnce, eachFrom, booleanFact, nodeSound, edgeSound, electionSound, cutSound, attachmentSound, nodeNumber, crossingsDecided}
 use Rattle.records.specs.promises.Sound.{All, SoundNode, SoundNodes, SoundElection, SoundEdge, SoundDecision, SoundCut, SoundAttachment, SoundBar, SoundStatus, SoundHeading, SoundFact}
 use Rattle.records.proofs.Every.{all-both, all-tested, named}
 use Rattle.records.proofs.SetLaws.{and-parts, subset-true}

@@ -10,10 +10,9 @@ use native.Mathlib.Omega.{arith}
 use lib.Dec.{eqb, ltb}
 use lib.Arith.{digits-div, digits-mod, lt-one}
 use lib.Pow.{shr-shr}
-use lib.Bits.{bitXor, differ, xor-step}
+use lib.Bits.{bitXor, differ, xor-step, xor-self}
 use lib.Count.{trailingZeros, under}
 use borrow.Author.Tests.{eqb-true, eqb-false, eq-eqb, ne-eqb, lt-ltb, le-ltb}
-use lib.Bits.{xor-self}
 use Rattle.records.specs.paper.Sets.{has, odd, when, membersFrom, members, lexLess, risingLess}
 use Rattle.records.proofs.SetLaws.{has-zero, has-suc, has-none, has-xor, differs, ext, differ-lt}
 

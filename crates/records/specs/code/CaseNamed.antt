@@ -2,14 +2,14 @@
 -- src/case/naming.rt cite it.
 use mathlib.Core.Path.{_≡_}
 use mathlib.Core.Bool.{Bool}
-use mathlib.Core.List.{List, [], _∷_, map}
+use mathlib.Core.List.{List, [], _∷_}
 use Prim.Native.Nat.{ℕ, _≤_}
 use lib.Dec.{eqb, ltb}
-use lib.ListN.{length, take}
+use lib.ListN.{length}
 use Rattle.records.specs.paper.Sets.{allOf}
 use Rattle.records.specs.paper.Plan as paper
 use Rattle.records.specs.paper.Case as case
-use Rattle.records.specs.code.Decoded.{familyOf, booleanOf, relationOf, factsOf, familiesOf, booleansOf, relationsOf, constraintsOf}
+use Rattle.records.specs.code.Decoded.{relationOf, factsOf, familiesOf, booleansOf, relationsOf, constraintsOf}
 use Rattle.records.specs.code.Named.{SaysFirst}
 use Rattle.records.specs.declared.plan.Facts.{Facts}
 use Rattle.records.specs.declared.case.Families.{Families}

@@ -1,11 +1,11 @@
 -- The passes over a case: what each kind's reader stands for. Contracts of src/case/reading/ cite it.
 use mathlib.Core.Path.{_≡_}
 use mathlib.Core.Bool.{Bool, not}
-use mathlib.Core.List.{List, [], _∷_, map}
+use mathlib.Core.List.{List}
 use Prim.Native.Nat.{ℕ, _+_, _*_, _/_, _%_, _≤_}
 use lib.ListN.{length}
 use lib.Dec.{eqb}
-use Rattle.records.specs.paper.Fields.{field, num, Read, got, bad, Raw}
+use Rattle.records.specs.paper.Fields.{Read, got, bad}
 use Rattle.records.specs.paper.Case.{Case, CaseHeading, Family, Boolean, Relation, caseFormats, addToCase, judgeCase, observationsFrom}
 use Rattle.records.specs.code.Decoded as decoded
 use Rattle.records.specs.code.Decoded.{ifGiven}

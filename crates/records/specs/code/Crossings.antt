@@ -4,7 +4,7 @@ use mathlib.Core.Path.{_≡_}
 use mathlib.Core.Bool.{Bool, _&&_, not, cond}
 use mathlib.Core.List.{List, [], _∷_}
 use Prim.Native.Nat.{ℕ, _+_}
-use Rattle.records.specs.paper.Plan.{Plan, Cut, Edge, Decision, faults, decidedIn, crosses, crossingsDecided}
+use Rattle.records.specs.paper.Plan.{Plan, Cut, Edge, faults, decidedIn, crosses, crossingsDecided}
 use Rattle.records.specs.code.Decoded.{cutOf, edgeOf}
 use Rattle.records.specs.declared.plan.Cut as cut
 use Rattle.records.specs.declared.plan.Edge as edge

@@ -1,15 +1,15 @@
 -- What the code's tests after all records say: each of one record, then of a kind's records, in every plan that has so many records and these facts.
 use mathlib.Core.Path.{_≡_}
 use mathlib.Core.Bool.{Bool}
-use mathlib.Core.List.{List, map}
+use mathlib.Core.List.{List}
 use Prim.Native.Nat.{ℕ, _≤_}
 use lib.Dec.{ltb}
-use lib.ListN.{length, take}
+use lib.ListN.{length}
 use Rattle.records.specs.paper.Sets.{allOf}
 use Rattle.records.specs.paper.Plan as paper
 use Rattle.records.specs.paper.Fields.{fault, fine, firstFault}
 use Rattle.records.specs.code.Check.{checkedOf}
-use Rattle.records.specs.code.Decoded.{factOf, nodeOf, edgeOf, electionOf, cutOf, attachmentOf, barOf, statusOf, factsOf, nodesOf, edgesOf, cutsOf, attachmentsOf, barsOf, statusesOf}
+use Rattle.records.specs.code.Decoded.{nodeOf, edgeOf, electionOf, cutOf, attachmentOf, factsOf, nodesOf, edgesOf, cutsOf, attachmentsOf, barsOf, statusesOf}
 use Rattle.records.specs.declared.plan.counts.Counts.{Counts}
 use Rattle.records.specs.declared.plan.Facts.{Facts}
 use Rattle.records.specs.declared.checked.Checked.{Checked}

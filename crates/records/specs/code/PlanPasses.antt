@@ -1,12 +1,12 @@
 -- The passes over a plan: what each kind's reader stands for. Contracts of src/plan/reading/ cite it.
 use mathlib.Core.Path.{_≡_}
-use mathlib.Core.Bool.{Bool, true, false, _||_, not, cond}
-use mathlib.Core.List.{List, [], _∷_, map}
+use mathlib.Core.Bool.{Bool, true, false, not, cond}
+use mathlib.Core.List.{List, map}
 use Prim.Native.Nat.{ℕ, _+_, _-_, _*_, _/_, _%_, _≤_}
 use lib.ListN.{length, getD}
 use lib.Dec.{eqb, ltb}
 use Rattle.records.specs.paper.Sets.{has, allOf, numbers}
-use Rattle.records.specs.paper.Fields.{field, num, wide, Read, got, bad, Raw}
+use Rattle.records.specs.paper.Fields.{Read, got, bad}
 use Rattle.records.specs.paper.Plan.{Plan, Heading, Fact, Node, literal, conj, disj, neg, Edge, Decision, Cut, Attachment, Bar, Status, planFormats, addToPlan, judgePlan, factsRise, decidedOnce, unresolved, decisionsFrom}
 use Rattle.records.specs.paper.Plan as paper
 use Rattle.records.specs.code.Decoded as decoded

@@ -1,9 +1,8 @@
 -- Two bytes up to 4,096, or none.
 use mathlib.Core.Path.{sym, _∙_, ap}
-use borrow.Author.Tests.{not-true, not-false}
+use borrow.Author.Tests.{not-true, not-false, le-leb, lt-leb}
 use Prim.Native.Nat.{ℕ}
 use lib.Dec.{leb}
-use borrow.Author.Tests.{le-leb, lt-leb}
 use Rattle.records.specs.paper.Fields.{got, fieldAt, bytesAt, little}
 use Rattle.records.specs.code.Readers.{fieldRead}
 use Rattle.records.proofs.Reading.{seen, word-is}

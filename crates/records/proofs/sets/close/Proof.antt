@@ -1,7 +1,7 @@
 -- `sets::close`: each pass keeps the closing, and lessens the sets that are not inside.
 use mathlib.Core.Path.{_≡_, refl, sym, ap, _∙_}
 use borrow.Author.Needs.{needs}
-use Rattle.records.specs.paper.Sets.{pass, closeOf}
+use Rattle.records.specs.paper.Sets.{closeOf}
 use Rattle.records.proofs.Closing.{left, left-drop, close-pass, close-same, fixed-closed}
 use Rattle.records.proofs.SetLaws.{along}
 use Rattle.records.proofs.sets.close.Statement.{statement}

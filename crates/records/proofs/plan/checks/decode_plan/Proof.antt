@@ -2,7 +2,7 @@
 use mathlib.Core.Path.{_≡_, sym, ap, _∙_}
 use borrow.Author.Needs.{needs}
 use borrow.Author.Tests.{eq-eqb, ne-eqb}
-use Rattle.records.specs.paper.Fields.{onFine, refused}
+use Rattle.records.specs.paper.Fields.{onFine}
 use Rattle.records.specs.paper.Plan.{planFaults, checkedPlan}
 use Rattle.records.specs.code.Decoded.{planOf}
 use Rattle.records.specs.code.PlanRead.{planReadOf}

@@ -3,10 +3,9 @@ use mathlib.Core.Path.{refl, sym, ap}
 use Prim.Native.Nat.{_/_, _%_}
 use lib.Dec.{eqb}
 use denote.Ref.{now}
-use Rattle.records.specs.paper.Case.{caseFormats}
+use Rattle.records.specs.paper.Case.{caseFormats, booleanFrom}
 use Rattle.records.specs.code.Readers.{fieldRead, pairsRead, mapRead, first}
 use Rattle.records.specs.code.Passes.{withBits}
-use Rattle.records.specs.paper.Case.{booleanFrom}
 use Rattle.records.proofs.Reading.{seen, found, none}
 use Rattle.records.proofs.Chain.{more, skip, stop, last, unknown, half-of, raw-got, raw-bits, raw-bad, given-of}
 use borrow.Author.Needs.{needs}

@@ -1,10 +1,9 @@
 -- A constraint from its bit map on.
 use mathlib.Core.Path.{refl, sym, ap}
 use denote.Ref.{now}
-use Rattle.records.specs.paper.Case.{caseFormats}
+use Rattle.records.specs.paper.Case.{caseFormats, constraintFrom}
 use Rattle.records.specs.code.Readers.{fieldRead, mapRead, first}
 use Rattle.records.specs.code.Passes.{withBits}
-use Rattle.records.specs.paper.Case.{constraintFrom}
 use Rattle.records.proofs.Reading.{seen, found, none}
 use Rattle.records.proofs.Chain.{more, skip, stop, last, unknown, raw-got, raw-bits, raw-bad}
 use borrow.Author.Needs.{needs}

@@ -6,13 +6,12 @@ use Prim.Native.Nat.{_-_, _≤_}
 use native.Mathlib.Omega.{arith}
 use denote.Ref.{now}
 use lib.ListN.{length, length-set}
-use Rattle.records.specs.paper.Sets.{has}
 use Rattle.records.specs.code.Decoded.{edgeOf, edgesOf}
 use Rattle.records.specs.code.PlanPasses.{edgeRead}
 use Rattle.records.proofs.LoopLaws.{length-made}
 use Rattle.records.proofs.Reading.{seen}
 use Rattle.records.proofs.Passing.{Going, going, ends-short, ends-other, refused-bad, refused-judged, goes-on, goes-later}
-use Rattle.records.proofs.KindLaws.{edgeKind, bit-test, needs-test, made-more, judge-same}
+use Rattle.records.proofs.KindLaws.{edgeKind, needs-test, made-more, judge-same}
 use Rattle.records.specs.paper.Fields as fields
 use borrow.Author.Needs.{needs}
 use Rattle.records.proofs.plan.reading.edges.read_edges.Statement.{statement}

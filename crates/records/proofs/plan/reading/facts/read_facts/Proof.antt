@@ -6,9 +6,8 @@ use Prim.Native.Nat.{_+_, _-_, _≤_}
 use native.Mathlib.Omega.{arith}
 use denote.Ref.{now}
 use lib.ListN.{length, length-set}
-use Rattle.records.specs.paper.Plan.{rises, factsRise, Fact}
+use Rattle.records.specs.paper.Plan.{rises, factsRise, Fact, factBits}
 use Rattle.records.specs.code.Decoded.{factOf, factsOf}
-use Rattle.records.specs.paper.Plan.{factBits}
 use Rattle.records.specs.code.PlanPasses.{factRead}
 use Rattle.records.proofs.LoopLaws.{length-made}
 use Rattle.records.proofs.Reading.{seen}
