@@ -10,16 +10,17 @@ use crate::plan::Fact;
 use crate::plan::Facts;
 use crate::plan::checks::fact_order::fact_rises;
 ghost use mathlib.Core.Path.{_≡_};
-ghost use mathlib.Core.Bool.{true};
+ghost use mathlib.Core.Bool.{true, not};
 ghost use mathlib.Core.List.{[]};
-ghost use Prim.Native.Nat.{_≤_};
+ghost use Prim.Native.Nat.{_≤_, _+_, _%_};
+ghost use lib.Dec.{eqb};
 ghost use lib.ListN.{length};
 ghost use Rattle.records.specs.paper.Plan as paper;
-ghost use Rattle.records.specs.code.Readers.{mapRead};
+ghost use Rattle.records.specs.code.Readers.{mapRead, bytesFrom};
 ghost use Rattle.records.specs.code.Passes.{rawOf, withBits, Passed};
 ghost use Rattle.records.specs.paper.Plan.{factBits, factFrom};
 ghost use Rattle.records.specs.code.PlanPasses.{planReading, factRead, factFits, withFacts};
-ghost use Rattle.records.specs.code.Decoded.{factsOf};
+ghost use Rattle.records.specs.code.Decoded.{ifGiven, factOf, factsOf};
 
 // The bits, the family, where the tuple stands and how long it is, and the place after it.
 pub enum FactSeen {
@@ -43,6 +44,21 @@ pub fn fact_at(s: &[u8], at: usize) -> FactSeen
         return FactSeen::Got(bits, family, first, count, next);
     }
     FactSeen::Bad
+}
+
+fn fact_from(s: &[u8], bits: u8, family: u8, first: usize, count: u8) -> Fact
+    requires { ⌜ (count ≤ 4) × (first + count ≤ length (now s)) ⌝ }
+    ensures { λ r.
+        ⌜ (factOf r ≡ record { family = ifGiven (eqb (bits % 2) 1) family; tuple = bytesFrom (now (s .entry)) first count })
+        × (r .count ≡ count) × (r .boolean ≡ not (eqb (bits % 2) 1)) ⌝ }
+{
+    let tuple = tuple_from(s, first, count);
+    Fact {
+        boolean: bits % 2 != 1,
+        family: family,
+        count: count,
+        tuple: tuple,
+    }
 }
 
 // number 0: all were read, and `at` is the place after them
@@ -95,13 +111,7 @@ pub fn read_facts(s: &[u8], start: usize, before: usize, headed: bool) -> FactsR
             break;
         };
         let n = facts.count;
-        let tuple = tuple_from(s, first, count);
-        let fact = Fact {
-            boolean: bits % 2 != 1,
-            family: family,
-            count: count,
-            tuple: tuple,
-        };
+        let fact = fact_from(s, bits, family, first, count);
         let rises = fact_rises(last, fact);
         number = judged(n, 64, false, both_or_none(bits), headed, rises);
         if number != 0 {

@@ -14,7 +14,7 @@ use Rattle.records.proofs.Reading.{seen}
 use Rattle.records.proofs.Passing.{Going, going, ends-short, ends-other, refused-bad, refused-judged, goes-on, goes-later}
 use Rattle.records.proofs.FactLaws.{lastFact, last-none, last-more, rise-more}
 use Rattle.records.proofs.SetLaws.{and-parts}
-use Rattle.records.proofs.KindLaws.{factKind, made-more, judge-same, is-sound, it-fits, no-tuple, fact-is}
+use Rattle.records.proofs.KindLaws.{factKind, made-more, judge-same, is-sound, it-fits, no-tuple}
 use borrow.Author.Needs.{needs}
 use Rattle.records.proofs.plan.reading.facts.read_facts.Statement.{statement}
 use Rattle.records.proofs.plan.reading.facts.read_facts.Tie as tie
@@ -44,11 +44,11 @@ loop-holds c =
       refl,
     )
 
-tuple-from-requires : tie.Need-tuple-from-requires Inv-loop μ-loop
-tuple-from-requires c κs = let f = rw (c .before .bits .given .1) at (c .before .before .before .fact-at .ensures .1) in (f .0, f .1)
+fact-from-requires : tie.Need-fact-from-requires Inv-loop μ-loop
+fact-from-requires c κs = let f = rw (c .before .bits .given .1) at (c .before .before .before .fact-at .ensures .1) in (f .0, f .1)
 
 fact-rises-requires : tie.Need-fact-rises-requires Inv-loop μ-loop
-fact-rises-requires c κs = let f = rw (c .before .before .bits .given .1) at (c .before .before .before .before .fact-at .ensures .1) in (c .before .before .before .before .before .before .before .before .loop .inv .6, f .0, c .before .before .before .before .before .before .before .before .loop .inv .7)
+fact-rises-requires c κs = let f = rw (c .before .before .bits .given .1) at (c .before .before .before .before .fact-at .ensures .1) in let n = c .fact-from .ensures .1 in (c .before .before .before .before .before .before .before .before .loop .inv .6, omega (arith, f .0, n), c .before .before .before .before .before .before .before .before .loop .inv .7)
 
 element-set-from-fact : tie.Need-element-set-from-fact Inv-loop μ-loop
 element-set-from-fact c = let h = c .before .judged .ensures .1 (c .if2 .left) in search (needs, h)
@@ -74,7 +74,8 @@ loop-again c =
     let f = seen (factRead (now (c .before .before .before .before .before .before .before .before .before .before .before .before .before .before .before .before .args .s))) (c .before .before .before .before .before .before .before .before .fact-at .ensures .0) (c .before .before .before .before .before .before .bits .given .1) in
     let z = goes-later factKind _ _ _ _ (i .3) (i .0) (c .before .before .before .before .before .before .before .before .before .before .before .loop-test .taken) (c .before .before .before .before .before .before .before .before .before .if1 .left) (i .4) f in
     let h = c .before .judged .ensures .1 (c .if2 .left) in
-    let x = fact-is (now (c .before .before .before .before .before .before .before .before .before .before .before .before .before .before .before .before .args .s)) b (c .before .before .before .before .before .before .bits .given .0 .1 .0) (c .before .before .before .before .before .before .bits .given .0 .1 .1 .0) (c .before .before .before .before .before .before .bits .given .0 .1 .1 .1 .0) (c .before .before .before .before .tuple-from .result) (c .before .before .before .before .tuple-from .ensures) in
+    let n = c .before .before .before .before .fact-from .ensures in
+    let x = n .0 in
     let d = c .before .before .before .fact-rises .ensures ∙ ap₂ rises (sym (i .5)) x in
     let j = judge-same 64 (l .count) (length (factsOf l)) false false _ (factBits b) (c .before .before .before .before .before .before .before .before .before .before .before .before .before .before .before .before .args .headed) _ _ (c .before .judged .ensures .0) (length-made factOf (l .items) (l .count) (omega (arith, i .1, i .2))) refl (c .before .before .both-or-none .ensures) d in
     let more = made-more factOf (l .items) (l .count) _ (omega (arith, i .2, h)) ∙ ap (λ (y : Fact). factsOf l ++ (y ∷ [])) x in
@@ -86,8 +87,8 @@ loop-again c =
       goes-on factKind _ _ _ _ (i .3) (i .0) (c .before .before .before .before .before .before .before .before .before .before .before .loop-test .taken) (c .before .before .before .before .before .before .before .before .before .if1 .left) (i .4) f _ j (c .if2 .left) _ more,
       ap factsRise more ∙ rise-more (factsOf l) _ ∙ ap₂ _&&_ (i .4) (sym d ∙ r),
       ap lastFact more ∙ last-more (factsOf l) _ ∙ sym x,
-      g .0,
-      λ y. no-tuple b _ (sym (c .before .before .both-or-none .ensures) ∙ and-parts (c .before .before .both-or-none .result) (c .before .before .before .before .before .before .before .before .before .before .before .before .before .before .before .before .args .headed) t .0) y (g .2),
+      omega (arith, g .0, n .1),
+      λ y. n .1 ∙ no-tuple b _ (sym (c .before .before .both-or-none .ensures) ∙ and-parts (c .before .before .both-or-none .result) (c .before .before .before .before .before .before .before .before .before .before .before .before .before .before .before .before .args .headed) t .0) (sym (n .2) ∙ y) (g .2),
       c .if2 .left,
     )
 
@@ -111,7 +112,7 @@ returns-4 c =
     let l = c .before .before .before .before .before .before .before .before .before .before .before .before .loop .facts in
     let i = c .before .before .before .before .before .before .before .before .before .before .before .before .loop .inv in
     let b = c .before .before .before .before .before .before .bits .given .0 .0 in
-    let x = fact-is (now (c .before .before .before .before .before .before .before .before .before .before .before .before .before .before .before .before .args .s)) b (c .before .before .before .before .before .before .bits .given .0 .1 .0) (c .before .before .before .before .before .before .bits .given .0 .1 .1 .0) (c .before .before .before .before .before .before .bits .given .0 .1 .1 .1 .0) (c .before .before .before .before .tuple-from .result) (c .before .before .before .before .tuple-from .ensures) in
+    let x = c .before .before .before .before .fact-from .ensures .0 in
     let d = c .before .before .before .fact-rises .ensures ∙ ap₂ rises (sym (i .5)) x in
     let j = judge-same 64 (l .count) (length (factsOf l)) false false _ (factBits b) (c .before .before .before .before .before .before .before .before .before .before .before .before .before .before .before .before .args .headed) _ _ (c .before .judged .ensures .0) (length-made factOf (l .items) (l .count) (omega (arith, i .1, i .2))) refl (c .before .before .both-or-none .ensures) d in
     (refused-judged factKind _ _ _ _ (i .3) (i .0) (c .before .before .before .before .before .before .before .before .before .before .before .loop-test .taken) (c .before .before .before .before .before .before .before .before .before .if1 .left) (i .4) (seen (factRead (now (c .before .before .before .before .before .before .before .before .before .before .before .before .before .before .before .before .args .s))) (c .before .before .before .before .before .before .before .before .fact-at .ensures .0) (c .before .before .before .before .before .before .bits .given .1)) _ j (c .if2 .taken), i .0, i .4)
@@ -120,6 +121,6 @@ pub read-facts-spec : {M : Type 1} → statement M
 read-facts-spec =
     tie.close
     (tie.spec Inv-loop μ-loop (λ c κs. search needs) (λ c κs. search needs) loop-holds (λ c. search needs) (λ c. search needs)
-    (λ c κs. search needs) (λ c. search needs) (λ c. search needs) tuple-from-requires fact-rises-requires
+    (λ c κs. search needs) (λ c. search needs) (λ c. search needs) fact-from-requires fact-rises-requires
     (λ c κs. search needs) (λ c κs. search needs) (λ c. search needs) element-set-from-fact add-facts add-k loop-less
     loop-again returns returns-2 returns-3 returns-4)
