@@ -12,10 +12,11 @@ use Rattle.records.specs.promises.Sound.{All}
 use Rattle.records.proofs.SetLaws.{lt-or-le}
 use Rattle.records.proofs.Every.{all-parts, all-getD}
 use Rattle.worlds.specs.paper.Events.{littleBytes}
 use Rattle.report.specs.paper.Line.{Line, lineBytes, lineLength, bareLine}
-use Rattle.report.specs.promises.LineAt.{lineAt, personAt, kindAt, blockAt}
+use Rattle.report.specs.paper.LineAt.{lineAt}
 use Rattle.report.specs.paper.Operations.{filled}
 use Rattle.report.proofs.LinesAt.{run, line-at, past-lines}
+use Rattle.promises.specs.Partitioned.{personAt, kindAt, blockAt}
 
 -- ---- numbers as bytes
 
