@@ -204,7 +204,11 @@ fn touched(class: &Class) -> u64 {
     let counted = Command::new(own.with_file_name("copies"))
         .args(["touched", class.name])
         .output();
-    let told = counted.map(|output| String::from_utf8_lossy(&output.stdout).trim().parse::<u64>());
+    let told = counted.map(|output| {
+        String::from_utf8_lossy(&output.stdout)
+            .trim()
+            .parse::<u64>()
+    });
     match told {
         Ok(Ok(bytes)) => bytes / 1000,
         _ => fail("the program copies, which counts, does not run"),
