@@ -9,7 +9,7 @@ use lib.Seq.{length-take-le}
 use lib.Dec.{ltb}
 use Rattle.records.specs.paper.Sets.{members, membersFrom, when}
 use Rattle.report.specs.paper.Line.{Line, lineBytes, bareLine}
-use Rattle.report.specs.promises.LineAt.{linesFrom}
+use Rattle.report.specs.paper.LineAt.{linesFrom}
 use Rattle.report.specs.paper.EventList.{eventLength}
 use Rattle.report.specs.declared.Answer.{Answer}
 use Rattle.report.specs.declared.Answer.the-variants.{Accepted, Answered, Refused, TooManyWorlds}

@@ -7,7 +7,7 @@ use lib.ListN.{length}
 use lib.Seq.{length-take-le}
 use Rattle.records.specs.paper.Sets.{members}
 use Rattle.report.specs.paper.Line.{Line}
-use Rattle.report.specs.promises.LineAt.{lineAt, decoded, linesFrom}
+use Rattle.report.specs.paper.LineAt.{lineAt, decoded, linesFrom}
 use Rattle.report.specs.paper.Units.{units}
 use Rattle.listing.specs.Text.{feed, space, decimal, persons, cell, row, rowOf, rows, header, unitsWord, lastRow, table, refusedWord, refusedRow}
 use Rattle.listing.specs.Page.{Page, putByte, puts}

@@ -10,7 +10,7 @@ use lib.Seq.{getD-take, getD-drop}
 use lib.Dec.{eqb}
 use Rattle.records.specs.paper.Sets.{members, membersFrom, when, anyOf}
 use Rattle.report.specs.paper.Line.{Line, lineLength}
-use Rattle.report.specs.promises.LineAt.{lineAt, decoded, linesFrom}
+use Rattle.report.specs.paper.LineAt.{lineAt, decoded, linesFrom}
 use Rattle.report.specs.paper.Units.{joinUnit, unitsWith, units}
 use Rattle.listing.specs.Text.{decimal, further, persons, cell, row, rowOf, rows, lastRow, table, refusedRow}
 use Rattle.listing.specs.Listing.{longest}

@@ -9,7 +9,7 @@ use lib.Seq.{drop-cons, getD-take, length-take-le, take-suc-set}
 use lib.Dec.{eqb}
 use borrow.Author.Tests.{eq-eqb, ne-eqb}
 use Rattle.records.specs.paper.Sets.{anyOf}
-use Rattle.report.specs.promises.LineAt.{lineAt, decoded, linesFrom}
+use Rattle.report.specs.paper.LineAt.{lineAt, decoded, linesFrom}
 use Rattle.report.specs.paper.Units.{joinUnit, unitsWith}
 
 -- ---- a search through the first n

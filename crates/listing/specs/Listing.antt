@@ -2,7 +2,7 @@
 use mathlib.Core.List.{List}
 use Prim.Native.Nat.{ℕ, zero, suc}
 use Rattle.report.specs.paper.Operations.{Told, told, Outcome, answer}
-use Rattle.report.specs.promises.LineAt.{linesFrom}
+use Rattle.report.specs.paper.LineAt.{linesFrom}
 use Rattle.listing.specs.Text.{table, refusedRow}
 
 -- the lines are read out of the buffer of lines

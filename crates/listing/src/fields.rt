@@ -4,7 +4,7 @@ ghost use mathlib.Core.Path.{_≡_};
 ghost use Prim.Native.Nat.{_+_, _*_, _≤_};
 ghost use lib.ListN.{length, take, drop};
 ghost use Rattle.records.specs.paper.Fields.{little};
-ghost use Rattle.report.specs.promises.LineAt.{lineAt, decoded};
+ghost use Rattle.report.specs.paper.LineAt.{lineAt, decoded};
 ghost use Rattle.listing.specs.Shown.{Shows};
 
 pub struct Fields {

@@ -11,7 +11,7 @@ ghost use mathlib.Core.Path.{_≡_};
 ghost use Prim.Native.Nat.{_*_, _≤_};
 ghost use lib.ListN.{length};
 ghost use Rattle.report.specs.paper.Operations.{told as toldOf, answer as answerOf};
-ghost use Rattle.report.specs.promises.LineAt.{linesFrom};
+ghost use Rattle.report.specs.paper.LineAt.{linesFrom};
 ghost use Rattle.report.specs.paper.Units.{units};
 ghost use Rattle.listing.specs.Text.{table, lastRow};
 ghost use Rattle.listing.specs.Page.{puts};

@@ -58,7 +58,7 @@ use Rattle.report.proofs.HappenedAll.{happened-same, defaults-asked, de
 use Rattle.report.proofs.HappenedLaws.{Many, rules-many}
 use Rattle.report.proofs.NineLaws.{rising-twelve, flat-length}
 use Rattle.report.proofs.FilledLaws.{zeros-drop, lines-filled, written-told}
-use Rattle.report.proofs.LineBlocks.{PartedIn, world-parted}
+use Rattle.report.proofs.WorldBlocks.{PartedIn, world-parted}
 
 -- ---- masks of kind 9 in the order of their events
 

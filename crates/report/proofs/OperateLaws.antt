@@ -43,19 +43,16 @@ use Rattle.expressions.proofs.FactLaws.{bindings-by}
 use Rattle.expressions.proofs.ReachLaws.{heading-of, frame-of}
 use Rattle.report.proofs.ReadyLaws.{somebody}
 use Rattle.report.specs.paper.Line.{lineLength}
-use Rattle.report.specs.promises.LineAt.{lineAt}
 use Rattle.report.specs.paper.Operations.{told, relationOf, mismatched, headingFault, tooMany, Opened, stopped, incomplete, ready, orStop, unlessFault, counted, bound, opened, Outcome, refusal, answerOpened, answer, showOpened, show}
 use Rattle.report.specs.code.Opening.{RulePersons, HeadingFault}
 use Rattle.report.specs.code.Operate.{judged, headed, outcome, Operates}
 use Rattle.report.specs.code.Bare.{worldless, Worldless}
 use Rattle.report.specs.code.Ready.{readyOutcome, AnswersReady}
-use Rattle.report.specs.promises.Private.{PrivateLines}
 use Rattle.report.specs.declared.Answer.{Answer}
 use Rattle.report.specs.declared.Answer.the-variants.{Refused, TooManyWorlds}
 use Rattle.report.specs.declared.run.Wanted.{Wanted}
 use Rattle.report.proofs.Answered.{bindable-split}
 use Rattle.report.proofs.OpenedLaws.{on-roster}
-use Rattle.report.proofs.Privacy.{privacy}
 
 -- ---- plan and case as they were read
 
@@ -317,17 +314,3 @@ pub shows : (s t l₀ l₁ e₀ e₁ : List ℕ) (a : Answer) (w : Wanted) → w
 unfolding show
 shows s t l₀ l₁ e₀ e₁ a w h k =
     k .outcome ∙ by-wanted w (length l₀) (length e₀) (opened s t (length l₀)) false h
-
--- ---- two answers
-
-pub private-lines : (s t₁ t₂ : List ℕ) (l₁ e₁ l₂ e₂ : ℕ) (a₁ a₂ : Answer) (L₁ E₁ L₂ E₂ : List ℕ)
-    → _≡_ {A = Outcome} (record { answer = a₁; lines = L₁; events = E₁ }) (answer s t₁ l₁ e₁)
-    → _≡_ {A = Outcome} (record { answer = a₂; lines = L₂; events = E₂ }) (answer s t₂ l₂ e₂)
-    → PrivateLines s t₁ t₂ a₁ a₂ L₁ L₂
-private-lines s t₁ t₂ l₁ e₁ l₂ e₂ a₁ a₂ L₁ E₁ L₂ E₂ h₁ h₂ = record {
-  same = λ P C₁ C₂ accepted read₁ read₂ answered₁ answered₂ h k i p low place condition.
-      ap (λ (o : Outcome). lineAt (o .lines) i) h₁
-      ∙ privacy s t₁ t₂ l₁ e₁ l₂ e₂ P C₁ C₂ accepted read₁ read₂ (ap (λ (o : Outcome). told (o .answer) .refusal) (sym h₁) ∙ answered₁)
-      (ap (λ (o : Outcome). told (o .answer) .refusal) (sym h₂) ∙ answered₂) h k i p low place condition
-      ∙ sym (ap (λ (o : Outcome). lineAt (o .lines) i) h₂);
-}

@@ -19,7 +19,6 @@ pub mod pairs;
 pub mod ready;
 pub mod run;
 pub mod sums;
-pub mod two;
 pub mod walk;
 
 // What an operation answers; `specs/paper/Operations.antt` gives document 01's numbers for each.

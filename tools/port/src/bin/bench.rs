@@ -1,7 +1,7 @@
 //! bench: time of an answer by the Rust, by the model and by the proved code, for classes of inputs. `bench --help` has more.
 
 use std::hint::black_box;
-use std::process::exit;
+use std::process::{Command, exit};
 
 use inputs::classes::{ALL, Class};
 use judge::compare::{Covered, MODEL, Voice, compare_voices};
@@ -19,7 +19,8 @@ the median of its inputs. Times are those that the program had a processor. The 
 in fewer rounds where it takes long.
 
 Columns: inputs of the class; nanoseconds of an answer by each; how often the port's time goes into the Rust's, and the model's into the port's;
-worlds of all inputs over the port's time for them; nanoseconds of the port's check of a plan, and how often the model's goes into that.
+worlds of all inputs over the port's time for them; nanoseconds of the port's check of a plan, and how often the model's goes into that; kilobytes
+that the port copies and clears for an answer, mean of the inputs, counted apart from the times.
 
   --class NAME   this class alone; may be given again
   --rounds N     so many rounds, 15 if not given
@@ -197,6 +198,23 @@ fn median(inputs: &[Timed], time: fn(&Timed) -> f64) -> f64 {
     all[all.len() / 2]
 }
 
+/// Kilobytes that an answer copies and clears. Counting takes time, so another program counts, which is built beside this one.
+fn touched(class: &Class) -> u64 {
+    let own = std::env::current_exe().expect("the system knows this program's file");
+    let counted = Command::new(own.with_file_name("copies"))
+        .args(["touched", class.name])
+        .output();
+    let told = counted.map(|output| {
+        String::from_utf8_lossy(&output.stdout)
+            .trim()
+            .parse::<u64>()
+    });
+    match told {
+        Ok(Ok(bytes)) => bytes / 1000,
+        _ => fail("the program copies, which counts, does not run"),
+    }
+}
+
 /// One row of the table.
 fn row(class: &Class, rounds: u32) {
     let mut inputs: Vec<Timed> = inputs_of(class)
@@ -213,13 +231,14 @@ fn row(class: &Class, rounds: u32) {
     let worlds: u64 = inputs.iter().map(|input| input.worlds).sum();
     let seconds: f64 = inputs.iter().map(|input| input.port.best / 1e9).sum();
     println!(
-        "{:<10} {:>6} {rust:>13.0} {model:>11.0} {port:>11.0} {:>9.1} {:>10.2} {:>10.0} {port_check:>9.0} {:>10.2}",
+        "{:<10} {:>6} {rust:>13.0} {model:>11.0} {port:>11.0} {:>9.1} {:>10.2} {:>10.0} {port_check:>9.0} {:>10.2} {:>10}",
         class.name,
         inputs.len(),
         rust / port,
         port / model,
         worlds as f64 / seconds,
         port_check / model_check,
+        touched(class),
     );
 }
 
@@ -227,7 +246,7 @@ fn main() {
     let settings = settings();
     println!("median nanoseconds, best of {} rounds", settings.rounds);
     println!(
-        "{:<10} {:>6} {:>13} {:>11} {:>11} {:>9} {:>10} {:>10} {:>9} {:>10}",
+        "{:<10} {:>6} {:>13} {:>11} {:>11} {:>9} {:>10} {:>10} {:>9} {:>10} {:>10}",
         "class",
         "inputs",
         "Rust",
@@ -237,7 +256,8 @@ fn main() {
         "port/model",
         "worlds/s",
         "check",
-        "over model"
+        "over model",
+        "KB touched"
     );
     for class in settings.classes {
         row(class, settings.rounds);

@@ -1,6 +1,7 @@
-//! copies: how much the proved code copies and clears, by class of inputs. Where it calls memcpy, memmove or memset, the linker sends it
-//! through the functions below (build.rs).
+//! copies: how much the proved code copies and clears, by class of inputs; `copies touched CLASS` prints for one class the bytes of both together
+//! that an answer takes, for bench. Where the code calls memcpy, memmove or memset, the linker sends it through the functions below (build.rs).
 
+use std::process::exit;
 use std::sync::atomic::{AtomicU64, Ordering::Relaxed};
 
 use inputs::classes::{ALL, Class};
@@ -88,7 +89,8 @@ fn of_input(class: &Class, input: &Measured) -> [[u64; 4]; 2] {
     [check, answer]
 }
 
-fn row(class: &Class) {
+/// Copies, bytes copied, clearings and bytes cleared by a check of the plan, then by an answer: mean of the class's inputs.
+fn means(class: &Class) -> (usize, [[u64; 4]; 2]) {
     let all: Vec<_> = inputs_of(class)
         .map(|input| of_input(class, &input))
         .collect();
@@ -96,15 +98,20 @@ fn row(class: &Class) {
         let sum: u64 = all.iter().map(|found| found[call][what]).sum();
         sum / all.len() as u64
     };
-    print!("{:<10} {:>6}", class.name, all.len());
-    for call in 0..2 {
-        let [copies, copied, clearings, cleared] = [0, 1, 2, 3].map(|what| mean(call, what));
+    let means = [0, 1].map(|call| [0, 1, 2, 3].map(|what| mean(call, what)));
+    (all.len(), means)
+}
+
+fn row(class: &Class) {
+    let (inputs, means) = means(class);
+    print!("{:<10} {inputs:>6}", class.name);
+    for [copies, copied, clearings, cleared] in means {
         print!("   {copies:>7} {copied:>9} {clearings:>9} {cleared:>9}");
     }
     println!();
 }
 
-fn main() {
+fn table() {
     println!("mean of a class's inputs: of a check of the plan, then of an answer");
     print!("{:<10} {:>6}", "class", "inputs");
     for _ in 0..2 {
@@ -115,4 +122,26 @@ fn main() {
     }
     println!();
     ALL.iter().for_each(row);
+}
+
+fn fail(what: &str) -> ! {
+    eprintln!("copies: {what}");
+    exit(2)
+}
+
+fn touched(name: &str) {
+    let class = ALL.iter().find(|class| class.name == name);
+    let class = class.unwrap_or_else(|| fail("no such class"));
+    let (_, [_, [_, copied, _, cleared]]) = means(class);
+    println!("{}", copied + cleared);
+}
+
+fn main() {
+    let words: Vec<String> = std::env::args().skip(1).collect();
+    let words: Vec<&str> = words.iter().map(String::as_str).collect();
+    match words[..] {
+        [] => table(),
+        ["touched", name] => touched(name),
+        _ => fail("no words, or touched and the name of a class"),
+    }
 }

@@ -4,7 +4,7 @@ use Prim.Native.Nat.{ℕ, _+_, _*_, _-_}
 use native.Mathlib.Omega.{arith}
 use lib.ListN.{take, drop}
 use denote.Ref.{now}
-use Rattle.report.specs.promises.LineAt.{lineAt, decoded}
+use Rattle.report.specs.paper.LineAt.{lineAt, decoded}
 use Rattle.listing.specs.Shown.{Shows}
 use borrow.Author.Needs.{needs}
 use Rattle.listing.proofs.fields.fields_at.Statement.{statement}

@@ -1,5 +1,5 @@
 -- `fields::fields_of`: a line's bytes by their places.
-use Rattle.report.specs.promises.LineAt.{decoded}
+use Rattle.report.specs.paper.LineAt.{decoded}
 use borrow.Author.Needs.{needs}
 use Rattle.listing.proofs.fields.fields_of.Statement.{statement}
 use Rattle.listing.proofs.fields.fields_of.Tie as tie

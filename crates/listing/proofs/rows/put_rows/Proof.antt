@@ -5,7 +5,7 @@ use denote.Ref.{now}
 use native.Mathlib.Omega.{arith}
 use lib.ListN.{length}
 use borrow.Author.Needs.{needs}
-use Rattle.report.specs.promises.LineAt.{linesFrom}
+use Rattle.report.specs.paper.LineAt.{linesFrom}
 use Rattle.listing.specs.Text.{rows}
 use Rattle.listing.specs.Page.{Page, puts}
 use Rattle.listing.proofs.RowLaws.{rows-next, rows-end}

@@ -6,7 +6,7 @@ use Prim.Native.Nat.{ℕ, _≤_, _+_, _-_, zero-le}
 use native.Mathlib.Omega.{arith}
 use lib.ListN.{length, take}
 use borrow.Author.Needs.{needs}
-use Rattle.report.specs.promises.LineAt.{linesFrom}
+use Rattle.report.specs.paper.LineAt.{linesFrom}
 use Rattle.report.specs.paper.Units.{unitsWith, units}
 use Rattle.listing.proofs.UnitLaws.{units-next, units-end}
 use Rattle.listing.proofs.units.units_of.Statement.{statement}

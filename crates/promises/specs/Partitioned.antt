@@ -5,8 +5,24 @@ use mathlib.Core.Bool.{true}
 use mathlib.Core.List.{List}
 use mathlib.Core.Logic.{_⊎_, _↔_, _≢_}
 use Prim.Native.Nat.{ℕ, _<_}
+use lib.ListN.{getD, take, drop}
 use Rattle.records.specs.paper.Sets.{has, disjoint}
-use Rattle.report.specs.promises.LineAt.{personAt, kindAt, blockAt}
+use Rattle.records.specs.paper.Fields.{little}
+use Rattle.report.specs.paper.LineAt.{lineAt}
+
+-- ---- what line k says
+
+unfoldable pub personAt : List ℕ → ℕ → ℕ
+personAt s k = getD (lineAt s k) 0 0
+
+unfoldable pub kindAt : List ℕ → ℕ → ℕ
+kindAt s k = getD (lineAt s k) 1 0
+
+-- 0: none
+unfoldable pub blockAt : List ℕ → ℕ → ℕ
+blockAt s k = little (take 8 (drop 3 (lineAt s k)))
+
+-- ---- of all lines
 
 -- of any two lines the blocks are equal or disjoint, and a line's block holds its person
 pub record Apart (s : List ℕ) : Type 0 where

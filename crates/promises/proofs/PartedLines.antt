@@ -15,16 +15,15 @@ use Rattle.records.proofs.SetLaws.{Within, has-none, has-high, antisym, in-meet
 use Rattle.records.proofs.ListLaws.{getD-mapped}
 use Rattle.records.proofs.MemberLaws.{members-length, member-at, member-place}
 use Rattle.records.proofs.Local.{clash}
 use Rattle.report.specs.paper.Line.{Line, lineBytes}
-use Rattle.report.specs.promises.LineAt.{personAt, kindAt, blockAt}
 use Rattle.report.specs.paper.EventList.{eventLength}
 use Rattle.report.specs.declared.Answer.{Answer}
 use Rattle.report.specs.declared.Answer.the-variants.{Refused, Answered}
 use Rattle.report.specs.paper.Operations.{told, Outcome, filled, refusal, written}
-use Rattle.report.proofs.LineBytes.{none, zeros, zeros-block, person-read, kind-read, block-read}
-use Rattle.report.proofs.Once.{members-once}
-use Rattle.report.proofs.Apart.{Apart, Partitioned}
-use Rattle.report.proofs.LineBlocks.{With, Parted, holds-with}
+use Rattle.report.proofs.WorldBlocks.{With, Parted, holds-with}
+use Rattle.promises.proofs.LineBytes.{none, zeros, zeros-block, person-read, kind-read, block-read}
+use Rattle.promises.proofs.Once.{members-once}
+use Rattle.promises.specs.Partitioned.{personAt, kindAt, blockAt, Apart, Partitioned}
 
 within-le : (a b : ℕ) → Within a b → a ≤ b
 unfolding meet

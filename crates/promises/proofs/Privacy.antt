@@ -16,13 +16,14 @@ use Rattle.expressions.specs.paper.Influence.{Frame, touchesCircle}
 use Rattle.expressions.specs.paper.Bindings.{unbound, bindingOf, bindings, frameOf}
 use Rattle.expressions.proofs.ListLaws.{below-at}
 use Rattle.expressions.proofs.Similar.{BoundAlike}
 use Rattle.report.specs.paper.Line.{Line, lineBytes, bareLine}
-use Rattle.report.specs.promises.LineAt.{lineAt}
-use Rattle.report.specs.paper.Operations.{told, answer}
+use Rattle.report.specs.paper.LineAt.{lineAt}
+use Rattle.report.specs.declared.Answer.{Answer}
+use Rattle.report.specs.paper.Operations.{told, Outcome, answer}
 use Rattle.report.proofs.LinesAt.{line-at}
 use Rattle.report.proofs.Answered.{lineOf, lineFor, answered-lines}
 use Rattle.report.proofs.LinePrivate.{line-private}
-use Rattle.report.specs.promises.Private.{SameLines, Private}
+use Rattle.promises.specs.Private.{SameLines, Private, PrivateLines}
 
 -- ---- two cases
 
@@ -100,3 +101,17 @@ privacy = same-lines _ case-private
 -- "With an incomplete roster demand 3 holds whatever the facts"
 pub incomplete-roster : SameLines (λ P C₁ C₂ p. caseHeading C₁ .complete ≡ [])
 incomplete-roster = same-lines _ case-incomplete
+
+-- ---- of what a program answered and wrote, where both are what answering gives
+
+pub private-lines : (s t₁ t₂ : List ℕ) (l₁ e₁ l₂ e₂ : ℕ) (a₁ a₂ : Answer) (L₁ E₁ L₂ E₂ : List ℕ)
+    → _≡_ {A = Outcome} (record { answer = a₁; lines = L₁; events = E₁ }) (answer s t₁ l₁ e₁)
+    → _≡_ {A = Outcome} (record { answer = a₂; lines = L₂; events = E₂ }) (answer s t₂ l₂ e₂)
+    → PrivateLines s t₁ t₂ a₁ a₂ L₁ L₂
+private-lines s t₁ t₂ l₁ e₁ l₂ e₂ a₁ a₂ L₁ E₁ L₂ E₂ h₁ h₂ = record {
+  same = λ P C₁ C₂ accepted read₁ read₂ answered₁ answered₂ h k i p low place condition.
+      ap (λ (o : Outcome). lineAt (o .lines) i) h₁
+      ∙ privacy s t₁ t₂ l₁ e₁ l₂ e₂ P C₁ C₂ accepted read₁ read₂ (ap (λ (o : Outcome). told (o .answer) .refusal) (sym h₁) ∙ answered₁)
+      (ap (λ (o : Outcome). told (o .answer) .refusal) (sym h₂) ∙ answered₂) h k i p low place condition
+      ∙ sym (ap (λ (o : Outcome). lineAt (o .lines) i) h₂);
+}

@@ -1,9 +1,9 @@
--- `two::answer_two`: both outcomes are those of answering, so demand 3 holds of the bytes written.
+-- `answer_two`: both outcomes are those of answering, so demand 3 holds of the bytes written.
 use denote.Ref.{now}
-use Rattle.report.proofs.OperateLaws.{private-lines}
+use Rattle.promises.proofs.Privacy.{private-lines}
 use borrow.Author.Needs.{needs}
-use Rattle.report.proofs.two.answer_two.Statement.{statement}
-use Rattle.report.proofs.two.answer_two.Tie as tie
+use Rattle.promises.proofs.answer_two.Statement.{statement}
+use Rattle.promises.proofs.answer_two.Tie as tie
 
 answer-requires : tie.Need-answer-requires
 answer-requires c κs = search needs
@@ -28,7 +28,9 @@ returns c =
     let y = c .before .before .before .before in
     let x = y .before .before .before .before .before .before .before in
     let a = x .before .before .before .before .before .before .before .before .before .before in
-    private-lines (now (a .args .plan)) (now (a .args .first)) (now (a .args .second)) _ _ _ _ _ _ _ _ _ _ (x .answer .ensures) (y .answer2 .ensures)
+    let one = x .answer .ensures in
+    let other = y .answer2 .ensures in
+    (one, (other, private-lines (now (a .args .plan)) (now (a .args .first)) (now (a .args .second)) _ _ _ _ _ _ _ _ _ _ one other))
 
 pub answer-two-spec : {M : Type 1} → statement M
 answer-two-spec =

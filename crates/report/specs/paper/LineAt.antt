@@ -9,16 +9,6 @@ use Rattle.report.specs.paper.Line.{Line, lineLength}
 unfoldable pub lineAt : List ℕ → ℕ → List ℕ
 lineAt s k = take lineLength (drop (lineLength * k) s)
 
-unfoldable pub personAt : List ℕ → ℕ → ℕ
-personAt s k = getD (lineAt s k) 0 0
-
-unfoldable pub kindAt : List ℕ → ℕ → ℕ
-kindAt s k = getD (lineAt s k) 1 0
-
--- 0: none
-unfoldable pub blockAt : List ℕ → ℕ → ℕ
-blockAt s k = little (take 8 (drop 3 (lineAt s k)))
-
 -- the line that 29 bytes stand for
 unfoldable pub decoded : List ℕ → Line
 decoded b = record {

@@ -17,12 +17,12 @@ use Rattle.records.proofs.Local.{clash}
 use Rattle.expressions.specs.paper.Bindings.{bindings, frameOf}
 use Rattle.expressions.specs.paper.Variables.{Influence, influence, worlds}
 use Rattle.worlds.specs.paper.View.{View}
 use Rattle.report.specs.paper.Line.{lineBytes, bareLine, lineBy, lineOver, firstKind}
-use Rattle.report.specs.promises.LineAt.{personAt}
 use Rattle.report.specs.paper.Operations.{told, answer}
 use Rattle.report.proofs.OpenedLaws.{roster-fits}
 use Rattle.report.proofs.Answered.{viewsOf, lineOf, lineFor}
-use Rattle.report.proofs.Privacy.{line-bytes}
+use Rattle.promises.specs.Partitioned.{personAt}
+use Rattle.promises.proofs.Privacy.{line-bytes}
 
 pub person-place : (P : Plan) (case : List ℕ) (C : Case) → readCase P case ≡ fine C → (p : ℕ) → has (caseHeading C .roster) p ≡ true
     → (i : ℕ) × (i < size (caseHeading C .roster)) × (getD (members (caseHeading C .roster)) i 64 ≡ p)

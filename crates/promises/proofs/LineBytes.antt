@@ -12,10 +12,11 @@ use Rattle.records.specs.promises.Sound.{All}
 use Rattle.records.proofs.SetLaws.{lt-or-le}
 use Rattle.records.proofs.Every.{all-parts, all-getD}
 use Rattle.worlds.specs.paper.Events.{littleBytes}
 use Rattle.report.specs.paper.Line.{Line, lineBytes, lineLength, bareLine}
-use Rattle.report.specs.promises.LineAt.{lineAt, personAt, kindAt, blockAt}
+use Rattle.report.specs.paper.LineAt.{lineAt, decoded}
 use Rattle.report.specs.paper.Operations.{filled}
 use Rattle.report.proofs.LinesAt.{run, line-at, past-lines}
+use Rattle.promises.specs.Partitioned.{personAt, kindAt, blockAt}
 
 -- ---- numbers as bytes
 
@@ -31,6 +32,20 @@ little-bytes (suc n) m h =
     let less = subst (λ (x : ℕ). m < x) (pow-suc 256 n) h in
     let ih = little-bytes n (m / 256) (omega arith) in
     omega arith
+
+-- ---- a line that is read back is the line, where its fields fit their bytes
+
+pub decoded-line : (l : Line) → l .block < 2 ^ 64 → l .openFacts < 2 ^ 64 → l .openDecisions < 2 ^ 16 → l .citations < 2 ^ 64 → decoded (lineBytes l) ≡ l
+unfolding decoded lineBytes littleBytes
+decoded-line l b f d c = λ i. record {
+  person = l .person;
+  kind = l .kind;
+  role = l .role;
+  block = little-bytes 8 (l .block) b i;
+  openFacts = little-bytes 8 (l .openFacts) f i;
+  openDecisions = little-bytes 2 (l .openDecisions) d i;
+  citations = little-bytes 8 (l .citations) c i;
+}
 
 -- ---- zeros
 

@@ -21,12 +21,12 @@ use Rattle.worlds.specs.paper.Active.{flags, active, blocksEdge}
 use Rattle.worlds.specs.paper.World.{about, baseSet, baseSets, clique, loose, looseComponent, looseComponents, spread, chainStep, preceded, keptCut, keptCuts, overlappingCut, overlappingCuts, blockedBy, blockedCut, appliedCuts, discretionSeed, overlapSeed, marksOf, marked, cutMembers, appliedTo, restSets, firstBlock, firstState, move, attach, lastState, barredBy, excludedBy, afterMarks, worldOf}
 use Rattle.worlds.specs.paper.View.{roleOf, edgeCitations, leads, cutCitations, attachmentCitations, barCitations, statusCitations, citations, view}
 use Rattle.worlds.specs.paper.Events.{littleBytes, event, listed, frozenEvents, appliedEvents, blockedEvents, leastOfMerged, overlapEvents, attachmentEvents, barEvents, statusEvents, discretionEvents, eventsOf}
 use Rattle.report.specs.paper.Line.{lineBytes, firstKind, holding, lineOver, lineIn}
-use Rattle.report.specs.promises.LineAt.{lineAt}
+use Rattle.report.specs.paper.LineAt.{lineAt}
 use Rattle.report.specs.paper.EventList.{insert, rising, defaultEvents}
 use Rattle.report.specs.paper.Operations.{Outcome, told, check, mismatched, headingFault, tooMany, counted, bound, opened, written, influences, allWorlds, linesOver, eventsOver, linesOf, answerReady, answer, showFrom, show}
-use Rattle.report.proofs.Starred.{mask, chain, always, base, roster₀}
-use Rattle.report.proofs.Weaker.{edges, cuts, attachments, anchors, bars, decisions, tuples, strangers, rosters, edgeUsers, defeaters, cutUsers, attachmentUsers, barUsers, statusUsers, sharedFacts, none, edgeUsesBut, touchedBut, touchBut, spanBut, joinsBut, touchesBut}
+use Rattle.promises.proofs.Starred.{mask, chain, always, base, roster₀}
+use Rattle.promises.specs.Weaker.{edges, cuts, attachments, anchors, bars, decisions, tuples, strangers, rosters, edgeUsers, defeaters, cutUsers, attachmentUsers, barUsers, statusUsers, sharedFacts, none, edgeUsesBut, touchedBut, touchBut, spanBut, joinsBut, touchesBut}
 
 -- ---- the table: plans and cases of which person 0 has the first line
 

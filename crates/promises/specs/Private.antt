@@ -13,9 +13,9 @@ use Rattle.records.specs.paper.Case.{Case, readCase, caseHeading}
 use Rattle.expressions.specs.paper.Rules.{factCount}
 use Rattle.expressions.specs.paper.Influence.{Frame, touchesCircle}
 use Rattle.expressions.specs.paper.Bindings.{Bound, bindingOf, frameOf}
-use Rattle.report.specs.promises.LineAt.{lineAt}
+use Rattle.report.specs.paper.LineAt.{lineAt}
 use Rattle.report.specs.paper.Operations.{told, answer}
 use Rattle.report.specs.declared.Answer.{Answer}
 
 -- two cases over one plan, what was answered to each and the bytes of its lines: the i-th person of the roster, p, has the same line in both,
 -- on a condition

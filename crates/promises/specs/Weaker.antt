@@ -1,13 +1,12 @@
--- Circles with one of their clauses left out, by its number. Assumes nothing.
-use mathlib.Core.Path.{_≡_, refl}
+-- Circles with one of their clauses left out, by its number.
 use mathlib.Core.Bool.{Bool, not, cond}
 use mathlib.Core.List.{List, [], _++_}
 use Prim.Native.Nat.{ℕ}
 use lib.Dec.{eqb}
 use Rattle.records.specs.paper.Sets.{has, one, union, meet, meets, setOf, only, closeOf, below, unionOf}
 use Rattle.records.specs.paper.Plan.{Plan, getFact}
-use Rattle.expressions.specs.paper.Rules.{edgeCount, cutCount, attachmentCount, barCount, statusCount, factCount, edge, cut, attachment, bar, status, pair, span, ruleSets}
-use Rattle.expressions.specs.paper.Influence.{Frame, usesAt, edgeUses, cutUses, attachmentUses, barUses, statusUses, usersOf, constraintUses, boundFacts, touched, touch, touches, decisionTouches, joins, circle, touchesCircle}
+use Rattle.expressions.specs.paper.Rules.{edgeCount, cutCount, attachmentCount, barCount, statusCount, factCount, edge, cut, attachment, bar, status, pair, span}
+use Rattle.expressions.specs.paper.Influence.{Frame, usesAt, cutUses, attachmentUses, barUses, statusUses, usersOf, constraintUses, boundFacts, decisionTouches}
 
 -- ---- the clauses
 
@@ -107,8 +106,3 @@ module _ (out : ℕ) where
 
   unfoldable pub touchesBut : Frame → ℕ → ℕ → Bool
   touchesBut F f p = meets (touchBut F f) (closeOf (joinsBut F) (one p))
-
--- with none left out they are document 01's
-pub whole : touchesBut none ≡ touchesCircle
-unfolding touchesBut joinsBut spanBut touchBut touchedBut edgeUsesBut touchesCircle circle joins touches touch touched ruleSets span edgeUses
-whole = refl

@@ -18,15 +18,16 @@ use Rattle.worlds.specs.paper.Active.{active}
 use Rattle.worlds.specs.paper.World.{World, worldOf}
 use Rattle.worlds.specs.paper.View.{view}
 use Rattle.worlds.specs.paper.Events.{eventsOf}
 use Rattle.report.specs.paper.Line.{bareLine, lineOver, lineIn}
 use Rattle.report.specs.paper.EventList.{rising}
 use Rattle.report.specs.declared.Answer.the-variants.{Refused}
 use Rattle.report.specs.paper.Operations.{told, Opened, stopped, incomplete, ready, opened, influences, allWorlds, linesOver, linesOf, eventsOver, answerReady, answerOpened, answer, showFrom, showOpened, show}
+use Rattle.report.proofs.WorldBlocks.{Parted, PartedIn, world-parted}
 use Rattle.report.proofs.OpenedLaws.{Ready, OnOpened, opened-law, on-roster, roster-fits}
-use Rattle.report.proofs.Places.{over-person}
-use Rattle.report.proofs.Apart.{Apart, Partitioned, InOne, InAll}
-use Rattle.report.proofs.LineBlocks.{Parted, PartedIn, world-parted, over-parted}
-use Rattle.report.proofs.PartedLines.{Claimed, refused-claimed, written-claimed}
+use Rattle.promises.proofs.Places.{over-person}
+use Rattle.promises.specs.Partitioned.{Apart, Partitioned, InOne, InAll}
+use Rattle.promises.proofs.LineBlocks.{over-parted}
+use Rattle.promises.proofs.PartedLines.{Claimed, refused-claimed, written-claimed}
 
 fits : (P : Plan) (case : List ℕ) (C : Case) → readCase P case ≡ fine C → caseHeading C .roster < 2 ^ 64
 fits P case C read = roster-fits P C (accepted-case P case C read)

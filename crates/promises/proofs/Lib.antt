@@ -1,0 +1,10 @@
+pub mod Starred
+pub mod Once
+pub mod LineBytes
+pub mod LineBlocks
+pub mod PartedLines
+pub mod Privacy
+pub mod Places
+pub mod Blocks
+pub mod Sanity
+pub mod Needed

@@ -1,3 +1,0 @@
--- What is promised: the statements of theorems, and what they are about.
-pub mod LineAt
-pub mod Private
