@@ -1,4 +1,4 @@
--- Laws of the unresolved decisions: searched by number, listed one by one, and how many there are. Assumes nothing.
+-- Laws of the unresolved decisions: searched by number, listed one by one, and how many there are.
 use Prim.Native.Nat.{ℕ, zero, suc, _+_, _<_, min}
 use mathlib.Core.Path.{_≡_, refl, sym, ap, ap₂, _∙_, subst}
 use mathlib.Core.Bool.{Bool, true, false, _&&_, _||_, or-true, and-false}
@@ -12,17 +12,20 @@ use lib.Dec.{eqb}
 use borrow.Author.Tests.{eq-eqb, ne-eqb}
 use Rattle.records.specs.paper.Sets.{union, below, numbers, anyOf}
 use Rattle.records.specs.promises.Sound.{All}
+use Rattle.records.specs.paper.Plan as paper
+use Rattle.records.specs.paper.Plan.{Plan}
 use Rattle.records.specs.code.Decoded.{cutOf, edgeOf}
+use Rattle.expressions.specs.paper.Rules.{noCut, noEdge, cut, edge, pair}
 use Rattle.records.specs.declared.plan.Cut.{Cut}
 use Rattle.records.specs.declared.plan.Edge.{Edge}
 use Rattle.records.specs.declared.plan.Cuts.{Cuts}
 use Rattle.records.specs.declared.plan.Edges.{Edges}
 use Rattle.records.proofs.LoopLaws.{all-at, getD-below, length-below}
 use Rattle.expressions.specs.code.Coded.{cutsOf, edgesOf}
-use Rattle.expressions.specs.code.Listed.{endsOf, cutHolds}
+use Rattle.expressions.specs.code.Listed.{endsOf, heldByCut}
 use Rattle.expressions.specs.declared.decisions.Undecided.{Undecided}
-use Rattle.expressions.specs.paper.Influence.{Open}
-use Rattle.expressions.specs.code.Undecided.{pairOf, openAt, opensOf, Named, openTouch}
+use Rattle.expressions.specs.paper.Influence.{Open, openTouch}
+use Rattle.expressions.specs.code.Undecided.{pairOf, openAt, opensOf, Named}
 use Rattle.records.proofs.Listing.{below-more, below-ext}
 use Rattle.expressions.proofs.ListLaws.{any-last, below-last, made-length, made-at}
 
@@ -82,11 +85,10 @@ module _ (cuts : Cuts) (edges : Edges) (o : Undecided) (i : ℕ) (h : i < o .cou
   unfolding edgesOf
   edge-in wide = omega (arith, named-at .1, made-length edgeOf (edges .items) (edges .count) 64 (min (edges .count) 64) wide refl)
 
-  pub touch-at : length (cuts .items) ≡ 16 → length (edges .items) ≡ 64 → (d : Cut) (e : Edge)
-      → union (getD (cuts .items) (getD (o .cuts) i 0) d .members) (endsOf (edgeOf (getD (edges .items) (getD (o .edges) i 0) e)))
-      ≡ openTouch (cutsOf cuts) (edgesOf edges) (openAt (o .cuts) (o .edges) i)
-  unfolding cutsOf edgesOf cutOf openTouch
-  touch-at long wide d e =
+  pub touch-at : length (cuts .items) ≡ 16 → length (edges .items) ≡ 64 → (d : Cut) (e : Edge) (P : Plan) → P .cuts ≡ cutsOf cuts → P .edges ≡ edgesOf edges
+      → union (getD (cuts .items) (getD (o .cuts) i 0) d .members) (endsOf (edgeOf (getD (edges .items) (getD (o .edges) i 0) e))) ≡ openTouch P (openAt (o .cuts) (o .edges) i)
+  unfolding cutsOf edgesOf cutOf cut pair edge endsOf
+  touch-at long wide d e P k l =
       ap₂ union
-      (ap cutHolds (sym (made-at cutOf (cuts .items) (cuts .count) 16 (min (cuts .count) 16) long refl (getD (o .cuts) i 0) d _ (cut-in long))))
-      (ap endsOf (sym (made-at edgeOf (edges .items) (edges .count) 64 (min (edges .count) 64) wide refl (getD (o .edges) i 0) e _ (edge-in wide))))
+      (ap heldByCut (sym (ap (λ (xs : List paper.Cut). getD xs (getD (o .cuts) i 0) noCut) k ∙ made-at cutOf (cuts .items) (cuts .count) 16 (min (cuts .count) 16) long refl (getD (o .cuts) i 0) d _ (cut-in long))))
+      (ap endsOf (sym (ap (λ (xs : List paper.Edge). getD xs (getD (o .edges) i 0) noEdge) l ∙ made-at edgeOf (edges .items) (edges .count) 64 (min (edges .count) 64) wide refl (getD (o .edges) i 0) e _ (edge-in wide))))

@@ -1,7 +1,7 @@
 -- `bindings::bound_boolean`: explicit unknown first, then what was seen, then the default. Assumes nothing.
 use mathlib.Core.Path.{ap, _∙_}
 use borrow.Author.Needs.{needs}
-use Rattle.expressions.specs.code.Seen.{boundBy}
+use Rattle.expressions.specs.code.Sight.{boundBy}
 use Rattle.expressions.specs.code.Codes.{boundOf}
 use Rattle.expressions.specs.code.Told.{booleanBy}
 use Rattle.expressions.proofs.bindings.bound_boolean.Statement.{statement}

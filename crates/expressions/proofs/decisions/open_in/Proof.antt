@@ -1,4 +1,4 @@
--- `decisions::open_in`: after e edges the list has the open decisions on them behind it. Assumes nothing.
+-- `decisions::open_in`: after e edges the list has the open decisions on them behind it.
 use Prim.Native.Nat.{ℕ, _+_, _≤_, _<_, _-_}
 use lib.ListN.{length, set, length-map, length-set}
 use Rattle.records.specs.paper.Sets.{below}
@@ -11,20 +11,20 @@ use mathlib.Core.Bool.{true, false}
 use native.Mathlib.Omega.{arith}
 use borrow.Author.Needs.{needs}
 use Rattle.records.specs.code.Decoded.{decisionsOf}
-use Rattle.expressions.specs.paper.Influence.{Open}
-use Rattle.expressions.specs.code.Undecided.{decides, opensOf, openAt, openOf, pairOf}
+use Rattle.expressions.specs.paper.Influence.{Open, hasVerdict, openIn}
+use Rattle.expressions.specs.code.Undecided.{opensOf, openAt, pairOf}
 use Rattle.expressions.proofs.OpenLaws.{open-yes, open-no, room}
 use Rattle.expressions.proofs.decisions.open_in.Statement.{statement}
 use Rattle.expressions.proofs.decisions.open_in.Tie as tie
 
 abbrev Inv-loop : tie.InvT-loop
-Inv-loop decisions c edges out₀ e₀ out e = (e ≤ edges) × (length (out .cuts) ≡ 16) × (length (out .edges) ≡ 16) × (opensOf out ≡ opensOf out₀ ++ openOf (decisionsOf decisions) c e)
+Inv-loop decisions c edges out₀ e₀ out e = (e ≤ edges) × (length (out .cuts) ≡ 16) × (length (out .edges) ≡ 16) × (opensOf out ≡ opensOf out₀ ++ openIn (decisionsOf decisions) c e)
 
 abbrev μ-loop : tie.MeasureT-loop
 μ-loop decisions c edges out₀ e₀ out e = edges - e
 
 loop-holds : tie.Need-loop-holds Inv-loop μ-loop
-unfolding openOf
+unfolding openIn
 loop-holds c = (search needs, simp length-map at (c .good .0 .1 .1 .1 .0 .1 .0 .1), simp length-map at (c .good .0 .1 .1 .1 .1 .0 .1 .0 .1), sym (append-nil (opensOf (c .args .found))))
 
 cast-k : tie.Need-cast-k Inv-loop μ-loop
@@ -67,9 +67,9 @@ loop-again c =
     let o = l .loop .out in
     let put : o .count < 16 → below (o .count + 1) (openAt (set (o .cuts) (o .count) k) (set (o .edges) (o .count) e)) ≡ opensOf o ++ (pairOf k e ∷ []) =
     λ h. open-next (o .cuts) (o .edges) (o .count) k e (omega (arith, h, l .loop .inv .1)) (omega (arith, h, l .loop .inv .2)) in
-    let yes : decides e 3 ds ≡ true → opensOf (l .loop .out) ++ (pairOf k e ∷ []) ≡ before ++ openOf ds k (e + 1) =
-    λ h. ap (λ (os : List Open). os ++ (pairOf k e ∷ [])) (l .loop .inv .3) ∙ append-assoc before (openOf ds k e) (pairOf k e ∷ []) ∙ ap (λ (os : List Open). before ++ os) (sym (open-yes ds k e h)) in
-    let no : decides e 3 ds ≡ false → opensOf (l .loop .out) ≡ before ++ openOf ds k (e + 1) = λ h. l .loop .inv .3 ∙ ap (λ (os : List Open). before ++ os) (sym (open-no ds k e h)) in (
+    let yes : hasVerdict e 3 ds ≡ true → opensOf (l .loop .out) ++ (pairOf k e ∷ []) ≡ before ++ openIn ds k (e + 1) =
+    λ h. ap (λ (os : List Open). os ++ (pairOf k e ∷ [])) (l .loop .inv .3) ∙ append-assoc before (openIn ds k e) (pairOf k e ∷ []) ∙ ap (λ (os : List Open). before ++ os) (sym (open-yes ds k e h)) in
+    let no : hasVerdict e 3 ds ≡ false → opensOf (l .loop .out) ≡ before ++ openIn ds k (e + 1) = λ h. l .loop .inv .3 ∙ ap (λ (os : List Open). before ++ os) (sym (open-no ds k e h)) in (
       search needs,
       ⊎-elim (λ w. ap (λ (o : Undecided). length (o .cuts)) (w .1) ∙ length-set (l .loop .out .cuts) _ _ ∙ l .loop .inv .1) (λ w. ap (λ (o : Undecided). length (o .cuts)) (w .1) ∙ l .loop .inv .1) (c .if1 .came),
       ⊎-elim (λ w. ap (λ (o : Undecided). length (o .edges)) (w .1) ∙ length-set (l .loop .out .edges) _ _ ∙ l .loop .inv .2) (λ w. ap (λ (o : Undecided). length (o .edges)) (w .1) ∙ l .loop .inv .2) (c .if1 .came),
@@ -81,7 +81,7 @@ returns c =
     let l = c .before in
     let s = l .before in
     let e : l .loop .e ≡ s .args .edges = omega arith in
-    l .loop .inv .3 ∙ ap (λ (n : ℕ). opensOf (s .args .found) ++ openOf (decisionsOf (s .args .decisions)) (s .args .c) n) e
+    l .loop .inv .3 ∙ ap (λ (n : ℕ). opensOf (s .args .found) ++ openIn (decisionsOf (s .args .decisions)) (s .args .c) n) e
 
 pub open-in-spec : {M : Type 1} → statement M
 open-in-spec =

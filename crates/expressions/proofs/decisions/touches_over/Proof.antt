@@ -1,4 +1,4 @@
--- `decisions::touches_over`: after i decisions the array holds whom the first i touch. Assumes nothing.
+-- `decisions::touches_over`: after i decisions the array holds whom the first i touch.
 use Prim.Native.Nat.{ℕ, _≤_, _<_, _-_, min}
 use mathlib.Core.Path.{_≡_, refl, sym, ap, ap₂, _∙_, subst}
 use native.Mathlib.Omega.{arith}
@@ -7,15 +7,16 @@ use mathlib.Core.List.{[]}
 use lib.ListN.{length, getD, length-map, length-set}
 use borrow.Author.Needs.{needs}
 use Rattle.records.specs.paper.Sets.{union, below, numbers}
+use Rattle.records.specs.paper.Plan.{Plan}
 use Rattle.records.specs.code.Decoded.{edgeOf}
 use Rattle.records.specs.declared.plan.Cut.{Cut}
 use Rattle.records.specs.declared.plan.Edge.{Edge}
 use Rattle.records.proofs.plan.Cut.{the-type as cut-type}
 use Rattle.records.proofs.plan.Edge.{the-type as edge-type}
-use Rattle.expressions.specs.paper.Influence.{Open}
+use Rattle.expressions.specs.paper.Influence.{Open, openTouch}
 use Rattle.expressions.specs.code.Coded.{Holds, EndsFit, cutsOf, edgesOf}
 use Rattle.expressions.specs.code.Listed.{endsOf}
-use Rattle.expressions.specs.code.Undecided.{openAt, opensOf, openTouch}
+use Rattle.expressions.specs.code.Undecided.{openAt, opensOf}
 use Rattle.expressions.proofs.ListLaws.{holds-none, fill-next, below-map, made-each}
 use Rattle.expressions.proofs.DecisionLaws.{cut-in, edge-in, touch-at}
 use Rattle.expressions.proofs.decisions.touches_over.Statement.{statement}
@@ -23,7 +24,7 @@ use Rattle.expressions.proofs.decisions.touches_over.Tie as tie
 
 abbrev Inv-loop : tie.InvT-loop
 Inv-loop cuts edges found n out₀ i₀ out i =
-    (length out ≡ 16) × (i ≤ n) × Holds 0 out (below i (λ k. openTouch (cutsOf cuts) (edgesOf edges) (openAt (found .cuts) (found .edges) k)))
+    (length out ≡ 16) × (i ≤ n) × ((P : Plan) → P .cuts ≡ cutsOf cuts → P .edges ≡ edgesOf edges → Holds 0 out (below i (λ k. openTouch P (openAt (found .cuts) (found .edges) k))))
 
 abbrev μ-loop : tie.MeasureT-loop
 μ-loop cuts edges found n out₀ i₀ out i = n - i
@@ -52,7 +53,7 @@ upto-requires c κs = search needs
 
 loop-holds : tie.Need-loop-holds Inv-loop μ-loop
 unfolding below numbers
-loop-holds c = (refl, search needs, holds-none 16 0)
+loop-holds c = (refl, search needs, λ P x y. holds-none 16 0)
 
 element-copy-out-wide : tie.Need-element-copy-out-wide Inv-loop μ-loop
 element-copy-out-wide c = search needs
@@ -114,10 +115,11 @@ loop-again c =
     let o = s .args .t3 in
     let i = l .loop .i in
     let h : i < o .count = omega (arith, c .before .before .before .before .before .before .before .before .before .before .upto .ensures .0, c .before .before .before .before .before .before .before .before .loop-test .taken) in
-    let new = c .union .ensures
+    let new : (P : Plan) → P .cuts ≡ cutsOf (s .args .t1) → P .edges ≡ edgesOf (s .args .t2) → c .union .result ≡ openTouch P (openAt (o .cuts) (o .edges) i) = λ P x y.
+    c .union .ensures
     ∙ ap₂ union (ap (λ (k : ℕ). getD (s .args .t1 .items) k noCut .members) (c .before .before .before .before .before .before .wide .ensures .0)) (c .before .ends .ensures ∙ ap (λ (k : ℕ). endsOf (edgeOf (getD (s .args .t2 .items) k noEdge))) (c .before .before .before .wide2 .ensures .0))
-    ∙ touch-at (s .args .t1) (s .args .t2) o i h (s .pre .1) (long s) (deep s) noCut noEdge in
-    (simp length-set (l .loop .inv .0), omega (arith, c .before .before .before .before .before .before .before .before .loop-test .taken), fill-next 0 (λ k. openTouch (cutsOf (s .args .t1)) (edgesOf (s .args .t2)) (openAt (o .cuts) (o .edges) k)) (l .loop .out) i (c .union .result) (omega (arith, l .loop .inv .0, c .before .before .before .before .before .before .before .before .loop-test .taken, c .before .before .before .before .before .before .before .before .before .before .upto .ensures .1)) (l .loop .inv .2) new)
+    ∙ touch-at (s .args .t1) (s .args .t2) o i h (s .pre .1) (long s) (deep s) noCut noEdge P x y in
+    (simp length-set (l .loop .inv .0), omega (arith, c .before .before .before .before .before .before .before .before .loop-test .taken), λ P x y. fill-next 0 (λ k. openTouch P (openAt (o .cuts) (o .edges) k)) (l .loop .out) i (c .union .result) (omega (arith, l .loop .inv .0, c .before .before .before .before .before .before .before .before .loop-test .taken, c .before .before .before .before .before .before .before .before .before .before .upto .ensures .1)) (l .loop .inv .2 P x y) (new P x y))
 
 returns : tie.Need-returns Inv-loop μ-loop
 unfolding opensOf
@@ -126,8 +128,9 @@ returns c =
     let s = c .before .before .before in
     let o = s .args .t3 in
     let e : l .loop .i ≡ o .count = omega (arith, c .before .before .upto .ensures .0, s .pre .0) in
-    let g : Open → ℕ = openTouch (cutsOf (s .args .t1)) (edgesOf (s .args .t2)) in
-    subst (Holds 0 (l .loop .out)) (ap (λ (n : ℕ). below n (λ k. g (openAt (o .cuts) (o .edges) k))) e ∙ sym (below-map g (o .count) (openAt (o .cuts) (o .edges)))) (l .loop .inv .2)
+    λ P x y.
+    let g : Open → ℕ = openTouch P in
+    subst (Holds 0 (l .loop .out)) (ap (λ (n : ℕ). below n (λ k. g (openAt (o .cuts) (o .edges) k))) e ∙ sym (below-map g (o .count) (openAt (o .cuts) (o .edges)))) (l .loop .inv .2 P x y)
 
 pub touches-over-spec : {M : Type 1} → statement M
 touches-over-spec =

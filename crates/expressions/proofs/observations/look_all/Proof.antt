@@ -4,7 +4,7 @@ use mathlib.Core.Path.{_≡_, refl, sym, _∙_}
 use lib.ListN.{drop}
 use borrow.Author.Needs.{needs}
 use Rattle.expressions.proofs.SeenLaws.{pairs, pairs-next, pairs-none}
-use Rattle.expressions.specs.code.Seen.{lookAll}
+use Rattle.expressions.specs.code.Sight.{lookAll}
 use Rattle.records.specs.code.Decoded.{observationsOf}
 use Rattle.expressions.proofs.observations.look_all.Statement.{statement}
 use Rattle.expressions.proofs.observations.look_all.Tie as tie
