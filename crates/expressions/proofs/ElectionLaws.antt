@@ -1,4 +1,4 @@
--- Laws of the elections on a fact: the first of them, record by record. Assumes nothing.
+-- Laws of the elections on a fact: the first of them, record by record.
 use mathlib.Core.Path.{_≡_, refl, sym, ap, ap₂, _∙_, subst}
 use mathlib.Core.Bool.{Bool, true, false, cond}
 use mathlib.Core.List.{List, [], _∷_, _++_, map, map-map, flatMap, append-assoc}

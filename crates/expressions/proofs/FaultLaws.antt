@@ -1,4 +1,4 @@
--- Laws of faults that a record has beside the earlier ones, for families and booleans alike. Assumes nothing.
+-- Laws of faults that a record has beside the earlier ones, for families and booleans alike.
 use mathlib.Core.Path.{_≡_, refl, sym, ap, ap₂, _∙_}
 use mathlib.Core.Bool.{Bool, true, false, _||_, not, cond, or-comm}
 use mathlib.Core.List.{List, [], _∷_, _++_, map}

@@ -1,4 +1,4 @@
--- Laws of the table of nodes: a node by its sort, values and uses one node at a time. Assumes nothing.
+-- Laws of the table of nodes: a node by its sort, values and uses one node at a time.
 use Prim.Native.Nat.{ℕ, zero, suc, _+_, _<_}
 use mathlib.Core.Path.{_≡_, refl, sym, ap, _∙_, subst}
 use mathlib.Core.Bool.{Bool, false, not}

@@ -1,4 +1,4 @@
--- What is gathered of a fact binds it as the definitions do, and says whether it took its default. Assumes nothing.
+-- What is gathered of a fact binds it as the definitions do, and says whether it took its default.
 use mathlib.Core.Path.{_≡_, refl, sym, ap, ap₂, _∙_}
 use mathlib.Core.Bool.{Bool, true, false, _&&_, not, cond, Bool·not-not}
 use mathlib.Core.List.{List, [], _∷_, map}

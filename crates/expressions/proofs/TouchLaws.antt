@@ -1,4 +1,4 @@
--- Whom a fact touches and which facts are bound, from the list of rules: what document 01 says kind by kind. Assumes nothing.
+-- Whom a fact touches and which facts are bound, from the list of rules: what document 01 says kind by kind.
 use Prim.Native.Nat.{ℕ, zero, suc}
 use mathlib.Core.Path.{_≡_, refl, sym, ap, ap₂, _∙_, subst, fun-ext}
 use mathlib.Core.List.{List, [], _∷_, _++_, map, append-assoc}

@@ -1,4 +1,4 @@
--- `bindable::boolean_faults`: the records passed have no fault, and their facts are kept. Assumes nothing.
+-- `bindable::boolean_faults`: the records passed have no fault, and their facts are kept.
 use Prim.Native.Nat.{ℕ, _≤_, _-_}
 use mathlib.Core.Path.{_≡_, refl, sym, ap, _∙_}
 use mathlib.Core.List.{map}
@@ -33,23 +33,8 @@ Inv-loop first booleans n earlier₀ i₀ earlier i =
 abbrev μ-loop : tie.MeasureT-loop
 μ-loop first booleans n earlier₀ i₀ earlier i = n - i
 
-upto-requires : tie.Need-upto-requires Inv-loop μ-loop
-upto-requires c κs = search needs
-
 loop-holds : tie.Need-loop-holds Inv-loop μ-loop
 loop-holds c = (simp length-map at (c .before .good .0 .1 .1 .1 .0 .1 .0 .1), refl, search needs, refl, refl)
-
-mul-b : tie.Need-mul-b Inv-loop μ-loop
-mul-b c = search needs
-
-element-copy-out-b : tie.Need-element-copy-out-b Inv-loop μ-loop
-element-copy-out-b c = search needs
-
-clashes-requires : tie.Need-clashes-requires Inv-loop μ-loop
-clashes-requires c κs = search needs
-
-add-t15 : tie.Need-add-t15 Inv-loop μ-loop
-add-t15 c = search needs
 
 returns : tie.Need-returns Inv-loop μ-loop
 unfolding checkedOf
@@ -69,9 +54,6 @@ slice-aggregate-appears c = sym (length-take-le _ _ (omega (arith, c .before .be
 appears-requires : tie.Need-appears-requires Inv-loop μ-loop
 appears-requires c κs = tt
 
-add-t19 : tie.Need-add-t19 Inv-loop μ-loop
-add-t19 c = search needs
-
 returns-2 : tie.Need-returns-2 Inv-loop μ-loop
 unfolding checkedOf booleanOf
 returns-2 c =
@@ -81,15 +63,6 @@ returns-2 c =
     ap checkedOf
     (sym (boolean-twice (a .t1 .items) (a .t1 .count) (l .loop .i) (a .first) none (omega (arith, l .loop .inv .0, c .before .before .before .before .before .before .loop-test .taken, c .before .before .before .before .before .before .before .before .upto .ensures .0)) (sym (c .before .before .before .before .clashes .ensures) ∙ c .before .before .before .if1 .left) (sym found ∙ c .if2 .taken))
     ∙ l .loop .inv .4 ∙ booleans-whole (map booleanOf (take (a .t1 .count) (a .t1 .items))) (a .first) passed)
-
-array-write-earlier : tie.Need-array-write-earlier Inv-loop μ-loop
-array-write-earlier c = search needs
-
-add-i : tie.Need-add-i Inv-loop μ-loop
-add-i c = search needs
-
-loop-less : tie.Need-loop-less Inv-loop μ-loop
-loop-less c = search needs
 
 loop-again : tie.Need-loop-again Inv-loop μ-loop
 unfolding booleanOf
@@ -120,20 +93,20 @@ boolean-faults-spec =
     (tie.spec
     Inv-loop
     μ-loop
-    upto-requires
+    (λ c κs. search needs)
     loop-holds
-    mul-b
-    element-copy-out-b
-    clashes-requires
-    add-t15
+    (λ c. search needs)
+    (λ c. search needs)
+    (λ c κs. search needs)
+    (λ c. search needs)
     returns
     array-share-prefix-earlier
     slice-aggregate-appears
     appears-requires
-    add-t19
+    (λ c. search needs)
     returns-2
-    array-write-earlier
-    add-i
-    loop-less
+    (λ c. search needs)
+    (λ c. search needs)
+    (λ c. search needs)
     loop-again
     returns-3)

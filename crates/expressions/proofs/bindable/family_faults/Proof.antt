@@ -1,4 +1,4 @@
--- `bindable::family_faults`: the records passed have no fault, and their numbers are kept. Assumes nothing.
+-- `bindable::family_faults`: the records passed have no fault, and their numbers are kept.
 use Prim.Native.Nat.{ℕ, _≤_, _-_}
 use mathlib.Core.Path.{_≡_, refl, sym, ap, _∙_}
 use mathlib.Core.List.{map}
@@ -33,17 +33,8 @@ Inv-loop first families n earlier₀ i₀ earlier i =
 abbrev μ-loop : tie.MeasureT-loop
 μ-loop first families n earlier₀ i₀ earlier i = n - i
 
-upto-requires : tie.Need-upto-requires Inv-loop μ-loop
-upto-requires c κs = search needs
-
 loop-holds : tie.Need-loop-holds Inv-loop μ-loop
 loop-holds c = (simp length-map at (c .before .good .0 .1 .1 .1 .0 .1 .0 .1), refl, search needs, refl, refl)
-
-mul-m : tie.Need-mul-m Inv-loop μ-loop
-mul-m c = search needs
-
-element-copy-out-m : tie.Need-element-copy-out-m Inv-loop μ-loop
-element-copy-out-m c = search needs
 
 array-share-prefix-earlier : tie.Need-array-share-prefix-earlier Inv-loop μ-loop
 array-share-prefix-earlier c = omega (arith, c .before .before .loop .inv .1, c .before .loop-test .taken, c .before .before .before .upto .ensures .1)
@@ -54,9 +45,6 @@ slice-aggregate-appears c = sym (length-take-le _ _ (omega (arith, c .before .be
 appears-requires : tie.Need-appears-requires Inv-loop μ-loop
 appears-requires c κs = tt
 
-add-t17 : tie.Need-add-t17 Inv-loop μ-loop
-add-t17 c = search needs
-
 returns : tie.Need-returns Inv-loop μ-loop
 unfolding checkedOf familyOf
 returns c =
@@ -66,15 +54,6 @@ returns c =
     ap checkedOf
     (sym (faults-stop sameFamily familyJudge familyOf (a .t1 .items) (a .t1 .count) (l .loop .i) (a .first) passed none (omega (arith, l .loop .inv .0, c .before .before .before .before .loop-test .taken, c .before .before .before .before .before .before .upto .ensures .0)) 4 (ap (λ (b : Bool). fault 5 (not b)) (sym found ∙ c .if1 .taken)))
     ∙ l .loop .inv .4 ∙ families-whole (map familyOf (take (a .t1 .count) (a .t1 .items))) (a .first) passed)
-
-array-write-earlier : tie.Need-array-write-earlier Inv-loop μ-loop
-array-write-earlier c = search needs
-
-add-i : tie.Need-add-i Inv-loop μ-loop
-add-i c = search needs
-
-loop-less : tie.Need-loop-less Inv-loop μ-loop
-loop-less c = search needs
 
 loop-again : tie.Need-loop-again Inv-loop μ-loop
 unfolding familyOf
@@ -105,17 +84,17 @@ family-faults-spec =
     (tie.spec
     Inv-loop
     μ-loop
-    upto-requires
+    (λ c κs. search needs)
     loop-holds
-    mul-m
-    element-copy-out-m
+    (λ c. search needs)
+    (λ c. search needs)
     array-share-prefix-earlier
     slice-aggregate-appears
     appears-requires
-    add-t17
+    (λ c. search needs)
     returns
-    array-write-earlier
-    add-i
-    loop-less
+    (λ c. search needs)
+    (λ c. search needs)
+    (λ c. search needs)
     loop-again
     returns-2)

@@ -1,4 +1,4 @@
--- `bindings::bind_facts`: the facts below i have their binding, and those of them that took their default are found. Assumes nothing.
+-- `bindings::bind_facts`: the facts below i have their binding, and those of them that took their default are found.
 use Prim.Native.Nat.{ℕ, _≤_, _<_, _-_}
 use mathlib.Core.Path.{_≡_, refl, sym, ap, ap₂, _∙_, subst}
 use mathlib.Core.Bool.{Bool}
@@ -28,72 +28,9 @@ Inv-loop set facts families scope sights said elected codes₀ defaults₀ n i�
 abbrev μ-loop : tie.MeasureT-loop
 μ-loop set facts families scope sights said elected codes₀ defaults₀ n i₀ codes defaults i = n - i
 
-scope-of-requires : tie.Need-scope-of-requires Inv-loop μ-loop
-scope-of-requires c κs = search needs
-
-sights-of-requires : tie.Need-sights-of-requires Inv-loop μ-loop
-sights-of-requires c κs = search needs
-
-said-unknown-requires : tie.Need-said-unknown-requires Inv-loop μ-loop
-said-unknown-requires c κs = search needs
-
-elect-requires : tie.Need-elect-requires Inv-loop μ-loop
-elect-requires c κs = search needs
-
-upto-requires : tie.Need-upto-requires Inv-loop μ-loop
-upto-requires c κs = search needs
-
 loop-holds : tie.Need-loop-holds Inv-loop μ-loop
 unfolding unionBelow
 loop-holds c = (refl, search needs, filled-none _ 64, refl)
-
-cast-k : tie.Need-cast-k Inv-loop μ-loop
-cast-k c = search needs
-
-mul-fact : tie.Need-mul-fact Inv-loop μ-loop
-mul-fact c = search needs
-
-element-copy-out-fact : tie.Need-element-copy-out-fact Inv-loop μ-loop
-element-copy-out-fact c = search needs
-
-mul-seen : tie.Need-mul-seen Inv-loop μ-loop
-mul-seen c = search needs
-
-element-copy-out-seen : tie.Need-element-copy-out-seen Inv-loop μ-loop
-element-copy-out-seen c = search needs
-
-mul-election : tie.Need-mul-election Inv-loop μ-loop
-mul-election c = search needs
-
-element-copy-out-election : tie.Need-element-copy-out-election Inv-loop μ-loop
-element-copy-out-election c = search needs
-
-contains-requires : tie.Need-contains-requires Inv-loop μ-loop
-contains-requires c κs = search needs
-
-contains-requires-2 : tie.Need-contains-requires-2 Inv-loop μ-loop
-contains-requires-2 c κs = search needs
-
-binding-requires : tie.Need-binding-requires Inv-loop μ-loop
-binding-requires c κs = search needs
-
-array-write-codes : tie.Need-array-write-codes Inv-loop μ-loop
-array-write-codes c = search needs
-
-takes-default-requires : tie.Need-takes-default-requires Inv-loop μ-loop
-takes-default-requires c κs = search needs
-
-bit-requires : tie.Need-bit-requires Inv-loop μ-loop
-bit-requires c κs = search needs
-
-union-requires : tie.Need-union-requires Inv-loop μ-loop
-union-requires c κs = search needs
-
-add-i : tie.Need-add-i Inv-loop μ-loop
-add-i c = search needs
-
-loop-less : tie.Need-loop-less Inv-loop μ-loop
-loop-less c = search needs
 
 loop-again : tie.Need-loop-again Inv-loop μ-loop
 loop-again c =
@@ -147,27 +84,27 @@ bind-facts-spec =
     (tie.spec
     Inv-loop
     μ-loop
-    scope-of-requires
-    sights-of-requires
-    said-unknown-requires
-    elect-requires
-    upto-requires
+    (λ c κs. search needs)
+    (λ c κs. search needs)
+    (λ c κs. search needs)
+    (λ c κs. search needs)
+    (λ c κs. search needs)
     loop-holds
-    cast-k
-    mul-fact
-    element-copy-out-fact
-    mul-seen
-    element-copy-out-seen
-    mul-election
-    element-copy-out-election
-    contains-requires
-    contains-requires-2
-    binding-requires
-    array-write-codes
-    takes-default-requires
-    bit-requires
-    union-requires
-    add-i
-    loop-less
+    (λ c. search needs)
+    (λ c. search needs)
+    (λ c. search needs)
+    (λ c. search needs)
+    (λ c. search needs)
+    (λ c. search needs)
+    (λ c. search needs)
+    (λ c κs. search needs)
+    (λ c κs. search needs)
+    (λ c κs. search needs)
+    (λ c. search needs)
+    (λ c κs. search needs)
+    (λ c κs. search needs)
+    (λ c κs. search needs)
+    (λ c. search needs)
+    (λ c. search needs)
     loop-again
     returns)

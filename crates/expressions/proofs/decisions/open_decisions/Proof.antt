@@ -10,9 +10,6 @@ use Rattle.expressions.proofs.OpenLaws.{all-few}
 use Rattle.expressions.proofs.decisions.open_decisions.Statement.{statement}
 use Rattle.expressions.proofs.decisions.open_decisions.Tie as tie
 
-edge-count-requires : tie.Need-edge-count-requires
-edge-count-requires c κs = search needs
-
 open-over-requires : tie.Need-open-over-requires
 unfolding cutsOf edgesOf planOf
 open-over-requires c κs =
@@ -27,4 +24,4 @@ returns c =
     c .open-over .ensures ∙ ap (λ (n : ℕ). openBelow (P .cuts) n (length (P .cuts))) (c .before .edge-count .ensures .0)
 
 pub open-decisions-spec : {M : Type 1} → statement M
-open-decisions-spec = tie.close (tie.spec edge-count-requires open-over-requires returns)
+open-decisions-spec = tie.close (tie.spec (λ c κs. search needs) open-over-requires returns)

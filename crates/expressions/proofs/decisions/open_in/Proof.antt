@@ -27,12 +27,6 @@ loop-holds : tie.Need-loop-holds Inv-loop μ-loop
 unfolding openIn
 loop-holds c = (search needs, simp length-map at (c .good .0 .1 .1 .1 .0 .1 .0 .1), simp length-map at (c .good .0 .1 .1 .1 .1 .0 .1 .0 .1), sym (append-nil (opensOf (c .args .found))))
 
-cast-k : tie.Need-cast-k Inv-loop μ-loop
-cast-k c = search needs
-
-says-requires : tie.Need-says-requires Inv-loop μ-loop
-says-requires c κs = search needs
-
 left : (c : tie.Then1 Inv-loop μ-loop) → c .before .before .before .loop .out .count < 16
 left c =
     let l = c .before .before .before in
@@ -47,12 +41,6 @@ element-write-out-2 c = left c
 
 add-out : tie.Need-add-out Inv-loop μ-loop
 add-out c = omega (arith, left c)
-
-add-e : tie.Need-add-e Inv-loop μ-loop
-add-e c = search needs
-
-loop-less : tie.Need-loop-less Inv-loop μ-loop
-loop-less c = search needs
 
 loop-again : tie.Need-loop-again Inv-loop μ-loop
 unfolding opensOf
@@ -90,12 +78,12 @@ open-in-spec =
     Inv-loop
     μ-loop
     loop-holds
-    cast-k
-    says-requires
+    (λ c. search needs)
+    (λ c κs. search needs)
     element-write-out
     element-write-out-2
     add-out
-    add-e
-    loop-less
+    (λ c. search needs)
+    (λ c. search needs)
     loop-again
     returns)

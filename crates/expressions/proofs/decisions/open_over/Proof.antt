@@ -53,21 +53,9 @@ next c =
     all-next (cutsOf (s .args .t1)) (s .args .edges) (l .loop .i) (decisionsOf (getD (s .args .t1 .items) (l .loop .i) none .decisions)) (λ d.
     ap (λ (x : Cut). x .decisions) (made-at cutOf (s .args .t1 .items) (s .args .t1 .count) 16 (a .upto .result) (long s) (a .upto .ensures .0) (l .loop .i) none d k))
 
-upto-requires : tie.Need-upto-requires Inv-loop μ-loop
-upto-requires c κs = search needs
-
 loop-holds : tie.Need-loop-holds Inv-loop μ-loop
 unfolding opensOf openBelow below numbers
 loop-holds c = (search needs, refl)
-
-mul-cut : tie.Need-mul-cut Inv-loop μ-loop
-mul-cut c = search needs
-
-element-copy-out-cut : tie.Need-element-copy-out-cut Inv-loop μ-loop
-element-copy-out-cut c = search needs
-
-cast-c : tie.Need-cast-c Inv-loop μ-loop
-cast-c c = search needs
 
 open-in-requires : tie.Need-open-in-requires Inv-loop μ-loop
 unfolding cutsOf
@@ -78,12 +66,6 @@ open-in-requires c κs =
     let cs = cutsOf (s .args .t1) in
     let len = made-length cutOf (s .args .t1 .items) (s .args .t1 .count) 16 (a .upto .result) (long s) (a .upto .ensures .0) in
     (s .pre .0, room-all cs (s .args .edges) (l .loop .i) (length cs) (l .loop .out) _ (l .loop .inv .1) (next c) (omega (arith, len, c .before .before .loop-test .taken)) (s .pre .1))
-
-add-i : tie.Need-add-i Inv-loop μ-loop
-add-i c = search needs
-
-loop-less : tie.Need-loop-less Inv-loop μ-loop
-loop-less c = search needs
 
 loop-again : tie.Need-loop-again Inv-loop μ-loop
 loop-again c =
@@ -108,13 +90,13 @@ open-over-spec =
     (tie.spec
     Inv-loop
     μ-loop
-    upto-requires
+    (λ c κs. search needs)
     loop-holds
-    mul-cut
-    element-copy-out-cut
-    cast-c
+    (λ c. search needs)
+    (λ c. search needs)
+    (λ c. search needs)
     open-in-requires
-    add-i
-    loop-less
+    (λ c. search needs)
+    (λ c. search needs)
     loop-again
     returns)

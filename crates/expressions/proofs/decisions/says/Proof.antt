@@ -1,4 +1,4 @@
--- `decisions::says`: none of the decisions passed is the one asked for; past the array there is no verdict. Assumes nothing.
+-- `decisions::says`: none of the decisions passed is the one asked for; past the array there is no verdict.
 use Prim.Native.Nat.{ℕ, _≤_, _<_, _-_, min}
 use mathlib.Core.Path.{_≡_, sym, ap, _∙_}
 use mathlib.Core.Bool.{Bool, false, _&&_}
@@ -31,20 +31,8 @@ long c = sym (length-map (c .args .t1 .verdicts) (λ v. v)) ∙ c .good .0 .1 .1
 some : (c : tie.After-upto Inv-loop μ-loop) → c .upto .result ≡ min (c .before .before .args .t1 .count) 64
 some c = c .upto .ensures .0 ∙ ap (λ (x : ℕ). min x 64) (c .before .wide .ensures .0)
 
-wide-requires : tie.Need-wide-requires Inv-loop μ-loop
-wide-requires c κs = search needs
-
-upto-requires : tie.Need-upto-requires Inv-loop μ-loop
-upto-requires c κs = search needs
-
 loop-holds : tie.Need-loop-holds Inv-loop μ-loop
 loop-holds c = (search needs, below-none _)
-
-element-copy-out-e : tie.Need-element-copy-out-e Inv-loop μ-loop
-element-copy-out-e c = search needs
-
-element-copy-out-v : tie.Need-element-copy-out-v Inv-loop μ-loop
-element-copy-out-v c = search needs
 
 returns : tie.Need-returns Inv-loop μ-loop
 unfolding decisionsOf
@@ -54,12 +42,6 @@ returns c =
     let d = s .args .t1 in
     let h : l .loop .i < d .count = omega (arith, some (c .before .before .before .before .before .before), c .before .before .before .before .loop-test .taken) in
     sym (any-hit (λ (x : Decision). eqb (x .edge) (s .args .edge) && eqb (x .verdict) (s .args .verdict)) (λ (i : ℕ). record { edge = getD (d .edges) i 0; verdict = getD (d .verdicts) i 0 }) (d .count) (l .loop .i) h (this-one _ _ _ _ (c .before .if1 .taken) (c .if2 .taken)))
-
-add-i : tie.Need-add-i Inv-loop μ-loop
-add-i c = search needs
-
-loop-less : tie.Need-loop-less Inv-loop μ-loop
-loop-less c = search needs
 
 loop-again : tie.Need-loop-again Inv-loop μ-loop
 loop-again c =
@@ -88,13 +70,13 @@ says-spec =
     (tie.spec
     Inv-loop
     μ-loop
-    wide-requires
-    upto-requires
+    (λ c κs. search needs)
+    (λ c κs. search needs)
     loop-holds
-    element-copy-out-e
-    element-copy-out-v
+    (λ c. search needs)
+    (λ c. search needs)
     returns
-    add-i
-    loop-less
+    (λ c. search needs)
+    (λ c. search needs)
     loop-again
     returns-2)

@@ -48,36 +48,15 @@ long c = sym (length-map (c .args .t1 .items) (cut-type .to)) ∙ c .good .0 .1 
 deep : (c : tie.Start Inv-loop μ-loop) → length (c .args .t2 .items) ≡ 64
 deep c = sym (length-map (c .args .t2 .items) (edge-type .to)) ∙ c .good .1 .0 .1 .1 .1 .0 .1 .0 .1
 
-upto-requires : tie.Need-upto-requires Inv-loop μ-loop
-upto-requires c κs = search needs
-
 loop-holds : tie.Need-loop-holds Inv-loop μ-loop
 unfolding below numbers
 loop-holds c = (refl, search needs, λ P x y. holds-none 16 0)
-
-element-copy-out-wide : tie.Need-element-copy-out-wide Inv-loop μ-loop
-element-copy-out-wide c = search needs
-
-wide-requires : tie.Need-wide-requires Inv-loop μ-loop
-wide-requires c κs = search needs
-
-mul-cut : tie.Need-mul-cut Inv-loop μ-loop
-mul-cut c = search needs
 
 element-copy-out-cut : tie.Need-element-copy-out-cut Inv-loop μ-loop
 element-copy-out-cut c =
     let s = c .before .before .before .before .before in
     let h : c .before .before .before .loop .i < s .args .t3 .count = omega (arith, c .before .before .before .before .upto .ensures .0, c .before .before .loop-test .taken) in
     omega (arith, c .wide .ensures .0, cut-in (s .args .t1) (s .args .t2) (s .args .t3) (c .before .before .before .loop .i) h (s .pre .1) (long s))
-
-element-copy-out-wide-2 : tie.Need-element-copy-out-wide-2 Inv-loop μ-loop
-element-copy-out-wide-2 c = search needs
-
-wide-requires-2 : tie.Need-wide-requires-2 Inv-loop μ-loop
-wide-requires-2 c κs = search needs
-
-mul-edge : tie.Need-mul-edge Inv-loop μ-loop
-mul-edge c = search needs
 
 element-copy-out-edge : tie.Need-element-copy-out-edge Inv-loop μ-loop
 element-copy-out-edge c =
@@ -92,21 +71,6 @@ ends-requires c κs =
     let h : c .before .before .before .before .before .before .before .loop .i < s .args .t3 .count = omega (arith, c .before .before .before .before .before .before .before .before .upto .ensures .0, c .before .before .before .before .before .before .loop-test .taken) in
     let k = edge-in (s .args .t1) (s .args .t2) (s .args .t3) (c .before .before .before .before .before .before .before .loop .i) h (s .pre .1) (deep s) in
     made-each edgeOf (s .args .t2 .items) (s .args .t2 .count) 64 (min (s .args .t2 .count) 64) (deep s) refl EndsFit (c .before .wide2 .result) _ (omega (arith, c .before .wide2 .ensures .0, k)) (s .pre .2)
-
-union-requires : tie.Need-union-requires Inv-loop μ-loop
-union-requires c κs = search needs
-
-mul-out : tie.Need-mul-out Inv-loop μ-loop
-mul-out c = search needs
-
-array-write-out : tie.Need-array-write-out Inv-loop μ-loop
-array-write-out c = search needs
-
-add-i : tie.Need-add-i Inv-loop μ-loop
-add-i c = search needs
-
-loop-less : tie.Need-loop-less Inv-loop μ-loop
-loop-less c = search needs
 
 loop-again : tie.Need-loop-again Inv-loop μ-loop
 loop-again c =
@@ -138,21 +102,21 @@ touches-over-spec =
     (tie.spec
     Inv-loop
     μ-loop
-    upto-requires
+    (λ c κs. search needs)
     loop-holds
-    element-copy-out-wide
-    wide-requires
-    mul-cut
+    (λ c. search needs)
+    (λ c κs. search needs)
+    (λ c. search needs)
     element-copy-out-cut
-    element-copy-out-wide-2
-    wide-requires-2
-    mul-edge
+    (λ c. search needs)
+    (λ c κs. search needs)
+    (λ c. search needs)
     element-copy-out-edge
     ends-requires
-    union-requires
-    mul-out
-    array-write-out
-    add-i
-    loop-less
+    (λ c κs. search needs)
+    (λ c. search needs)
+    (λ c. search needs)
+    (λ c. search needs)
+    (λ c. search needs)
     loop-again
     returns)

@@ -11,12 +11,6 @@ use Rattle.expressions.proofs.ElectionLaws.{elections-of, first-of-both
 use Rattle.expressions.proofs.elections.elect.Statement.{statement}
 use Rattle.expressions.proofs.elections.elect.Tie as tie
 
-elect-by-attachments-requires : tie.Need-elect-by-attachments-requires
-elect-by-attachments-requires c κs = search needs
-
-elect-by-cuts-requires : tie.Need-elect-by-cuts-requires
-elect-by-cuts-requires c κs = search needs
-
 returns : tie.Need-returns
 unfolding electionOf
 returns c = λ P k l. record {
@@ -30,4 +24,4 @@ returns c = λ P k l. record {
 }
 
 pub elect-spec : {M : Type 1} → statement M
-elect-spec = tie.close (tie.spec elect-by-attachments-requires elect-by-cuts-requires returns)
+elect-spec = tie.close (tie.spec (λ c κs. search needs) (λ c κs. search needs) returns)

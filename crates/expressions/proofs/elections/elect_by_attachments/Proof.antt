@@ -17,42 +17,15 @@ Inv-loop attachments out₀ i₀ out i = Electing (λ x. x .election) (attachmen
 abbrev μ-loop : tie.MeasureT-loop
 μ-loop attachments out₀ i₀ out i = i
 
-upto-requires : tie.Need-upto-requires Inv-loop μ-loop
-upto-requires c κs = search needs
-
 loop-holds : tie.Need-loop-holds Inv-loop μ-loop
 loop-holds c =
     let s = c .before in
     electing-none _ _ _ 32 _ _ (simp length-map at (s .good .1 .0 .1 .1 .1 .0 .1 .0 .1)) (simp length-map at (s .good .0 .1 .1 .0 .1 .0 .1)) (c .upto .ensures .0)
 
-sub-i : tie.Need-sub-i Inv-loop μ-loop
-sub-i c = search needs
-
-mul-a : tie.Need-mul-a Inv-loop μ-loop
-mul-a c = search needs
-
-element-copy-out-a : tie.Need-element-copy-out-a Inv-loop μ-loop
-element-copy-out-a c = search needs
-
-wide-requires : tie.Need-wide-requires Inv-loop μ-loop
-wide-requires c κs = search needs
-
-mul-e : tie.Need-mul-e Inv-loop μ-loop
-mul-e c = search needs
-
-element-set-from-e : tie.Need-element-set-from-e Inv-loop μ-loop
-element-set-from-e c = search needs
-
-loop-less : tie.Need-loop-less Inv-loop μ-loop
-loop-less c = search needs
-
 loop-again : tie.Need-loop-again Inv-loop μ-loop
 loop-again c =
     let w = c .before .before .wide in
     electing-stored _ _ _ (c .before .before .before .before .before .before .loop .inv) (c .before .before .before .before .before .loop-test .taken) _ (w .result) (w .ensures .0) (ltb-true (w .result) 64 (c .if2 .taken)) (c .before .if1 .taken)
-
-loop-less-2 : tie.Need-loop-less-2 Inv-loop μ-loop
-loop-less-2 c = search needs
 
 loop-again-2 : tie.Need-loop-again-2 Inv-loop μ-loop
 loop-again-2 c =
@@ -73,16 +46,16 @@ elect-by-attachments-spec =
     (tie.spec
     Inv-loop
     μ-loop
-    upto-requires
+    (λ c κs. search needs)
     loop-holds
-    sub-i
-    mul-a
-    element-copy-out-a
-    wide-requires
-    mul-e
-    element-set-from-e
-    loop-less
+    (λ c. search needs)
+    (λ c. search needs)
+    (λ c. search needs)
+    (λ c κs. search needs)
+    (λ c. search needs)
+    (λ c. search needs)
+    (λ c. search needs)
     loop-again
-    loop-less-2
+    (λ c. search needs)
     loop-again-2
     returns)

@@ -13,24 +13,6 @@ use Rattle.expressions.proofs.evidence.note.Tie as tie
 whole-requires : tie.Need-whole-requires
 whole-requires c κs = tt
 
-wide-requires : tie.Need-wide-requires
-wide-requires c κs = search needs
-
-mul-union : tie.Need-mul-union
-mul-union c = search needs
-
-element-copy-out-union : tie.Need-element-copy-out-union
-element-copy-out-union c = search needs
-
-union-requires : tie.Need-union-requires
-union-requires c κs = search needs
-
-mul-table : tie.Need-mul-table
-mul-table c = search needs
-
-element-write-table : tie.Need-element-write-table
-element-write-table c = search needs
-
 returns : tie.Need-returns
 returns c = λ f.
     let a = c .before .before .before .before .before .args in
@@ -39,4 +21,4 @@ returns c = λ f.
     ∙ ap (λ (k : ℕ). union (getD (a .table .now) f 0) (only (eqb k f) (a .more))) (w .ensures .0)
 
 pub note-spec : {M : Type 1} → statement M
-note-spec = tie.close (tie.spec whole-requires wide-requires mul-union element-copy-out-union union-requires mul-table element-write-table returns)
+note-spec = tie.close (tie.spec whole-requires (λ c κs. search needs) (λ c. search needs) (λ c. search needs) (λ c κs. search needs) (λ c. search needs) (λ c. search needs) returns)

@@ -17,27 +17,9 @@ abbrev μ-loop : tie.MeasureT-loop
 loop-holds : tie.Need-loop-holds Inv-loop μ-loop
 loop-holds c = noting-none (simp length-map at (c .before .good .1 .0 .1 .1 .1 .0 .1 .0 .1)) (c .upto .ensures .0)
 
-upto-requires : tie.Need-upto-requires Inv-loop μ-loop
-upto-requires c κs = search needs
-
-mul-b : tie.Need-mul-b Inv-loop μ-loop
-mul-b c = search needs
-
-element-copy-out-b : tie.Need-element-copy-out-b Inv-loop μ-loop
-element-copy-out-b c = search needs
-
 evidence-in-requires : tie.Need-evidence-in-requires Inv-loop μ-loop
 unfolding booleanOf
 evidence-in-requires c κs = noting-each (c .before .before .loop .inv) EvidentBoolean _ (c .before .loop-test .taken) (c .before .before .before .before .pre)
-
-note-requires : tie.Need-note-requires Inv-loop μ-loop
-note-requires c κs = search needs
-
-add-i : tie.Need-add-i Inv-loop μ-loop
-add-i c = search needs
-
-loop-less : tie.Need-loop-less Inv-loop μ-loop
-loop-less c = search needs
 
 loop-again : tie.Need-loop-again Inv-loop μ-loop
 unfolding booleanOf
@@ -52,13 +34,13 @@ note-booleans-spec =
     (tie.spec
     Inv-loop
     μ-loop
-    upto-requires
+    (λ c κs. search needs)
     loop-holds
-    mul-b
-    element-copy-out-b
+    (λ c. search needs)
+    (λ c. search needs)
     evidence-in-requires
-    note-requires
-    add-i
-    loop-less
+    (λ c κs. search needs)
+    (λ c. search needs)
+    (λ c. search needs)
     loop-again
     returns)

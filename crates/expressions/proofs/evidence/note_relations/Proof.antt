@@ -19,27 +19,9 @@ abbrev μ-loop : tie.MeasureT-loop
 loop-holds : tie.Need-loop-holds Inv-loop μ-loop
 loop-holds c = noting-none (simp length-map at (c .before .good .1 .0 .1 .1 .1 .0 .1 .0 .1)) (c .upto .ensures .0)
 
-upto-requires : tie.Need-upto-requires Inv-loop μ-loop
-upto-requires c κs = search needs
-
-mul-r : tie.Need-mul-r Inv-loop μ-loop
-mul-r c = search needs
-
-element-copy-out-r : tie.Need-element-copy-out-r Inv-loop μ-loop
-element-copy-out-r c = search needs
-
 mark-requires : tie.Need-mark-requires Inv-loop μ-loop
 unfolding relationOf
 mark-requires c κs = noting-each (c .before .before .loop .inv) EvidentRelation _ (c .before .loop-test .taken) (c .before .before .before .before .pre)
-
-note-requires : tie.Need-note-requires Inv-loop μ-loop
-note-requires c κs = search needs
-
-add-i : tie.Need-add-i Inv-loop μ-loop
-add-i c = search needs
-
-loop-less : tie.Need-loop-less Inv-loop μ-loop
-loop-less c = search needs
 
 loop-again : tie.Need-loop-again Inv-loop μ-loop
 unfolding relationOf
@@ -54,13 +36,13 @@ note-relations-spec =
     (tie.spec
     Inv-loop
     μ-loop
-    upto-requires
+    (λ c κs. search needs)
     loop-holds
-    mul-r
-    element-copy-out-r
+    (λ c. search needs)
+    (λ c. search needs)
     mark-requires
-    note-requires
-    add-i
-    loop-less
+    (λ c κs. search needs)
+    (λ c. search needs)
+    (λ c. search needs)
     loop-again
     returns)

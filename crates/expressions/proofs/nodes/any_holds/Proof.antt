@@ -1,4 +1,4 @@
--- `nodes::any_holds`: what is left of the children decides as all of them do. Assumes nothing.
+-- `nodes::any_holds`: what is left of the children decides as all of them do.
 use Prim.Native.Nat.{ℕ, _+_, _≤_, _-_}
 use mathlib.Core.Path.{_≡_, refl, sym, ap, _∙_}
 use mathlib.Core.List.{_∷_}
@@ -32,35 +32,14 @@ next c =
     used-next (a .before .before .args .t1 .items) (a .before .before .args .t1 .count) 16 (a .upto .result) (long (a .before .before)) (some a)
     (c .before .before .before .loop .i) 0 (c .wide2 .result) (search needs) (c .wide2 .ensures .0)
 
-wide-requires : tie.Need-wide-requires Inv-loop μ-loop
-wide-requires c κs = search needs
-
-upto-requires : tie.Need-upto-requires Inv-loop μ-loop
-upto-requires c κs = search needs
-
 loop-holds : tie.Need-loop-holds Inv-loop μ-loop
 loop-holds c = (search needs, refl)
-
-element-copy-out-wide : tie.Need-element-copy-out-wide Inv-loop μ-loop
-element-copy-out-wide c = search needs
-
-wide-requires-2 : tie.Need-wide-requires-2 Inv-loop μ-loop
-wide-requires-2 c κs = search needs
-
-element-copy-out-if1 : tie.Need-element-copy-out-if1 Inv-loop μ-loop
-element-copy-out-if1 c = search needs
 
 returns : tie.Need-returns Inv-loop μ-loop
 returns c =
     let w = c .before .before in
     let f = on (w .before .before .before .before .before .before .args .lower .now) in
     sym (any-stop f (w .wide2 .result) _ (c .if1 .taken)) ∙ ap (anyOf f) (sym (next w)) ∙ w .before .before .before .loop .inv .1
-
-add-i : tie.Need-add-i Inv-loop μ-loop
-add-i c = search needs
-
-loop-less : tie.Need-loop-less Inv-loop μ-loop
-loop-less c = search needs
 
 loop-again : tie.Need-loop-again Inv-loop μ-loop
 loop-again c =
@@ -82,14 +61,14 @@ any-holds-spec =
     (tie.spec
     Inv-loop
     μ-loop
-    wide-requires
-    upto-requires
+    (λ c κs. search needs)
+    (λ c κs. search needs)
     loop-holds
-    element-copy-out-wide
-    wide-requires-2
-    element-copy-out-if1
+    (λ c. search needs)
+    (λ c κs. search needs)
+    (λ c. search needs)
     returns
-    add-i
-    loop-less
+    (λ c. search needs)
+    (λ c. search needs)
     loop-again
     returns-2)

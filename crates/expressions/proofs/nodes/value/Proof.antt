@@ -1,4 +1,4 @@
--- `nodes::value`: by the node's sort. Assumes nothing.
+-- `nodes::value`: by the node's sort.
 use Prim.Native.Nat.{ℕ}
 use mathlib.Core.Path.{sym, ap, _∙_}
 use mathlib.Core.Bool.{not}
@@ -8,21 +8,6 @@ use Rattle.expressions.specs.paper.Nodes.{on, value}
 use Rattle.expressions.proofs.NodeLaws.{by-sort, negated}
 use Rattle.expressions.proofs.nodes.value.Statement.{statement}
 use Rattle.expressions.proofs.nodes.value.Tie as tie
-
-contains-requires : tie.Need-contains-requires
-contains-requires c κs = search needs
-
-all-hold-requires : tie.Need-all-hold-requires
-all-hold-requires c κs = search needs
-
-any-holds-requires : tie.Need-any-holds-requires
-any-holds-requires c κs = search needs
-
-wide-requires : tie.Need-wide-requires
-wide-requires c κs = search needs
-
-element-copy-out-result : tie.Need-element-copy-out-result
-element-copy-out-result c = search needs
 
 returns : tie.Need-returns
 unfolding value nodeOf nodeBy
@@ -60,11 +45,11 @@ pub value-spec : {M : Type 1} → statement M
 value-spec =
     tie.close
     (tie.spec
-    contains-requires
-    all-hold-requires
-    any-holds-requires
-    wide-requires
-    element-copy-out-result
+    (λ c κs. search needs)
+    (λ c κs. search needs)
+    (λ c κs. search needs)
+    (λ c κs. search needs)
+    (λ c. search needs)
     returns
     returns-2
     returns-3

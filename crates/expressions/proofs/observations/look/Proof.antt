@@ -1,4 +1,4 @@
--- `expressions::observations::look` meets its contract: a case for each test. Assumes nothing.
+-- `expressions::observations::look` meets its contract: a case for each test.
 use borrow.Author.Tests.{eq-eqb, ne-eqb}
 use Rattle.expressions.specs.code.Sight.{lookAt}
 use Rattle.expressions.proofs.observations.look.Statement.{statement}

@@ -20,39 +20,6 @@ abbrev μ-loop : tie.MeasureT-loop
 loop-holds : tie.Need-loop-holds Inv-loop μ-loop
 loop-holds c = looking-none (simp length-map at (c .before .good .1 .0 .1 .1 .1 .0 .1 .0 .1)) (simp length-map at (c .before .good .0 .1 .1 .0 .1 .0 .1)) (c .upto .ensures .0)
 
-upto-requires : tie.Need-upto-requires Inv-loop μ-loop
-upto-requires c κs = search needs
-
-mul-r : tie.Need-mul-r Inv-loop μ-loop
-mul-r c = search needs
-
-element-copy-out-r : tie.Need-element-copy-out-r Inv-loop μ-loop
-element-copy-out-r c = search needs
-
-wide-requires : tie.Need-wide-requires Inv-loop μ-loop
-wide-requires c κs = search needs
-
-mul-seen : tie.Need-mul-seen Inv-loop μ-loop
-mul-seen c = search needs
-
-element-copy-out-seen : tie.Need-element-copy-out-seen Inv-loop μ-loop
-element-copy-out-seen c = search needs
-
-look-requires : tie.Need-look-requires Inv-loop μ-loop
-look-requires c κs = search needs
-
-mul-more : tie.Need-mul-more Inv-loop μ-loop
-mul-more c = search needs
-
-element-set-from-more : tie.Need-element-set-from-more Inv-loop μ-loop
-element-set-from-more c = search needs
-
-add-i : tie.Need-add-i Inv-loop μ-loop
-add-i c = search needs
-
-loop-less : tie.Need-loop-less Inv-loop μ-loop
-loop-less c = search needs
-
 loop-again : tie.Need-loop-again Inv-loop μ-loop
 unfolding relationOf lookAll
 loop-again c =
@@ -71,17 +38,17 @@ look-in-relations-spec =
     (tie.spec
     Inv-loop
     μ-loop
-    upto-requires
+    (λ c κs. search needs)
     loop-holds
-    mul-r
-    element-copy-out-r
-    wide-requires
-    mul-seen
-    element-copy-out-seen
-    look-requires
-    mul-more
-    element-set-from-more
-    add-i
-    loop-less
+    (λ c. search needs)
+    (λ c. search needs)
+    (λ c κs. search needs)
+    (λ c. search needs)
+    (λ c. search needs)
+    (λ c κs. search needs)
+    (λ c. search needs)
+    (λ c. search needs)
+    (λ c. search needs)
+    (λ c. search needs)
     loop-again
     returns)

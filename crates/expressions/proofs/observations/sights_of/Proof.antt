@@ -1,4 +1,4 @@
--- `observations::sights_of`: booleans, then relations, from nothing. Assumes nothing.
+-- `observations::sights_of`: booleans, then relations, from nothing.
 use mathlib.Core.Path.{sym, ap, _∙_}
 use mathlib.Core.List.{map}
 use lib.ListN.{take}
@@ -11,12 +11,6 @@ use Rattle.expressions.proofs.ListLaws.{filled-at}
 use Rattle.expressions.proofs.SeenLaws.{look-append}
 use Rattle.expressions.proofs.observations.sights_of.Statement.{statement}
 use Rattle.expressions.proofs.observations.sights_of.Tie as tie
-
-look-in-booleans-requires : tie.Need-look-in-booleans-requires
-look-in-booleans-requires c κs = search needs
-
-look-in-relations-requires : tie.Need-look-in-relations-requires
-look-in-relations-requires c κs = search needs
 
 returns : tie.Need-returns
 returns c = λ f h.
@@ -31,6 +25,6 @@ pub sights-of-spec : {M : Type 1} → statement M
 sights-of-spec =
     tie.close
     (tie.spec
-    look-in-booleans-requires
-    look-in-relations-requires
+    (λ c κs. search needs)
+    (λ c κs. search needs)
     returns)

@@ -1,4 +1,4 @@
--- `observations::with_fact`: a case for each test. Assumes nothing.
+-- `observations::with_fact`: a case for each test.
 use mathlib.Core.Path.{sym, ap, _∙_}
 use mathlib.Core.Bool.{Bool, _&&_, _||_, and-false, or-false, and-true}
 use native.Mathlib.Omega.{arith}
@@ -20,12 +20,6 @@ returns-2 c = λ f h.
     let a = c .before .before .args in
     sym (ap (λ (b : Bool). has (a .m) f || (b && a .said)) (ne-eqb (a .fact) f (λ q. omega (arith, c .if2 .taken, h, q))) ∙ or-false (has (a .m) f))
 
-bit-requires : tie.Need-bit-requires
-bit-requires c κs = search needs
-
-union-requires : tie.Need-union-requires
-union-requires c κs = search needs
-
 returns-3 : tie.Need-returns-3
 returns-3 c = λ f h.
     let a = c .before .before .before .before .args in
@@ -38,6 +32,6 @@ with-fact-spec =
     (tie.spec
     returns
     returns-2
-    bit-requires
-    union-requires
+    (λ c κs. search needs)
+    (λ c κs. search needs)
     returns-3)

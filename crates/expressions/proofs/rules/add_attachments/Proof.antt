@@ -21,24 +21,6 @@ abbrev μ-loop : tie.MeasureT-loop
 loop-holds : tie.Need-loop-holds Inv-loop μ-loop
 loop-holds c = adding-none (simp length-map at (c .before .good .1 .1 .1 .0 .1 .1 .1 .0 .1 .0 .1)) (c .upto .ensures .0)
 
-upto-requires : tie.Need-upto-requires Inv-loop μ-loop
-upto-requires c κs = search needs
-
-mul-x : tie.Need-mul-x Inv-loop μ-loop
-mul-x c = search needs
-
-element-copy-out-x : tie.Need-element-copy-out-x Inv-loop μ-loop
-element-copy-out-x c = search needs
-
-wide-requires : tie.Need-wide-requires Inv-loop μ-loop
-wide-requires c κs = search needs
-
-mul-used : tie.Need-mul-used Inv-loop μ-loop
-mul-used c = search needs
-
-element-copy-out-used : tie.Need-element-copy-out-used Inv-loop μ-loop
-element-copy-out-used c = search needs
-
 with-anchor-requires : tie.Need-with-anchor-requires Inv-loop μ-loop
 unfolding attachmentsOf attachmentOf
 with-anchor-requires c κs = adding-each (c .before .before .before .before .loop .inv) AnchorFits _ (c .before .before .before .loop-test .taken) (c .before .before .before .before .before .before .pre .1)
@@ -48,12 +30,6 @@ add-push c = omega (arith, c .before .before .before .before .before .before .be
 
 push-requires : tie.Need-push-requires Inv-loop μ-loop
 push-requires c κs = omega (arith, c .before .before .before .before .before .before .before .before .upto .ensures .1, c .before .before .before .before .before .before .before .before .before .pre .0)
-
-add-i : tie.Need-add-i Inv-loop μ-loop
-add-i c = search needs
-
-loop-less : tie.Need-loop-less Inv-loop μ-loop
-loop-less c = search needs
 
 loop-again : tie.Need-loop-again Inv-loop μ-loop
 unfolding attachmentOf
@@ -72,18 +48,18 @@ add-attachments-spec =
     (tie.spec
     Inv-loop
     μ-loop
-    upto-requires
+    (λ c κs. search needs)
     loop-holds
-    mul-x
-    element-copy-out-x
-    wide-requires
-    mul-used
-    element-copy-out-used
+    (λ c. search needs)
+    (λ c. search needs)
+    (λ c κs. search needs)
+    (λ c. search needs)
+    (λ c. search needs)
     with-anchor-requires
     add-push
     push-requires
-    add-i
-    loop-less
+    (λ c. search needs)
+    (λ c. search needs)
     loop-again
     add-result
     returns)

@@ -20,18 +20,6 @@ abbrev μ-loop : tie.MeasureT-loop
 loop-holds : tie.Need-loop-holds Inv-loop μ-loop
 loop-holds c = adding-none (simp length-map at (c .before .good .1 .1 .1 .0 .1 .1 .1 .0 .1 .0 .1)) (c .upto .ensures .0)
 
-upto-requires : tie.Need-upto-requires Inv-loop μ-loop
-upto-requires c κs = search needs
-
-mul-e : tie.Need-mul-e Inv-loop μ-loop
-mul-e c = search needs
-
-element-copy-out-e : tie.Need-element-copy-out-e Inv-loop μ-loop
-element-copy-out-e c = search needs
-
-edge-use-requires : tie.Need-edge-use-requires Inv-loop μ-loop
-edge-use-requires c κs = search needs
-
 ends-requires : tie.Need-ends-requires Inv-loop μ-loop
 unfolding edgesOf edgeOf
 ends-requires c κs = adding-each (c .before .before .before .loop .inv) EndsFit _ (c .before .before .loop-test .taken) (c .before .before .before .before .before .pre .1)
@@ -41,12 +29,6 @@ add-push c = omega (arith, c .before .before .before .before .before .before .be
 
 push-requires : tie.Need-push-requires Inv-loop μ-loop
 push-requires c κs = omega (arith, c .before .before .before .before .before .before .before .upto .ensures .1, c .before .before .before .before .before .before .before .before .pre .0)
-
-add-i : tie.Need-add-i Inv-loop μ-loop
-add-i c = search needs
-
-loop-less : tie.Need-loop-less Inv-loop μ-loop
-loop-less c = search needs
 
 loop-again : tie.Need-loop-again Inv-loop μ-loop
 unfolding edgeOf
@@ -65,16 +47,16 @@ add-edges-spec =
     (tie.spec
     Inv-loop
     μ-loop
-    upto-requires
+    (λ c κs. search needs)
     loop-holds
-    mul-e
-    element-copy-out-e
-    edge-use-requires
+    (λ c. search needs)
+    (λ c. search needs)
+    (λ c κs. search needs)
     ends-requires
     add-push
     push-requires
-    add-i
-    loop-less
+    (λ c. search needs)
+    (λ c. search needs)
     loop-again
     add-result
     returns)

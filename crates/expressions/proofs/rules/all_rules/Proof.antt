@@ -1,4 +1,4 @@
--- `rules::all_rules`: statuses behind the rules that a closing goes by. Assumes nothing.
+-- `rules::all_rules`: statuses behind the rules that a closing goes by.
 use Prim.Native.Nat.{ℕ}
 use mathlib.Core.Path.{ap, _∙_}
 use mathlib.Core.List.{List, _++_, map}

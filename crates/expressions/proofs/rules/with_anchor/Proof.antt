@@ -1,4 +1,4 @@
--- `rules::with_anchor`: the members, and the anchor as a person. Assumes nothing.
+-- `rules::with_anchor`: the members, and the anchor as a person.
 use mathlib.Core.Path.{ap, _∙_}
 use borrow.Author.Needs.{needs}
 use Rattle.records.specs.paper.Sets.{union}
@@ -11,12 +11,9 @@ bit-requires : tie.Need-bit-requires
 unfolding attachmentOf
 bit-requires c κs = c .pre
 
-union-requires : tie.Need-union-requires
-union-requires c κs = search needs
-
 returns : tie.Need-returns
 unfolding attachmentOf withAnchorOf
 returns c = c .union .ensures ∙ ap (union _) (c .before .bit .ensures)
 
 pub with-anchor-spec : {M : Type 1} → statement M
-with-anchor-spec = tie.close (tie.spec bit-requires union-requires returns)
+with-anchor-spec = tie.close (tie.spec bit-requires (λ c κs. search needs) returns)
