@@ -142,17 +142,17 @@ pub fn sights_of(booleans: Booleans, relations: Relations) -> Sights
     look_in_relations(look_in_booleans(none, booleans), relations)
 }
 
-// A fact that is said to be unknown joins the others.
-fn with_fact(m: u64, fact: u8, said: bool) -> u64
-    ensures { λ r. ⌜ ((f : ℕ) → f < 64 → has r f ≡ (has m f || (eqb fact f && said))) ⌝ }
+// A number below 64 joins the others, where it is said to.
+pub fn with_number(m: u64, number: u8, said: bool) -> u64
+    ensures { λ r. ⌜ ((f : ℕ) → f < 64 → has r f ≡ (has m f || (eqb number f && said))) ⌝ }
 {
     if !said {
         return m;
     }
-    if fact >= 64 {
+    if number >= 64 {
         return m;
     }
-    union(m, bit(fact))
+    union(m, bit(number))
 }
 
 // The facts that a boolean record says explicitly to be unknown.
@@ -164,7 +164,7 @@ pub fn said_unknown(booleans: Booleans) -> u64
     let mut i: usize = 0;
     while i < n {
         let b = booleans.items[i];
-        m = with_fact(m, b.fact, b.unknown);
+        m = with_number(m, b.fact, b.unknown);
         i = i + 1;
     }
     m

@@ -25,7 +25,7 @@ loop-again : tie.Need-loop-again Inv-loop μ-loop
 loop-again c =
     let l = c .before .before .before in
     let a = c .before .before .before .before .before .args in
-    (l .loop .inv .0, search needs, λ f h. said-next (a .t1 .items) (a .t1 .count) f (l .loop .i) _ (has (l .loop .m) f) (has (c .with-fact .result) f) (search needs) (c .with-fact .ensures f h) ∙ l .loop .inv .2 f h)
+    (l .loop .inv .0, search needs, λ f h. said-next (a .t1 .items) (a .t1 .count) f (l .loop .i) _ (has (l .loop .m) f) (has (c .with-number .result) f) (search needs) (c .with-number .ensures f h) ∙ l .loop .inv .2 f h)
 
 returns : tie.Need-returns Inv-loop μ-loop
 returns c = λ f h.
