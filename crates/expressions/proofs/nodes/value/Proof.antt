@@ -5,7 +5,7 @@ use mathlib.Core.Bool.{not}
 use borrow.Author.Needs.{needs}
 use Rattle.records.specs.code.Decoded.{numbersOf, nodeOf, nodeBy}
 use Rattle.expressions.specs.paper.Nodes.{on, value}
-use Rattle.expressions.proofs.NodeLaws.{by-sort, negated}
+use Rattle.expressions.proofs.NodeLaws.{any-true, none-false, by-sort, negated}
 use Rattle.expressions.proofs.nodes.value.Statement.{statement}
 use Rattle.expressions.proofs.nodes.value.Tie as tie
 
@@ -25,13 +25,13 @@ returns-3 : tie.Need-returns-3
 unfolding value nodeOf nodeBy
 returns-3 c =
     let a = c .before .before .before .args in
-    c .all-hold .ensures ∙ by-sort (value (a .facts) (a .lower .now)) (a .node .number) (numbersOf (a .node .children)) (c .before .match .keys3)
+    ap not (c .one-is .ensures) ∙ none-false (on (a .lower .now)) (numbersOf (a .node .children)) ∙ by-sort (value (a .facts) (a .lower .now)) (a .node .number) (numbersOf (a .node .children)) (c .before .match .keys3)
 
 returns-4 : tie.Need-returns-4
 unfolding value nodeOf nodeBy
 returns-4 c =
     let a = c .before .before .before .args in
-    c .any-holds .ensures ∙ by-sort (value (a .facts) (a .lower .now)) (a .node .number) (numbersOf (a .node .children)) (c .before .match .keys4)
+    c .one-is2 .ensures ∙ any-true (on (a .lower .now)) (numbersOf (a .node .children)) ∙ by-sort (value (a .facts) (a .lower .now)) (a .node .number) (numbersOf (a .node .children)) (c .before .match .keys4)
 
 returns-5 : tie.Need-returns-5
 unfolding value nodeOf

@@ -1,22 +1,22 @@
--- `nodes::all_hold`: what is left of the children decides as all of them do.
+-- `nodes::one_is`: what is left of the children decides as all of them do.
 use Prim.Native.Nat.{ℕ, _+_, _≤_, _-_}
 use mathlib.Core.Path.{_≡_, refl, sym, ap, _∙_}
+use mathlib.Core.Bool.{Bool, Bool·beq}
 use mathlib.Core.List.{_∷_}
 use lib.ListN.{length, drop, length-map}
 use borrow.Author.Needs.{needs}
-use borrow.Author.Tests.{not-true, not-false}
-use Rattle.records.specs.paper.Sets.{allOf}
+use Rattle.records.specs.paper.Sets.{anyOf}
 use Rattle.records.specs.code.Decoded.{numbersOf}
 use Rattle.expressions.specs.paper.Nodes.{on}
-use Rattle.expressions.proofs.ListLaws.{used-next, used-end, all-go, all-stop}
-use Rattle.expressions.proofs.nodes.all_hold.Statement.{statement}
-use Rattle.expressions.proofs.nodes.all_hold.Tie as tie
+use Rattle.expressions.proofs.ListLaws.{used-next, used-end, any-go, any-stop}
+use Rattle.expressions.proofs.nodes.one_is.Statement.{statement}
+use Rattle.expressions.proofs.nodes.one_is.Tie as tie
 
 abbrev Inv-loop : tie.InvT-loop
-Inv-loop lower children n i₀ i = (i ≤ n) × (allOf (on lower) (drop i (numbersOf children)) ≡ allOf (on lower) (numbersOf children))
+Inv-loop lower wanted children n i₀ i = (i ≤ n) × (anyOf (λ k. Bool·beq (on lower k) wanted) (drop i (numbersOf children)) ≡ anyOf (λ k. Bool·beq (on lower k) wanted) (numbersOf children))
 
 abbrev μ-loop : tie.MeasureT-loop
-μ-loop lower children n i₀ i = n - i
+μ-loop lower wanted children n i₀ i = n - i
 
 long : (c : tie.Start Inv-loop μ-loop) → length (c .args .t1 .items) ≡ 16
 long c = sym (length-map (c .args .t1 .items) (λ v. v)) ∙ c .good .0 .1 .1 .1 .0 .1 .0 .1
@@ -39,25 +39,28 @@ loop-holds c = (search needs, refl)
 returns : tie.Need-returns Inv-loop μ-loop
 returns c =
     let w = c .before .before in
-    let f = on (w .before .before .before .before .before .before .args .lower .now) in
-    sym (all-stop f (w .wide2 .result) _ (not-true _ (c .if1 .taken))) ∙ ap (allOf f) (sym (next w)) ∙ w .before .before .before .loop .inv .1
+    let a = w .before .before .before .before .before .before .args in
+    let f : ℕ → Bool = λ k. Bool·beq (on (a .lower .now) k) (a .wanted) in
+    sym (any-stop f (w .wide2 .result) _ (c .if1 .taken)) ∙ ap (anyOf f) (sym (next w)) ∙ w .before .before .before .loop .inv .1
 
 loop-again : tie.Need-loop-again Inv-loop μ-loop
 loop-again c =
     let w = c .before .before in
-    let f = on (w .before .before .before .before .before .before .args .lower .now) in
-    (search needs, sym (all-go f (w .wide2 .result) _ (not-false _ (c .if1 .left))) ∙ ap (allOf f) (sym (next w)) ∙ w .before .before .before .loop .inv .1)
+    let a = w .before .before .before .before .before .before .args in
+    let f : ℕ → Bool = λ k. Bool·beq (on (a .lower .now) k) (a .wanted) in
+    (search needs, sym (any-go f (w .wide2 .result) _ (c .if1 .left)) ∙ ap (anyOf f) (sym (next w)) ∙ w .before .before .before .loop .inv .1)
 
 returns-2 : tie.Need-returns-2 Inv-loop μ-loop
-unfolding numbersOf allOf
+unfolding numbersOf anyOf
 returns-2 c =
     let a = c .before .before in
-    let f = on (a .before .before .args .lower .now) in
-    ap (allOf f) (sym (used-end (a .before .before .args .t1 .items) (a .before .before .args .t1 .count) 16 (a .upto .result) (long (a .before .before)) (some a) (c .before .loop .i) (search needs)))
+    let s = a .before .before .args in
+    let f : ℕ → Bool = λ k. Bool·beq (on (s .lower .now) k) (s .wanted) in
+    ap (anyOf f) (sym (used-end (a .before .before .args .t1 .items) (a .before .before .args .t1 .count) 16 (a .upto .result) (long (a .before .before)) (some a) (c .before .loop .i) (search needs)))
     ∙ c .before .loop .inv .1
 
-pub all-hold-spec : {M : Type 1} → statement M
-all-hold-spec =
+pub one-is-spec : {M : Type 1} → statement M
+one-is-spec =
     tie.close
     (tie.spec
     Inv-loop
