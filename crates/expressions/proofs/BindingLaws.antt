@@ -1,4 +1,4 @@
--- What the intake desk relies on: an open answer stays open, whatever else is known of the fact. Assumes nothing.
+-- What the intake desk relies on: an open answer stays open, whatever else is known of the fact.
 use mathlib.Core.Path.{_≡_, ap}
 use mathlib.Core.Bool.{Bool, cond}
 use mathlib.Core.List.{[]}

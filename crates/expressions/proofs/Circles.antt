@@ -13,7 +13,7 @@ use Rattle.records.proofs.Closing.{close-closed, close-within, in-one}
 use Rattle.records.proofs.Local.{Side, Weak, in-zero, single-side, side-of, closed-weak, all-below}
 use Rattle.records.proofs.Every.{all-parts}
 use Rattle.records.proofs.BelowLaws.{in-below, in-only}
-use Rattle.expressions.specs.paper.Rules.{edgeCount, cutCount, attachmentCount, barCount, statusCount, factCount, edge, cut, attachment, bar, status, pair, span, ruleSets}
+use Rattle.expressions.specs.paper.Rules.{edgeCount, cutCount, attachmentCount, barCount, statusCount, factCount, edge, cut, attachment, bar, status, pair, withAnchor, ruleSets}
 use Rattle.expressions.specs.paper.Influence.{Frame, edgeUses, cutUses, attachmentUses, barUses, statusUses, usersOf, constraintUses, boundFacts, touched, touch, touches, decisionCount, decisionTouch, decisionTouches, joins, circle, touchesCircle}
 use Rattle.expressions.proofs.UnionLaws.{none-union, union-self}
 
@@ -34,8 +34,8 @@ module _ (C : ℕ → Bool) (P : Plan) where
   unfolding cut
   cut-past i l = subst (λ c. Side C (c .members)) (sym (List·getD-eq-default (P .cuts) _ l)) (side-of C 0 (inl (in-zero C)))
 
-  span-past : (i : ℕ) → attachmentCount P ≤ i → Side C (span P i)
-  unfolding span attachment
+  span-past : (i : ℕ) → attachmentCount P ≤ i → Side C (withAnchor P i)
+  unfolding withAnchor attachment
   span-past i l =
       subst (λ a. Side C (union (a .members) (one (a .anchor)))) (sym (List·getD-eq-default (P .attachments) _ l))
       (subst (Side C) (sym (none-union (one 64))) (single-side C 64))
@@ -60,7 +60,7 @@ module _ (C : ℕ → Bool) (P : Plan) where
     cuts = below (cutCount P) (λ i. cut P i .members)
 
     abbrev attachments : List ℕ
-    attachments = below (attachmentCount P) (span P)
+    attachments = below (attachmentCount P) (withAnchor P)
 
     abbrev bars : List ℕ
     bars = below (barCount P) (λ i. bar P i .members)
@@ -79,8 +79,8 @@ module _ (C : ℕ → Bool) (P : Plan) where
     pub cut-side : (i : ℕ) → Side C (cut P i .members)
     cut-side = everywhere (cutCount P) (λ i. cut P i .members) (split .1 .0) cut-past
 
-    pub span-side : (i : ℕ) → Side C (span P i)
-    span-side = everywhere (attachmentCount P) (span P) (split .1 .1 .0) span-past
+    pub span-side : (i : ℕ) → Side C (withAnchor P i)
+    span-side = everywhere (attachmentCount P) (withAnchor P) (split .1 .1 .0) span-past
 
     pub bar-side : (i : ℕ) → Side C (bar P i .members)
     bar-side = everywhere (barCount P) (λ i. bar P i .members) (split .1 .1 .1) bar-past
@@ -117,7 +117,7 @@ module _ (F : Frame) where
   abbrev users : ℕ → List ℕ
   users f =
       setOf (getFact P f .tuple) ∷ only (has (constraintUses F) f) (F .roster) ∷ usersOf (edgeCount P) (edgeUses P) (pair P) f
-      ∷ usersOf (cutCount P) (cutUses P) (λ i. cut P i .members) f ∷ usersOf (attachmentCount P) (attachmentUses P) (span P) f
+      ∷ usersOf (cutCount P) (cutUses P) (λ i. cut P i .members) f ∷ usersOf (attachmentCount P) (attachmentUses P) (withAnchor P) f
       ∷ usersOf (barCount P) (barUses P) (λ i. bar P i .members) f ∷ []
 
   part-used : (k : ℕ) → Within (getD used k (unionBelow (statusCount P) (statusUses P))) (boundFacts F)
@@ -144,8 +144,8 @@ module _ (F : Frame) where
   pub touch-cut : (f i : ℕ) → i < cutCount P → has (cutUses P i) f ≡ true → Within (cut P i .members) (touch F f)
   touch-cut f = by-rule (cutCount P) (cutUses P) (λ i. cut P i .members) f (part-used 2) (part-touched f 3)
 
-  pub touch-attachment : (f i : ℕ) → i < attachmentCount P → has (attachmentUses P i) f ≡ true → Within (span P i) (touch F f)
-  touch-attachment f = by-rule (attachmentCount P) (attachmentUses P) (span P) f (part-used 3) (part-touched f 4)
+  pub touch-attachment : (f i : ℕ) → i < attachmentCount P → has (attachmentUses P i) f ≡ true → Within (withAnchor P i) (touch F f)
+  touch-attachment f = by-rule (attachmentCount P) (attachmentUses P) (withAnchor P) f (part-used 3) (part-touched f 4)
 
   pub touch-bar : (f i : ℕ) → i < barCount P → has (barUses P i) f ≡ true → Within (bar P i .members) (touch F f)
   touch-bar f = by-rule (barCount P) (barUses P) (λ i. bar P i .members) f (part-used 4) (part-touched f 5)

@@ -1,46 +1,44 @@
--- Laws of the unresolved decisions: searched by number, listed one by one, and how many there are. Assumes nothing.
-use Prim.Native.Nat.{ℕ, zero, suc, _+_, _<_, min}
+-- Laws of the unresolved decisions: searched by number, listed one by one, and how many there are.
+use Prim.Native.Nat.{ℕ, suc, _+_, _≤_, _<_, min}
 use mathlib.Core.Path.{_≡_, refl, sym, ap, ap₂, _∙_, subst}
-use mathlib.Core.Bool.{Bool, true, false, _&&_, _||_, or-true, and-false}
-use mathlib.Core.Logic.{_⊎_, ⊎-elim}
+use mathlib.Core.Bool.{Bool, false, _&&_, _||_, or-false, and-false}
 use mathlib.Core.List.{List, [], _∷_, _++_}
-use native.Mathlib.Nat.{le-of-suc-le-suc, not-suc-le-zero, eq-or-lt-of-le}
+use native.Mathlib.Decide.{le-ind}
+use native.Mathlib.Numerals.{add-one}
 use native.Mathlib.Omega.{arith}
 use lib.ListN.{length, getD, set}
 use lib.Seq.{getD-set-same, getD-set-other}
 use lib.Dec.{eqb}
-use borrow.Author.Tests.{eq-eqb, ne-eqb}
-use Rattle.records.specs.paper.Sets.{union, below, numbers, anyOf}
+use borrow.Author.Tests.{ne-eqb}
+use Rattle.records.specs.paper.Sets.{union, below, anyOf}
 use Rattle.records.specs.promises.Sound.{All}
+use Rattle.records.specs.paper.Plan as paper
+use Rattle.records.specs.paper.Plan.{Plan}
 use Rattle.records.specs.code.Decoded.{cutOf, edgeOf}
+use Rattle.expressions.specs.paper.Rules.{noCut, noEdge, cut, edge, pair}
 use Rattle.records.specs.declared.plan.Cut.{Cut}
 use Rattle.records.specs.declared.plan.Edge.{Edge}
 use Rattle.records.specs.declared.plan.Cuts.{Cuts}
 use Rattle.records.specs.declared.plan.Edges.{Edges}
 use Rattle.records.proofs.LoopLaws.{all-at, getD-below, length-below}
 use Rattle.expressions.specs.code.Coded.{cutsOf, edgesOf}
-use Rattle.expressions.specs.code.Listed.{endsOf, cutHolds}
+use Rattle.expressions.specs.code.Listed.{endsOf, heldByCut}
 use Rattle.expressions.specs.declared.decisions.Undecided.{Undecided}
-use Rattle.expressions.specs.paper.Influence.{Open}
-use Rattle.expressions.specs.code.Undecided.{pairOf, openAt, opensOf, Named, openTouch}
+use Rattle.expressions.specs.paper.Influence.{Open, openTouch}
+use Rattle.expressions.specs.code.Undecided.{pairOf, openAt, opensOf, Named}
 use Rattle.records.proofs.Listing.{below-more, below-ext}
-use Rattle.expressions.proofs.ListLaws.{any-last, below-last, made-length, made-at}
+use Rattle.expressions.proofs.ListLaws.{any-last, made-length, made-at}
 
 -- ---- any of f 0 … f (n − 1)
 
-module _ {A : Type 0} (g : A → Bool) (f : ℕ → A) where
-  pub any-hit : (n i : ℕ) → i < n → g (f i) ≡ true → anyOf g (below n f) ≡ true
-  any-hit zero i h e = absurd (not-suc-le-zero h)
-  any-hit (suc n) i h e =
-      ap (anyOf g) (below-last n f) ∙ any-last g (below n f) (f n)
-      ∙ ⊎-elim (λ k. ap (λ (b : Bool). anyOf g (below n f) || b) (ap (λ (j : ℕ). g (f j)) (sym k) ∙ e) ∙ or-true (anyOf g (below n f)))
-      (λ k. ap (λ (b : Bool). b || g (f n)) (any-hit n i k e)) (eq-or-lt-of-le (le-of-suc-le-suc h))
+pub any-more : {A : Type 0} (g : A → Bool) (f : ℕ → A) (i : ℕ) → anyOf g (below (i + 1) f) ≡ (anyOf g (below i f) || g (f i))
+any-more g f i = ap (anyOf g) (below-more i f) ∙ any-last g (below i f) (f i)
 
-  pub any-miss : (n : ℕ) → ((i : ℕ) → i < n → g (f i) ≡ false) → anyOf g (below n f) ≡ false
-  unfolding below numbers anyOf
-  any-miss zero h = refl
-  any-miss (suc n) h =
-      ap (anyOf g) (below-last n f) ∙ any-last g (below n f) (f n) ∙ ap₂ _||_ (any-miss n (λ i k. h i (omega arith))) (h n (omega arith))
+-- what fails from m on is not found there
+pub any-past : {A : Type 0} (g : A → Bool) (f : ℕ → A) (m n : ℕ) → m ≤ n → ((k : ℕ) → m ≤ k → g (f k) ≡ false) → anyOf g (below n f) ≡ anyOf g (below m f)
+any-past g f m n l h =
+    le-ind (λ (j : ℕ). anyOf g (below j f) ≡ anyOf g (below m f)) refl (λ k p e.
+    ap (λ (j : ℕ). anyOf g (below j f)) (sym (add-one k)) ∙ any-more g f k ∙ ap₂ _||_ e (h k p) ∙ or-false (anyOf g (below m f))) n l
 
 -- ---- the list of open decisions, one more at the end
 
@@ -53,16 +51,8 @@ open-next cuts edges i c e h k =
     ap₂ pairOf (getD-set-other cuts i j c 0 (λ q. absurd (omega arith))) (getD-set-other edges i j e 0 (λ q. absurd (omega arith)))))
     (ap₂ pairOf (getD-set-same cuts i c 0 h) (getD-set-same edges i e 0 k))
 
--- ---- a decision that is not the one asked for
-
-pub other-edge : (a e b v : ℕ) → (a ≡ e → ⊥) → (eqb a e && eqb b v) ≡ false
-other-edge a e b v n = ap (λ (x : Bool). x && eqb b v) (ne-eqb a e n)
-
 pub other-verdict : (a e b v : ℕ) → (b ≡ v → ⊥) → (eqb a e && eqb b v) ≡ false
 other-verdict a e b v n = ap (λ (x : Bool). eqb a e && x) (ne-eqb b v n) ∙ and-false (eqb a e)
-
-pub this-one : (a e b v : ℕ) → a ≡ e → b ≡ v → (eqb a e && eqb b v) ≡ true
-this-one a e b v p q = ap₂ _&&_ (eq-eqb a e p) (eq-eqb b v q)
 
 -- ---- whom the decision of a number touches
 
@@ -82,11 +72,10 @@ module _ (cuts : Cuts) (edges : Edges) (o : Undecided) (i : ℕ) (h : i < o .cou
   unfolding edgesOf
   edge-in wide = omega (arith, named-at .1, made-length edgeOf (edges .items) (edges .count) 64 (min (edges .count) 64) wide refl)
 
-  pub touch-at : length (cuts .items) ≡ 16 → length (edges .items) ≡ 64 → (d : Cut) (e : Edge)
-      → union (getD (cuts .items) (getD (o .cuts) i 0) d .members) (endsOf (edgeOf (getD (edges .items) (getD (o .edges) i 0) e)))
-      ≡ openTouch (cutsOf cuts) (edgesOf edges) (openAt (o .cuts) (o .edges) i)
-  unfolding cutsOf edgesOf cutOf openTouch
-  touch-at long wide d e =
+  pub touch-at : length (cuts .items) ≡ 16 → length (edges .items) ≡ 64 → (d : Cut) (e : Edge) (P : Plan) → P .cuts ≡ cutsOf cuts → P .edges ≡ edgesOf edges
+      → union (getD (cuts .items) (getD (o .cuts) i 0) d .members) (endsOf (edgeOf (getD (edges .items) (getD (o .edges) i 0) e))) ≡ openTouch P (openAt (o .cuts) (o .edges) i)
+  unfolding cutsOf edgesOf cutOf cut pair edge endsOf
+  touch-at long wide d e P k l =
       ap₂ union
-      (ap cutHolds (sym (made-at cutOf (cuts .items) (cuts .count) 16 (min (cuts .count) 16) long refl (getD (o .cuts) i 0) d _ (cut-in long))))
-      (ap endsOf (sym (made-at edgeOf (edges .items) (edges .count) 64 (min (edges .count) 64) wide refl (getD (o .edges) i 0) e _ (edge-in wide))))
+      (ap heldByCut (sym (ap (λ (xs : List paper.Cut). getD xs (getD (o .cuts) i 0) noCut) k ∙ made-at cutOf (cuts .items) (cuts .count) 16 (min (cuts .count) 16) long refl (getD (o .cuts) i 0) d _ (cut-in long))))
+      (ap endsOf (sym (ap (λ (xs : List paper.Edge). getD xs (getD (o .edges) i 0) noEdge) l ∙ made-at edgeOf (edges .items) (edges .count) 64 (min (edges .count) 64) wide refl (getD (o .edges) i 0) e _ (edge-in wide))))

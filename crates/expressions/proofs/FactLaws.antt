@@ -1,4 +1,4 @@
--- Laws of a fact's sort and family, and of the binding by them. Assumes nothing.
+-- Laws of a fact's sort and family, and of the binding by them.
 use mathlib.Core.Path.{_≡_, refl, sym, ap, _∙_, subst}
 use mathlib.Core.Bool.{true, false}
 use mathlib.Core.List.{List, [], _∷_, map}

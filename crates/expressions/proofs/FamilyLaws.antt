@@ -1,4 +1,4 @@
--- Laws of the families of a number and a scope: what no observation means by the first of them. Assumes nothing.
+-- Laws of the families of a number and a scope: what no observation means by the first of them.
 use mathlib.Core.Path.{_≡_, refl, ap, ap₂, _∙_}
 use mathlib.Core.Bool.{Bool, true, false, _&&_, cond, and-false}
 use mathlib.Core.List.{List, [], _∷_, _++_, map, flatMap}

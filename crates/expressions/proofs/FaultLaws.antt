@@ -1,4 +1,4 @@
--- Laws of faults that a record has beside the earlier ones, for families and booleans alike. Assumes nothing.
+-- Laws of faults that a record has beside the earlier ones, for families and booleans alike.
 use mathlib.Core.Path.{_≡_, refl, sym, ap, ap₂, _∙_}
 use mathlib.Core.Bool.{Bool, true, false, _||_, not, cond, or-comm}
 use mathlib.Core.List.{List, [], _∷_, _++_, map}
@@ -6,7 +6,7 @@ use Prim.Native.Nat.{ℕ, zero, suc, _+_, _≤_, _<_, min}
 use native.Mathlib.Nat.{add-zero}
 use native.Mathlib.Numerals.{add-one}
 use native.Mathlib.Omega.{arith}
-use lib.ListN.{length, getD, take, drop, set}
+use lib.ListN.{length, getD, take, drop, set, length-set}
 use lib.Seq.{take-suc-set}
 use lib.Dec.{eqb}
 use borrow.Author.Tests.{not-true, not-false}
@@ -32,74 +32,124 @@ unfolding anyOf
 any-more p g xs i d h =
     ap (anyOf p) (front-more g xs i d h) ∙ any-last p (map g (take i xs)) (g (getD xs i d)) ∙ or-comm (anyOf p (map g (take i xs))) (p (g (getD xs i d)))
 
--- ---- the fault of each record: by whether an earlier one is like it, and by itself
+-- ---- the numbers that came before, in an array of their own
 
-module _ {B : Type 0} (like : B → B → Bool) (judge : Bool → B → ℕ) where
+any-numbers : {A B : Type 0} (g : A → ℕ) (h : A → B) (k : B → ℕ) → ((x : A) → k (h x) ≡ g x) → (v : ℕ) (xs : List A)
+    → anyOf (λ (e : ℕ). eqb e v) (map g xs) ≡ anyOf (λ (e : B). eqb (k e) v) (map h xs)
+unfolding anyOf
+any-numbers g h k same v [] = refl
+any-numbers g h k same v (x ∷ xs) = ap₂ _||_ (ap (λ (j : ℕ). eqb j v) (sym (same x))) (any-numbers g h k same v xs)
+
+numbers-next : {A : Type 0} (g : A → ℕ) (xs : List A) (earlier : List ℕ) (i : ℕ) (d : A) → i < length earlier → i < length xs → take i earlier ≡ map g (take i xs)
+    → take (i + 1) (set earlier i (g (getD xs i d))) ≡ map g (take (i + 1) xs)
+numbers-next g xs earlier i d h k e =
+    ap (λ (n : ℕ). take n (set earlier i (g (getD xs i d)))) (add-one i) ∙ take-suc-set earlier i (g (getD xs i d)) h
+    ∙ ap (λ (l : List ℕ). l ++ (g (getD xs i d) ∷ [])) e ∙ sym (front-more g xs i d k)
+
+-- nothing wrong, where nothing is to come out
+abbrev pub passed : Verdict ℕ
+passed = fine 0
+
+-- ---- the fault of each record: by whether an earlier one has its number, and by itself
+
+module _ {B : Type 0} (key : B → ℕ) (judge : Bool → B → ℕ) where
   unfoldable pub faultsFrom : List B → List B → List ℕ
   faultsFrom earlier [] = []
-  faultsFrom earlier (x ∷ xs) = judge (anyOf (λ e. like e x) earlier) x ∷ faultsFrom (x ∷ earlier) xs
+  faultsFrom earlier (x ∷ xs) = judge (anyOf (λ e. eqb (key e) (key x)) earlier) x ∷ faultsFrom (x ∷ earlier) xs
 
   -- only which are among the earlier ones counts
   faults-agree : (es fs xs : List B) → ((p : B → Bool) → anyOf p es ≡ anyOf p fs) → faultsFrom es xs ≡ faultsFrom fs xs
   unfolding faultsFrom
   faults-agree es fs [] h = refl
   faults-agree es fs (x ∷ xs) h =
-      ap₂ _∷_ (ap (λ (b : Bool). judge b x) (h (λ e. like e x))) (faults-agree (x ∷ es) (x ∷ fs) xs (λ p. more p))
+      ap₂ _∷_ (ap (λ (b : Bool). judge b x) (h (λ e. eqb (key e) (key x)))) (faults-agree (x ∷ es) (x ∷ fs) xs (λ p. more p))
     where
       more : (p : B → Bool) → anyOf p (x ∷ es) ≡ anyOf p (x ∷ fs)
       more p = (unfold anyOf in ap (λ (b : Bool). p x || b) (h p))
 
-  module _ {A C : Type 0} (g : A → B) (xs : List A) (n i first : ℕ) (v : Verdict C) where
-    abbrev pub from : ℕ → Verdict C
-    from k = firstFault (first + k) (faultsFrom (map g (take k xs)) (drop k (map g (take n xs)))) v
+-- ---- the records of a kind one after another: those before i have no fault, and their numbers are kept
 
-    pub faults-end : min n (length xs) ≤ i → from i ≡ v
+module _ {A B : Type 0} (make : A → B) (key : B → ℕ) (judge : Bool → B → ℕ) (items : List A) (count first : ℕ) where
+  abbrev from : ℕ → Verdict ℕ
+  from k = firstFault (first + k) (faultsFrom key judge (map make (take k items)) (drop k (map make (take count items)))) passed
+
+  pub record Judging (most n : ℕ) (earlier : List ℕ) (i : ℕ) : Type 0 where
+    pub long : length items ≡ most
+    pub room : length earlier ≡ most
+    pub some : n ≡ min count most
+    pub few : i ≤ n
+    pub kept : take i earlier ≡ map (λ x. key (make x)) (take i items)
+    pub left : from i ≡ from 0
+
+module _ {A B : Type 0} {make : A → B} {key : B → ℕ} {judge : Bool → B → ℕ} {items : List A} {count first most n : ℕ} {earlier : List ℕ} where
+  pub judging-none : length items ≡ most → length earlier ≡ most → n ≡ min count most → Judging make key judge items count first most n earlier 0
+  judging-none l r s = record { long = l; room = r; some = s; few = omega arith; kept = refl; left = refl }
+
+  module _ {i : ℕ} (w : Judging make key judge items count first most n earlier i) where
+    abbrev whole : Checked
+    whole = checkedOf (firstFault (first + 0) (faultsFrom key judge [] (map make (take count items))) passed)
+
+    pub judging-end : n ≤ i → checkedOf passed ≡ whole
     unfolding faultsFrom firstFault
-    faults-end h = ap (λ zs. firstFault (first + i) (faultsFrom (map g (take i xs)) zs) v) (made-none g xs n i h)
+    judging-end l =
+        ap checkedOf (sym (ap (λ zs. firstFault (first + i) (faultsFrom key judge (map make (take i items)) zs) passed) (made-none make items count i (omega (arith, w .long, w .some)))) ∙ w .left)
 
-    module _ (d : A) (h : i < min n (length xs)) where
-      abbrev x : B
-      x = g (getD xs i d)
+    module _ (l : i < n) (d : A) where
+      abbrev here : B
+      here = make (getD items i d)
 
-      open-up : from i ≡ firstFault (first + i) (judge (anyOf (λ e. like e x) (map g (take i xs))) x ∷ faultsFrom (x ∷ map g (take i xs)) (drop (i + 1) (map g (take n xs)))) v
+      -- whether an earlier record has its number
+      abbrev pub twice : Bool
+      twice = anyOf (λ e. eqb (key e) (key here)) (map make (take i items))
+
+      pub judging-twice : {r : Bool} → r ≡ anyOf (λ (e : ℕ). eqb e (key here)) (take i earlier) → r ≡ twice
+      judging-twice e = e ∙ ap (anyOf (λ (e : ℕ). eqb e (key here))) (w .kept) ∙ any-numbers (λ x. key (make x)) make key (λ x. refl) (key here) (take i items)
+
+      below : i < min count (length items)
+      below = omega (arith, w .long, w .some)
+
+      open-up : from make key judge items count first i
+          ≡ firstFault (first + i) (judge twice here ∷ faultsFrom key judge (here ∷ map make (take i items)) (drop (i + 1) (map make (take count items)))) passed
       unfolding faultsFrom
-      open-up = ap (λ zs. firstFault (first + i) (faultsFrom (map g (take i xs)) zs) v) (made-next g xs n i d h)
+      open-up = ap (λ zs. firstFault (first + i) (faultsFrom key judge (map make (take i items)) zs) passed) (made-next make items count i d below)
 
-      pub faults-on : judge (anyOf (λ e. like e x) (map g (take i xs))) x ≡ 0 → from i ≡ from (i + 1)
+      pub judging-stop : (m : ℕ) → judge twice here ≡ suc m → checkedOf {A = ℕ} (refused (suc m) (first + i)) ≡ whole
       unfolding firstFault
-      faults-on e =
-          open-up
-          ∙ ap (λ (m : ℕ). firstFault (first + i) (m ∷ faultsFrom (x ∷ map g (take i xs)) (drop (i + 1) (map g (take n xs)))) v) e
-          ∙ ap₂ (λ (k : ℕ) (zs : List ℕ). firstFault k zs v) (omega arith)
-          (faults-agree (x ∷ map g (take i xs)) (map g (take (i + 1) xs)) (drop (i + 1) (map g (take n xs))) (λ p. sym (any-more p g xs i d (omega arith))))
+      judging-stop m e =
+          ap checkedOf (sym (open-up ∙ ap (λ (m : ℕ). firstFault (first + i) (m ∷ faultsFrom key judge (here ∷ map make (take i items)) (drop (i + 1) (map make (take count items)))) passed) e) ∙ w .left)
 
-      pub faults-stop : (m : ℕ) → judge (anyOf (λ e. like e x) (map g (take i xs))) x ≡ suc m → from i ≡ refused (suc m) (first + i)
+      pub judging-next : judge twice here ≡ 0 → Judging make key judge items count first most n (set earlier i (key here)) (i + 1)
       unfolding firstFault
-      faults-stop m e = open-up ∙ ap (λ (m : ℕ). firstFault (first + i) (m ∷ faultsFrom (x ∷ map g (take i xs)) (drop (i + 1) (map g (take n xs)))) v) e
+      judging-next e = record {
+        long = w .long;
+        room = length-set earlier i (key here) ∙ w .room;
+        some = w .some;
+        few = omega arith;
+        kept = numbers-next (λ x. key (make x)) items earlier i d (omega (arith, w .room, w .some)) (omega (arith, w .long, w .some)) (w .kept);
+        left =
+            sym (open-up ∙ ap (λ (m : ℕ). firstFault (first + i) (m ∷ faultsFrom key judge (here ∷ map make (take i items)) (drop (i + 1) (map make (take count items)))) passed) e
+            ∙ ap₂ (λ (k : ℕ) (zs : List ℕ). firstFault k zs passed) (omega arith)
+            (faults-agree key judge (here ∷ map make (take i items)) (map make (take (i + 1) items)) (drop (i + 1) (map make (take count items))) (λ p. sym (any-more p make items i d (omega (arith, below))))))
+            ∙ w .left;
+      }
 
 -- ---- families and booleans
-
-abbrev pub sameFamily : paper.Family → paper.Family → Bool
-sameFamily e m = eqb (e .number) (m .number)
 
 abbrev pub familyJudge : Bool → paper.Family → ℕ
 familyJudge b m = fault 5 (not b)
 
-pub family-faults : (es ms : List paper.Family) → familyFaults es ms ≡ faultsFrom sameFamily familyJudge es ms
+family-faults : (es ms : List paper.Family) → familyFaults es ms ≡ faultsFrom (λ m. m .number) familyJudge es ms
 unfolding familyFaults faultsFrom
 family-faults es [] = refl
-family-faults es (m ∷ ms) = ap (λ zs. familyJudge (anyOf (λ e. sameFamily e m) es) m ∷ zs) (family-faults (m ∷ es) ms)
-
-abbrev pub sameFact : paper.Boolean → paper.Boolean → Bool
-sameFact e b = eqb (e .fact) (b .fact)
+family-faults es (m ∷ ms) = ap (λ zs. familyJudge (anyOf (λ e. eqb (e .number) (m .number)) es) m ∷ zs) (family-faults (m ∷ es) ms)
 
 abbrev pub booleanJudge : Bool → paper.Boolean → ℕ
 booleanJudge t b = cond (eqb (length (b .unknown)) 0 || eqb (length (b .observations)) 0) (fault 5 (not t)) 10
 
-pub boolean-faults : (es bs : List paper.Boolean) → booleanFaults es bs ≡ faultsFrom sameFact booleanJudge es bs
+boolean-faults : (es bs : List paper.Boolean) → booleanFaults es bs ≡ faultsFrom (λ b. b .fact) booleanJudge es bs
 unfolding booleanFaults booleanFault faultsFrom
 boolean-faults es [] = refl
-boolean-faults es (b ∷ bs) = ap (λ zs. booleanJudge (anyOf (λ e. sameFact e b) es) b ∷ zs) (boolean-faults (b ∷ es) bs)
+boolean-faults es (b ∷ bs) = ap (λ zs. booleanJudge (anyOf (λ e. eqb (e .fact) (b .fact)) es) b ∷ zs) (boolean-faults (b ∷ es) bs)
 
 -- what would come out does not change the refusal
 pub fault-any : {A B : Type 0} (k : ℕ) (ns : List ℕ) (a : A) (b : B) → checkedOf (firstFault k ns (fine a)) ≡ checkedOf (firstFault k ns (fine b))
@@ -110,13 +160,13 @@ fault-any k (suc n ∷ ns) a b = refl
 
 -- ---- from the first record on, as the definitions have it
 
-pub families-whole : {C : Type 0} (ms : List paper.Family) (first : ℕ) (v : Verdict C)
-    → firstFault (first + 0) (faultsFrom sameFamily familyJudge [] ms) v ≡ firstFault first (familyFaults [] ms) v
-families-whole ms first v = ap₂ (λ (k : ℕ) (ns : List ℕ). firstFault k ns v) (add-zero first) (sym (family-faults [] ms))
+pub families-whole : (ms : List paper.Family) (first : ℕ)
+    → checkedOf (firstFault (first + 0) (faultsFrom (λ m. m .number) familyJudge [] ms) passed) ≡ checkedOf (firstFault first (familyFaults [] ms) passed)
+families-whole ms first = ap₂ (λ (k : ℕ) (ns : List ℕ). checkedOf (firstFault k ns passed)) (add-zero first) (sym (family-faults [] ms))
 
-pub booleans-whole : {C : Type 0} (bs : List paper.Boolean) (first : ℕ) (v : Verdict C)
-    → firstFault (first + 0) (faultsFrom sameFact booleanJudge [] bs) v ≡ firstFault first (booleanFaults [] bs) v
-booleans-whole bs first v = ap₂ (λ (k : ℕ) (ns : List ℕ). firstFault k ns v) (add-zero first) (sym (boolean-faults [] bs))
+pub booleans-whole : (bs : List paper.Boolean) (first : ℕ)
+    → checkedOf (firstFault (first + 0) (faultsFrom (λ b. b .fact) booleanJudge [] bs) passed) ≡ checkedOf (firstFault first (booleanFaults [] bs) passed)
+booleans-whole bs first = ap₂ (λ (k : ℕ) (ns : List ℕ). checkedOf (firstFault k ns passed)) (add-zero first) (sym (boolean-faults [] bs))
 
 -- the fault of a boolean record by its two tests
 pub judge-clash : (t : Bool) (b : paper.Boolean) → not (eqb (length (b .unknown)) 0 || eqb (length (b .observations)) 0) ≡ true → booleanJudge t b ≡ 10
@@ -124,10 +174,6 @@ judge-clash t b e = rw (not-true (eqb (length (b .unknown)) 0 || eqb (length (b 
 
 pub judge-twice : (t : Bool) (b : paper.Boolean) → not (eqb (length (b .unknown)) 0 || eqb (length (b .observations)) 0) ≡ false → booleanJudge t b ≡ fault 5 (not t)
 judge-twice t b e = rw (not-false (eqb (length (b .unknown)) 0 || eqb (length (b .observations)) 0) e)
-
--- nothing wrong, where nothing is to come out
-abbrev pub passed : Verdict ℕ
-passed = fine 0
 
 -- ---- the two tests of a boolean record
 
@@ -139,33 +185,6 @@ clash-beside b e = rw (e, length-below {A = paper.Observation} (b .observations 
 pub clash-none : (b : Boolean) → b .unknown ≡ false → false ≡ not (eqb (length (booleanOf b .unknown)) 0 || eqb (length (booleanOf b .observations)) 0)
 unfolding booleanOf
 clash-none b e = rw e
-
-module _ (items : List Boolean) (n i first : ℕ) (d : Boolean) (h : i < min n (length items)) where
-  abbrev clash : Bool
-  clash = not (eqb (length (booleanOf (getD items i d) .unknown)) 0 || eqb (length (booleanOf (getD items i d) .observations)) 0)
-
-  abbrev pub booleansFrom : ℕ → Verdict ℕ
-  booleansFrom k = from sameFact booleanJudge booleanOf items n i first passed k
-
-  abbrev before : Bool
-  before = anyOf (λ e. eqb (e .fact) (getD items i d .fact)) (map booleanOf (take i items))
-
-  pub boolean-clash : clash ≡ true → booleansFrom i ≡ refused 10 (first + i)
-  boolean-clash e =
-      faults-stop sameFact booleanJudge booleanOf items n i first passed d h 9
-      (judge-clash (anyOf (λ e. sameFact e (booleanOf (getD items i d))) (map booleanOf (take i items))) (booleanOf (getD items i d)) e)
-
-  pub boolean-twice : clash ≡ false → before ≡ true → booleansFrom i ≡ refused 5 (first + i)
-  unfolding booleanOf
-  boolean-twice e t =
-      faults-stop sameFact booleanJudge booleanOf items n i first passed d h 4
-      (judge-twice before (booleanOf (getD items i d)) e ∙ ap (λ (b : Bool). fault 5 (not b)) t)
-
-  pub boolean-on : clash ≡ false → before ≡ false → booleansFrom i ≡ booleansFrom (i + 1)
-  unfolding booleanOf
-  boolean-on e t =
-      faults-on sameFact booleanJudge booleanOf items n i first passed d h
-      (judge-twice before (booleanOf (getD items i d)) e ∙ ap (λ (b : Bool). fault 5 (not b)) t)
 
 -- ---- families first, then booleans
 
@@ -183,17 +202,3 @@ bindable-first C first r e h =
 pub bindable-rest : (C : paper.Case) (k : ℕ) (r : Checked) → k ≡ paper.booleansAt C → r ≡ checkedOf (firstFault k (booleanFaults [] (C .booleans)) passed) → r ≡ booleansChecked C
 bindable-rest C k r e h =
     h ∙ ap (λ (k : ℕ). checkedOf (firstFault k (booleanFaults [] (C .booleans)) passed)) e ∙ fault-any (paper.booleansAt C) (booleanFaults [] (C .booleans)) 0 C
-
--- ---- the numbers that came before, in an array of their own
-
-pub any-numbers : {A B : Type 0} (g : A → ℕ) (h : A → B) (k : B → ℕ) → ((x : A) → k (h x) ≡ g x) → (v : ℕ) (xs : List A)
-    → anyOf (λ (e : ℕ). eqb e v) (map g xs) ≡ anyOf (λ (e : B). eqb (k e) v) (map h xs)
-unfolding anyOf
-any-numbers g h k same v [] = refl
-any-numbers g h k same v (x ∷ xs) = ap₂ _||_ (ap (λ (j : ℕ). eqb j v) (sym (same x))) (any-numbers g h k same v xs)
-
-pub numbers-next : {A : Type 0} (g : A → ℕ) (xs : List A) (earlier : List ℕ) (i : ℕ) (d : A) → i < length earlier → i < length xs → take i earlier ≡ map g (take i xs)
-    → take (i + 1) (set earlier i (g (getD xs i d))) ≡ map g (take (i + 1) xs)
-numbers-next g xs earlier i d h k e =
-    ap (λ (n : ℕ). take n (set earlier i (g (getD xs i d)))) (add-one i) ∙ take-suc-set earlier i (g (getD xs i d)) h
-    ∙ ap (λ (l : List ℕ). l ++ (g (getD xs i d) ∷ [])) e ∙ sym (front-more g xs i d k)

@@ -1,4 +1,4 @@
--- Of an accepted plan, what the masks ask: facts and persons named by number are below 64. Assumes nothing.
+-- Of an accepted plan, what the masks ask: facts and persons named by number are below 64.
 use Prim.Native.Nat.{ℕ, suc}
 use mathlib.Core.List.{List, [], _∷_}
 use native.Mathlib.Omega.{arith}

@@ -1,4 +1,4 @@
--- What a node says follows from the facts that it uses. Assumes nothing.
+-- What a node says follows from the facts that it uses.
 use mathlib.Core.Path.{_≡_, refl, ap, ap₂}
 use mathlib.Core.Bool.{Bool, true, _&&_, _||_, not}
 use mathlib.Core.List.{List, [], _∷_, _++_}

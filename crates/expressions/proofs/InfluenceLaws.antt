@@ -1,4 +1,4 @@
--- The closings that the code lists are the influence of facts and decisions; a variable's influence holds whom it touches, on the roster or off it. Assumes nothing.
+-- The closings that the code lists are the influence of facts and decisions; a variable's influence holds whom it touches, on the roster or off it.
 use mathlib.Core.Path.{_≡_, ap, ap₂, sym, subst, _∙_}
 use mathlib.Core.Bool.{Bool, true, not}
 use mathlib.Core.List.{List, _++_}

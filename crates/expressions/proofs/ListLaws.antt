@@ -1,4 +1,4 @@
--- Laws of lists that a loop goes through: what is left from an index on, of the entries in use of an array. Assumes nothing.
+-- Laws of lists that a loop goes through: what is left from an index on, of the entries in use of an array.
 use Prim.Native.Nat.{ℕ, zero, suc, _+_, _≤_, _<_, min}
 use mathlib.Core.Path.{_≡_, refl, sym, ap, ap₂, _∙_, subst}
 use mathlib.Core.Bool.{Bool, true, false, _&&_, _||_, cond, or-assoc, or-false}

@@ -1,4 +1,4 @@
--- A mask built by a test of each number. Assumes nothing.
+-- A mask built by a test of each number.
 use Prim.Native.Nat.{ℕ, zero, suc, _+_, _≤_, _<_}
 use mathlib.Core.Path.{_≡_, refl, sym, ap, ap₂, _∙_}
 use mathlib.Core.Bool.{Bool, true, false, _&&_, _||_, or-false}

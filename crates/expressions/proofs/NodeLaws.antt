@@ -1,11 +1,12 @@
--- Laws of the table of nodes: a node by its sort, values and uses one node at a time. Assumes nothing.
+-- Laws of the table of nodes: a node by its sort, values and uses one node at a time.
 use Prim.Native.Nat.{ℕ, zero, suc, _+_, _<_}
 use mathlib.Core.Path.{_≡_, refl, sym, ap, _∙_, subst}
-use mathlib.Core.Bool.{Bool, false, not}
+use mathlib.Core.Bool.{Bool, true, false, _&&_, _||_, not, Bool·beq}
 use mathlib.Core.List.{List, [], _∷_, _++_}
 use native.Mathlib.Nat.{add-zero}
 use native.Mathlib.Omega.{arith}
 use lib.ListN.{length, getD, set, length-append}
+use Rattle.records.specs.paper.Sets.{allOf, anyOf}
 use Rattle.records.specs.paper.Plan.{Node, literal, fact, conj, disj, neg}
 use Rattle.records.specs.code.Decoded.{nodeBy, planOf}
 use Rattle.records.specs.declared.plan.Plan.{Plan}
@@ -13,6 +14,24 @@ use Rattle.expressions.specs.paper.Nodes.{on, value, values, valuesFrom,
 use Rattle.expressions.specs.code.Coded.{Holds, nodesOf}
 use Rattle.expressions.proofs.ListLaws.{all-agree, any-agree, holds-next}
 use Rattle.expressions.proofs.UnionLaws.{union-agree}
+
+-- ---- whether one of them is true, or false
+
+pub any-true : {A : Type 0} (f : A → Bool) (xs : List A) → anyOf (λ x. Bool·beq (f x) true) xs ≡ anyOf f xs
+any-true f xs = any-agree (λ x. Bool·beq (f x) true) f (λ x. pick (f x)) xs
+  where
+    pick : (b : Bool) → Bool·beq b true ≡ b
+    pick true = refl
+    pick false = refl
+
+pub none-false : {A : Type 0} (f : A → Bool) (xs : List A) → not (anyOf (λ x. Bool·beq (f x) false) xs) ≡ allOf f xs
+unfolding anyOf allOf
+none-false f [] = refl
+none-false f (x ∷ xs) = pick (f x) (none-false f xs)
+  where
+    pick : (b : Bool) → not (anyOf (λ x. Bool·beq (f x) false) xs) ≡ allOf f xs → not (Bool·beq b false || anyOf (λ x. Bool·beq (f x) false) xs) ≡ (b && allOf f xs)
+    pick true e = e
+    pick false e = refl
 
 -- ---- a node by its sort
 

@@ -1,4 +1,4 @@
--- There are at most as many open decisions as unresolved entries in the plan's lists. Assumes nothing.
+-- There are at most as many open decisions as unresolved entries in the plan's lists.
 use Prim.Native.Nat.{ℕ, zero, suc, _+_, _≤_, _<_, zero-le}
 use mathlib.Core.Path.{_≡_, refl, sym, ap, ap₂, _∙_, subst, fun-ext}
 use mathlib.Core.Bool.{Bool, true, false, _&&_, _||_, cond, and-true, and-false}
@@ -16,10 +16,9 @@ use Rattle.records.specs.paper.Plan.{Plan, Decision, Cut, unresolvedIn, unresol
 use Rattle.records.specs.promises.Sound.{All, Sound}
 use Rattle.records.proofs.LoopLaws.{length-below, all-append}
 use Rattle.records.proofs.DecisionLaws.{unresolved-more}
-use Rattle.expressions.specs.code.Listed.{endsOf}
-use Rattle.expressions.specs.paper.Rules.{pair, edge, cut, cutCount, edgeCount}
-use Rattle.expressions.specs.paper.Influence.{Open, openIn, openBelow, openDecisions, openDecision, decisionTouch}
-use Rattle.expressions.specs.code.Undecided.{decides, pairOf, openAt, opensOf, openOf, openAll, Named, openTouch}
+use Rattle.expressions.specs.paper.Rules.{noCut, cutCount, edgeCount}
+use Rattle.expressions.specs.paper.Influence.{Open, hasVerdict, openIn, openBelow, openDecisions, openDecision, openTouch, decisionTouch}
+use Rattle.expressions.specs.code.Undecided.{pairOf, openAt, opensOf, Named}
 use Rattle.expressions.specs.declared.decisions.Undecided.{Undecided}
 use Rattle.expressions.proofs.ListLaws.{length-if}
 use Rattle.expressions.proofs.RuleLaws.{below-list}
@@ -61,11 +60,11 @@ count-one (suc n) a = pick (eqb a n) refl (count-one n a)
 
 -- ---- the open decisions of a cut, and of all cuts
 
-open-count : (ds : List Decision) (c n : ℕ) → length (openOf ds c n) ≡ countBelow n (λ e. decides e 3 ds)
-unfolding openOf countBelow
+open-count : (ds : List Decision) (c n : ℕ) → length (openIn ds c n) ≡ countBelow n (λ e. hasVerdict e 3 ds)
+unfolding openIn countBelow
 open-count ds c zero = refl
 open-count ds c (suc n) =
-    length-append (openOf ds c n) (cond (decides n 3 ds) (pairOf c n ∷ []) []) ∙ ap₂ _+_ (open-count ds c n) (length-if (decides n 3 ds) (pairOf c n))
+    length-append (openIn ds c n) (cond (hasVerdict n 3 ds) (pairOf c n ∷ []) []) ∙ ap₂ _+_ (open-count ds c n) (length-if (hasVerdict n 3 ds) (pairOf c n))
 
 count-entry : (n : ℕ) (d : Decision) → countBelow n (λ e. eqb (d .edge) e && eqb (d .verdict) 3) ≤ tally (eqb (d .verdict) 3)
 count-entry n d = pick (eqb (d .verdict) 3)
@@ -74,34 +73,29 @@ count-entry n d = pick (eqb (d .verdict) 3)
     pick true = subst (λ (f : ℕ → Bool). countBelow n f ≤ 1) (fun-ext (λ e. sym (and-true (eqb (d .edge) e)))) (count-one n (d .edge))
     pick false = let z = count-none n (λ e. eqb (d .edge) e && false) (λ i l. and-false (eqb (d .edge) i)) in omega arith
 
-count-entries : (n : ℕ) (ds : List Decision) → countBelow n (λ e. decides e 3 ds) ≤ unresolvedIn ds
+count-entries : (n : ℕ) (ds : List Decision) → countBelow n (λ e. hasVerdict e 3 ds) ≤ unresolvedIn ds
 unfolding anyOf unresolvedIn
 count-entries n [] = let z = count-none n (λ e. false) (λ i l. refl) in omega arith
 count-entries n (d ∷ ds) =
-    let h = count-or n (λ e. eqb (d .edge) e && eqb (d .verdict) 3) (λ e. decides e 3 ds) in
+    let h = count-or n (λ e. eqb (d .edge) e && eqb (d .verdict) 3) (λ e. hasVerdict e 3 ds) in
     let k = count-entry n d in
     let r = count-entries n ds in omega arith
 
-open-is : (P : Plan) (c n : ℕ) → openIn P c n ≡ openOf (cut P c .decisions) c n
-unfolding openIn openOf
-open-is P c zero = refl
-open-is P c (suc n) = ap (λ (l : List Open). l ++ cond (decides n 3 (cut P c .decisions)) (pairOf c n ∷ []) []) (open-is P c n)
-
-below-few : (P : Plan) (k : ℕ) → k ≤ length (P .cuts) → length (openBelow P k) ≤ unresolved (take k (P .cuts))
-unfolding openBelow cut
-below-few P zero h = zero-le
-below-few P (suc k) h =
-    let l = length-append (openBelow P k) (openIn P k (edgeCount P)) in
-    let a = ap length (open-is P k (edgeCount P)) in
-    let b = open-count (cut P k .decisions) k (edgeCount P) in
-    let c = count-entries (edgeCount P) (cut P k .decisions) in
-    let e = ap unresolved (take-suc (P .cuts) k _ h) ∙ unresolved-more (take k (P .cuts)) (cut P k) in
-    let r = below-few P k (omega arith) in
+below-few : (cs : List Cut) (edges k : ℕ) → k ≤ length cs → length (openBelow cs edges k) ≤ unresolved (take k cs)
+unfolding openBelow
+below-few cs edges zero h = zero-le
+below-few cs edges (suc k) h =
+    let x = getD cs k noCut in
+    let l = length-append (openBelow cs edges k) (openIn (x .decisions) k edges) in
+    let b = open-count (x .decisions) k edges in
+    let c = count-entries edges (x .decisions) in
+    let e = ap unresolved (take-suc cs k noCut h) ∙ unresolved-more (take k cs) x in
+    let r = below-few cs edges k (omega arith) in
     omega arith
 
 pub open-few : (P : Plan) → length (openDecisions P) ≤ unresolved (P .cuts)
 unfolding openDecisions
-open-few P = let h = below-few P (length (P .cuts)) (le-refl (length (P .cuts))) in let e = ap unresolved (take-length (P .cuts)) in omega arith
+open-few P = let h = below-few (P .cuts) (edgeCount P) (length (P .cuts)) (le-refl (length (P .cuts))) in let e = ap unresolved (take-length (P .cuts)) in omega arith
 
 -- ---- they only grow
 
@@ -111,39 +105,34 @@ grows f step m n h = le-ind (λ (k : ℕ). f m ≤ f k) (le-refl (f m)) (λ k l 
 longer : (xs ys : List Open) → length xs ≤ length (xs ++ ys)
 longer xs ys = let l = length-append xs ys in omega arith
 
-open-more : (ds : List Decision) (c n : ℕ) → length (openOf ds c n) ≤ length (openOf ds c (suc n))
-unfolding openOf
-open-more ds c n = longer (openOf ds c n) (cond (decides n 3 ds) (pairOf c n ∷ []) [])
+open-more : (ds : List Decision) (c n : ℕ) → length (openIn ds c n) ≤ length (openIn ds c (suc n))
+unfolding openIn
+open-more ds c n = longer (openIn ds c n) (cond (hasVerdict n 3 ds) (pairOf c n ∷ []) [])
 
-pub open-grows : (ds : List Decision) (c m n : ℕ) → m ≤ n → length (openOf ds c m) ≤ length (openOf ds c n)
-open-grows ds c = grows (λ n. length (openOf ds c n)) (open-more ds c)
+pub open-grows : (ds : List Decision) (c m n : ℕ) → m ≤ n → length (openIn ds c m) ≤ length (openIn ds c n)
+open-grows ds c = grows (λ n. length (openIn ds c n)) (open-more ds c)
 
-all-more : (cs : List Cut) (edges k : ℕ) → length (openAll cs edges k) ≤ length (openAll cs edges (suc k))
-unfolding openAll
-all-more cs edges k = longer (openAll cs edges k) _
+all-more : (cs : List Cut) (edges k : ℕ) → length (openBelow cs edges k) ≤ length (openBelow cs edges (suc k))
+unfolding openBelow
+all-more cs edges k = longer (openBelow cs edges k) _
 
-all-grows : (cs : List Cut) (edges m n : ℕ) → m ≤ n → length (openAll cs edges m) ≤ length (openAll cs edges n)
-all-grows cs edges = grows (λ k. length (openAll cs edges k)) (all-more cs edges)
+all-grows : (cs : List Cut) (edges m n : ℕ) → m ≤ n → length (openBelow cs edges m) ≤ length (openBelow cs edges n)
+all-grows cs edges = grows (λ k. length (openBelow cs edges k)) (all-more cs edges)
 
 -- ---- one edge more, and one cut more, at the code's + 1
 
-pub open-yes : (ds : List Decision) (c e : ℕ) → decides e 3 ds ≡ true → openOf ds c (e + 1) ≡ openOf ds c e ++ (pairOf c e ∷ [])
-unfolding openOf
-open-yes ds c e h = ap (openOf ds c) (add-one e) ∙ ap (λ (b : Bool). openOf ds c e ++ cond b (pairOf c e ∷ []) []) h
+pub open-yes : (ds : List Decision) (c e : ℕ) → hasVerdict e 3 ds ≡ true → openIn ds c (e + 1) ≡ openIn ds c e ++ (pairOf c e ∷ [])
+unfolding openIn
+open-yes ds c e h = ap (openIn ds c) (add-one e) ∙ ap (λ (b : Bool). openIn ds c e ++ cond b (pairOf c e ∷ []) []) h
 
-pub open-no : (ds : List Decision) (c e : ℕ) → decides e 3 ds ≡ false → openOf ds c (e + 1) ≡ openOf ds c e
-unfolding openOf
-open-no ds c e h = ap (openOf ds c) (add-one e) ∙ ap (λ (b : Bool). openOf ds c e ++ cond b (pairOf c e ∷ []) []) h ∙ append-nil (openOf ds c e)
+pub open-no : (ds : List Decision) (c e : ℕ) → hasVerdict e 3 ds ≡ false → openIn ds c (e + 1) ≡ openIn ds c e
+unfolding openIn
+open-no ds c e h = ap (openIn ds c) (add-one e) ∙ ap (λ (b : Bool). openIn ds c e ++ cond b (pairOf c e ∷ []) []) h ∙ append-nil (openIn ds c e)
 
 pub all-next : (cs : List Cut) (edges k : ℕ) (ds : List Decision) → ((d : Cut) → getD cs k d .decisions ≡ ds)
-    → openAll cs edges (k + 1) ≡ openAll cs edges k ++ openOf ds k edges
-unfolding openAll
-all-next cs edges k ds e = ap (openAll cs edges) (add-one k) ∙ ap (λ (x : List Decision). openAll cs edges k ++ openOf x k edges) (e _)
-
-pub open-all : (P : Plan) (k : ℕ) → openBelow P k ≡ openAll (P .cuts) (edgeCount P) k
-unfolding openBelow openAll cut
-open-all P zero = refl
-open-all P (suc k) = ap₂ _++_ (open-all P k) (open-is P k (edgeCount P))
+    → openBelow cs edges (k + 1) ≡ openBelow cs edges k ++ openIn ds k edges
+unfolding openBelow
+all-next cs edges k ds e = ap (openBelow cs edges) (add-one k) ∙ ap (λ (x : List Decision). openBelow cs edges k ++ openIn x k edges) (e _)
 
 -- ---- the code's list has room for them
 
@@ -158,47 +147,47 @@ opens-count a b os e = sym (opens-length b) ∙ ap length e ∙ length-append (o
 pub opens-number : (u : Undecided) (os : List Open) → opensOf u ≡ os → u .count ≡ length os
 opens-number u os e = sym (opens-length u) ∙ ap length e
 
-pub room : (a b : Undecided) (ds : List Decision) (c e n : ℕ) → opensOf b ≡ opensOf a ++ openOf ds c e → decides e 3 ds ≡ true → e < n
-    → a .count + length (openOf ds c n) ≤ 16 → b .count < 16
+pub room : (a b : Undecided) (ds : List Decision) (c e n : ℕ) → opensOf b ≡ opensOf a ++ openIn ds c e → hasVerdict e 3 ds ≡ true → e < n
+    → a .count + length (openIn ds c n) ≤ 16 → b .count < 16
 room a b ds c e n k h l r =
-    let x = opens-count a b (openOf ds c e) k in
-    let y = ap length (open-yes ds c e h) ∙ length-append (openOf ds c e) (pairOf c e ∷ []) in
+    let x = opens-count a b (openIn ds c e) k in
+    let y = ap length (open-yes ds c e h) ∙ length-append (openIn ds c e) (pairOf c e ∷ []) in
     let g = open-grows ds c (e + 1) n (omega arith) in
     omega arith
 
-pub room-all : (cs : List Cut) (edges k n : ℕ) (u : Undecided) (os : List Open) → opensOf u ≡ openAll cs edges k
-    → openAll cs edges (k + 1) ≡ openAll cs edges k ++ os → k < n → length (openAll cs edges n) ≤ 16 → u .count + length os ≤ 16
+pub room-all : (cs : List Cut) (edges k n : ℕ) (u : Undecided) (os : List Open) → opensOf u ≡ openBelow cs edges k
+    → openBelow cs edges (k + 1) ≡ openBelow cs edges k ++ os → k < n → length (openBelow cs edges n) ≤ 16 → u .count + length os ≤ 16
 room-all cs edges k n u os e s h r =
-    let x = opens-number u (openAll cs edges k) e in
-    let y = ap length s ∙ length-append (openAll cs edges k) os in
+    let x = opens-number u (openBelow cs edges k) e in
+    let y = ap length s ∙ length-append (openBelow cs edges k) os in
     let g = all-grows cs edges (k + 1) n (omega arith) in
     omega arith
 
-pub all-few : (P : Plan) → Sound P → length (openAll (P .cuts) (edgeCount P) (cutCount P)) ≤ 16
+pub all-few : (P : Plan) → Sound P → length (openBelow (P .cuts) (edgeCount P) (cutCount P)) ≤ 16
 unfolding openDecisions
-all-few P sound = let e = ap length (open-all P (cutCount P)) in let f = open-few P in let d = sound .decisionLimit in omega arith
+all-few P sound = let f = open-few P in let d = sound .decisionLimit in omega arith
 
 -- ---- they name cuts and edges of the plan
 
-some-named : (k n c m : ℕ) (ds : List Decision) → c < k → m ≤ n → All (Named k n) (openOf ds c m)
-unfolding openOf
+some-named : (k n c m : ℕ) (ds : List Decision) → c < k → m ≤ n → All (Named k n) (openIn ds c m)
+unfolding openIn
 some-named k n c zero ds h l = tt
-some-named k n c (suc m) ds h l = all-append (Named k n) (openOf ds c m) _ (some-named k n c m ds h (omega arith)) (pick (decides m 3 ds))
+some-named k n c (suc m) ds h l = all-append (Named k n) (openIn ds c m) _ (some-named k n c m ds h (omega arith)) (pick (hasVerdict m 3 ds))
   where
     pick : (b : Bool) → All (Named k n) (cond b (pairOf c m ∷ []) [])
     pick true = ((h, l), tt)
     pick false = tt
 
-below-named : (cs : List Cut) (k n m : ℕ) → m ≤ k → All (Named k n) (openAll cs n m)
-unfolding openAll
+below-named : (cs : List Cut) (k n m : ℕ) → m ≤ k → All (Named k n) (openBelow cs n m)
+unfolding openBelow
 below-named cs k n zero l = tt
-below-named cs k n (suc m) l = all-append (Named k n) (openAll cs n m) _ (below-named cs k n m (omega arith)) (some-named k n m n _ l (le-refl n))
+below-named cs k n (suc m) l = all-append (Named k n) (openBelow cs n m) _ (below-named cs k n m (omega arith)) (some-named k n m n _ l (le-refl n))
 
 pub all-named : (P : Plan) → All (Named (cutCount P) (edgeCount P)) (openDecisions P)
 unfolding openDecisions
-all-named P = subst (All (Named (cutCount P) (edgeCount P))) (sym (open-all P (cutCount P))) (below-named (P .cuts) (cutCount P) (edgeCount P) (cutCount P) (le-refl (cutCount P)))
+all-named P = below-named (P .cuts) (cutCount P) (edgeCount P) (cutCount P) (le-refl (cutCount P))
 
 -- "for a decision, the cut's members and the edge's ends"
-pub open-touches : (P : Plan) → map (openTouch (P .cuts) (P .edges)) (openDecisions P) ≡ below (length (openDecisions P)) (decisionTouch P)
-unfolding decisionTouch openDecision openTouch cut pair edge endsOf
-open-touches P = sym (below-list (openTouch (P .cuts) (P .edges)) _ (openDecisions P))
+pub open-touches : (P : Plan) → map (openTouch P) (openDecisions P) ≡ below (length (openDecisions P)) (decisionTouch P)
+unfolding decisionTouch openDecision
+open-touches P = sym (below-list (openTouch P) _ (openDecisions P))

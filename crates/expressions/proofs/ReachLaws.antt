@@ -1,4 +1,4 @@
--- What the code lists as influence is the influence that document 01 gives each variable, and what it joins is what makes a circle; the frame of a case. Assumes nothing.
+-- What the code lists as influence is the influence that document 01 gives each variable, and what it joins is what makes a circle; the frame of a case.
 use Prim.Native.Nat.{ℕ, _<_}
 use mathlib.Core.Path.{_≡_, sym, ap, ap₂, _∙_}
 use mathlib.Core.List.{List, [], _∷_, _++_}

@@ -1,4 +1,4 @@
--- What is left of a list from its entry i on: one entry and the rest, or nothing. Assumes nothing.
+-- What is left of a list from its entry i on: one entry and the rest, or nothing.
 use mathlib.Core.Path.{_≡_, refl, ap, _∙_}
 use mathlib.Core.List.{List, [], _∷_, map}
 use Prim.Native.Nat.{ℕ, _+_, _≤_, _<_, min}

@@ -1,23 +1,24 @@
--- Laws of what the code keeps of a fact's observations, and the binding that follows. Assumes nothing.
+-- Laws of what the code keeps of a fact's observations, and the binding that follows.
 use mathlib.Core.Path.{_≡_, refl, sym, ap, ap₂, _∙_}
 use mathlib.Core.Bool.{Bool, true, false, _&&_, _||_, not, cond, or-assoc, or-true, or-false}
 use mathlib.Core.List.{List, [], _∷_, _++_, map, flatMap}
 use Prim.Native.Nat.{ℕ, _+_, _≤_, _<_, min}
-use lib.ListN.{length, getD, take, drop}
+use native.Mathlib.Omega.{arith}
+use lib.ListN.{length, getD, take, drop, set, length-set}
 use lib.Dec.{eqb, eqb·suc-zero}
 use borrow.Author.Tests.{eqb-true, eqb-false, eq-eqb, ne-eqb}
 use Rattle.records.specs.paper.Sets.{allOf, below}
 use Rattle.records.specs.paper.Case as paper
 use Rattle.records.specs.paper.Case.{Observation}
-use Rattle.records.specs.code.Decoded.{observationsOf, booleanOf, relationOf}
+use Rattle.records.specs.code.Decoded.{booleanOf}
 use Rattle.records.specs.declared.case.Boolean.{Boolean}
-use Rattle.records.specs.declared.case.Relation.{Relation}
-use Rattle.expressions.specs.declared.observations.Seen.{Seen}
-use Rattle.expressions.specs.paper.Bindings.{Bound, known, conflict, just, both, sameObservation, valuesSeen, weighed, observedInBooleans, observedInRelations, unknownIn}
-use Rattle.expressions.specs.code.Seen.{nothing, lookAt, lookAll, boundBy}
+use Rattle.expressions.specs.declared.observations.Sight.{Sight}
+use Rattle.expressions.specs.paper.Bindings.{Bound, known, conflict, just, both, sameObservation, valuesSeen, weighed, unknownIn}
+use Rattle.expressions.specs.code.Sight.{nothing, lookAt, lookAll, boundBy}
+use Rattle.expressions.proofs.ListLaws.{changed-at}
 use Rattle.expressions.proofs.Rests.{below-next, below-none, made-next, made-none}
 
-pub look-append : (s : Seen) (xs ys : List Observation) → lookAll s (xs ++ ys) ≡ lookAll (lookAll s xs) ys
+pub look-append : (s : Sight) (xs ys : List Observation) → lookAll s (xs ++ ys) ≡ lookAll (lookAll s xs) ys
 unfolding lookAll
 look-append s [] ys = refl
 look-append s (o ∷ xs) ys = look-append (lookAt s o) xs ys
@@ -27,66 +28,76 @@ look-append s (o ∷ xs) ys = look-append (lookAt s o) xs ys
 abbrev pub pairs : ℕ → List ℕ → List ℕ → List Observation
 pairs n values evidence = below n (λ i. record { value = getD values i 0; evidence = getD evidence i 0 })
 
-pub pairs-next : (s : Seen) (n : ℕ) (values evidence : List ℕ) (i : ℕ) → i < n
+pub pairs-next : (s : Sight) (n : ℕ) (values evidence : List ℕ) (i : ℕ) → i < n
     → lookAll s (drop i (pairs n values evidence))
     ≡ lookAll (lookAt s (record { value = getD values i 0; evidence = getD evidence i 0 })) (drop (i + 1) (pairs n values evidence))
 unfolding lookAll
 pairs-next s n values evidence i h = ap (lookAll s) (below-next n (λ i. record { value = getD values i 0; evidence = getD evidence i 0 }) i h)
 
-pub pairs-none : (s : Seen) (n : ℕ) (values evidence : List ℕ) (i : ℕ) → n ≤ i → lookAll s (drop i (pairs n values evidence)) ≡ s
+pub pairs-none : (s : Sight) (n : ℕ) (values evidence : List ℕ) (i : ℕ) → n ≤ i → lookAll s (drop i (pairs n values evidence)) ≡ s
 unfolding lookAll
 pairs-none s n values evidence i h = ap (lookAll s) (below-none n (λ i. record { value = getD values i 0; evidence = getD evidence i 0 }) i h)
 
--- ---- the boolean records
+-- ---- the records of a kind: each has a fact and observations
 
-boolean-first : (s : Seen) (f : ℕ) (b : Boolean) (bs : List paper.Boolean)
-    → lookAll s (observedInBooleans (booleanOf b ∷ bs) f) ≡ lookAll (cond (eqb (b .fact) f) (lookAll s (observationsOf (b .observations))) s) (observedInBooleans bs f)
-unfolding observedInBooleans booleanOf flatMap lookAll
-boolean-first s f b bs = pick (eqb (b .fact) f)
-  where
-    pick : (t : Bool) → lookAll s (cond t (observationsOf (b .observations)) [] ++ observedInBooleans bs f)
-        ≡ lookAll (cond t (lookAll s (observationsOf (b .observations))) s) (observedInBooleans bs f)
-    pick true = look-append s (observationsOf (b .observations)) (observedInBooleans bs f)
-    pick false = refl
+module _ {A B : Type 0} (make : A → B) (fact : B → ℕ) (seen : B → List Observation) where
+  -- what they have on a fact
+  abbrev pub seenOn : List B → ℕ → List Observation
+  seenOn xs f = flatMap (λ x. cond (eqb (fact x) f) (seen x) []) xs
 
-pub booleans-next : (s t : Seen) (items : List Boolean) (n f i : ℕ) (d : Boolean) → i < min n (length items)
-    → t ≡ cond (eqb (getD items i d .fact) f) (lookAll s (observationsOf (getD items i d .observations))) s
-    → lookAll t (observedInBooleans (drop (i + 1) (map booleanOf (take n items))) f) ≡ lookAll s (observedInBooleans (drop i (map booleanOf (take n items))) f)
-booleans-next s t items n f i d h e =
-    ap (λ (x : Seen). lookAll x (observedInBooleans (drop (i + 1) (map booleanOf (take n items))) f)) e
-    ∙ sym (boolean-first s f (getD items i d) (drop (i + 1) (map booleanOf (take n items))))
-    ∙ ap (λ (bs : List paper.Boolean). lookAll s (observedInBooleans bs f)) (sym (made-next booleanOf items n i d h))
+  first : (s : Sight) (f : ℕ) (x : B) (xs : List B) → lookAll s (seenOn (x ∷ xs) f) ≡ lookAll (cond (eqb (fact x) f) (lookAll s (seen x)) s) (seenOn xs f)
+  unfolding flatMap lookAll
+  first s f x xs = pick (eqb (fact x) f)
+    where
+      pick : (t : Bool) → lookAll s (cond t (seen x) [] ++ seenOn xs f) ≡ lookAll (cond t (lookAll s (seen x)) s) (seenOn xs f)
+      pick true = look-append s (seen x) (seenOn xs f)
+      pick false = refl
 
-pub booleans-none : (s : Seen) (items : List Boolean) (n f i : ℕ) → min n (length items) ≤ i
-    → lookAll s (observedInBooleans (drop i (map booleanOf (take n items))) f) ≡ s
-unfolding observedInBooleans flatMap lookAll
-booleans-none s items n f i h = ap (λ (bs : List paper.Boolean). lookAll s (observedInBooleans bs f)) (made-none booleanOf items n i h)
+  -- of each fact: what the records from i on have, seen after what was seen, gives the whole
+  pub record Looking (items : List A) (count most : ℕ) (old : List Sight) (n : ℕ) (table : List Sight) (i : ℕ) : Type 0 where
+    pub long : length items ≡ most
+    pub room : length table ≡ 64
+    pub some : n ≡ min count most
+    pub few : i ≤ n
+    pub left : (f : ℕ) → f < 64 → lookAll (getD table f nothing) (seenOn (drop i (map make (take count items))) f) ≡ lookAll (getD old f nothing) (seenOn (map make (take count items)) f)
 
--- ---- the relation records
+module _ {A B : Type 0} {make : A → B} {fact : B → ℕ} {seen : B → List Observation} {items : List A} {count most : ℕ} {old : List Sight} {n : ℕ} where
+  pub looking-none : length items ≡ most → length old ≡ 64 → n ≡ min count most → Looking make fact seen items count most old n old 0
+  looking-none l r s = record { long = l; room = r; some = s; few = omega arith; left = λ f h. refl }
 
-relation-first : (s : Seen) (f : ℕ) (r : Relation) (rs : List paper.Relation)
-    → lookAll s (observedInRelations (relationOf r ∷ rs) f)
-    ≡ lookAll (cond (eqb (r .fact) f) (lookAt s (record { value = r .value; evidence = r .evidence })) s) (observedInRelations rs f)
-unfolding observedInRelations relationOf flatMap lookAll
-relation-first s f r rs = pick (eqb (r .fact) f)
-  where
-    pick : (t : Bool) → lookAll s (cond t (record { value = r .value; evidence = r .evidence } ∷ []) [] ++ observedInRelations rs f)
-        ≡ lookAll (cond t (lookAt s (record { value = r .value; evidence = r .evidence })) s) (observedInRelations rs f)
-    pick true = refl
-    pick false = refl
+  module _ {table : List Sight} {i : ℕ} (w : Looking make fact seen items count most old n table i) where
+    pub looking-end : n ≤ i → (f : ℕ) → f < 64 → getD table f nothing ≡ lookAll (getD old f nothing) (seenOn make fact seen (map make (take count items)) f)
+    unfolding flatMap lookAll
+    looking-end l f h =
+        sym (ap (λ (xs : List B). lookAll (getD table f nothing) (seenOn make fact seen xs f)) (made-none make items count i (omega (arith, w .long, w .some)))) ∙ w .left f h
 
-pub relations-next : (s t : Seen) (items : List Relation) (n f i : ℕ) (d : Relation) → i < min n (length items)
-    → t ≡ cond (eqb (getD items i d .fact) f) (lookAt s (record { value = getD items i d .value; evidence = getD items i d .evidence })) s
-    → lookAll t (observedInRelations (drop (i + 1) (map relationOf (take n items))) f) ≡ lookAll s (observedInRelations (drop i (map relationOf (take n items))) f)
-relations-next s t items n f i d h e =
-    ap (λ (x : Seen). lookAll x (observedInRelations (drop (i + 1) (map relationOf (take n items))) f)) e
-    ∙ sym (relation-first s f (getD items i d) (drop (i + 1) (map relationOf (take n items))))
-    ∙ ap (λ (rs : List paper.Relation). lookAll s (observedInRelations rs f)) (sym (made-next relationOf items n i d h))
+    module _ (l : i < n) (d : A) where
+      abbrev here : B
+      here = make (getD items i d)
 
-pub relations-none : (s : Seen) (items : List Relation) (n f i : ℕ) → min n (length items) ≤ i
-    → lookAll s (observedInRelations (drop i (map relationOf (take n items))) f) ≡ s
-unfolding observedInRelations flatMap lookAll
-relations-none s items n f i h = ap (λ (rs : List paper.Relation). lookAll s (observedInRelations rs f)) (made-none relationOf items n i h)
+      one-more : (t : List Sight) → length t ≡ 64 → ((f : ℕ) → f < 64 → getD t f nothing ≡ cond (eqb (fact here) f) (lookAll (getD table f nothing) (seen here)) (getD table f nothing))
+          → Looking make fact seen items count most old n t (i + 1)
+      one-more t r e = record {
+        long = w .long;
+        room = r;
+        some = w .some;
+        few = omega arith;
+        left = λ f h.
+            let rest = drop (i + 1) (map make (take count items)) in
+            ap (λ (s : Sight). lookAll s (seenOn make fact seen rest f)) (e f h) ∙ sym (first make fact seen (getD table f nothing) f here rest)
+            ∙ ap (λ (xs : List B). lookAll (getD table f nothing) (seenOn make fact seen xs f)) (sym (made-next make items count i d (omega (arith, w .long, w .some)))) ∙ w .left f h;
+      }
+
+      -- what the record has is looked at under its fact, or has no place
+      pub looking-next : (g : ℕ) (v : Sight) → g ≡ fact here → g < 64 → v ≡ lookAll (getD table g nothing) (seen here) → Looking make fact seen items count most old n (set table g v) (i + 1)
+      looking-next g v same small e =
+          one-more (set table g v) (length-set table g v ∙ w .room) (λ f h.
+          changed-at table g f (λ (s : Sight). lookAll s (seen here)) v nothing (omega (arith, w .room)) e
+          ∙ ap (λ (k : ℕ). cond (eqb k f) (lookAll (getD table f nothing) (seen here)) (getD table f nothing)) same)
+
+      pub looking-past : (g : ℕ) → g ≡ fact here → 64 ≤ g → Looking make fact seen items count most old n table (i + 1)
+      looking-past g same big =
+          one-more table (w .room) (λ f h. sym (ap (λ (t : Bool). cond t (lookAll (getD table f nothing) (seen here)) (getD table f nothing)) (ne-eqb (fact here) f (λ q. omega arith))))
 
 -- ---- explicit unknown
 
@@ -131,7 +142,7 @@ eqb-swap a b = pick (eqb a b) refl
 
 module _ (v e : ℕ) where
   -- what is kept once the first pair was value v with evidence e
-  abbrev from : Bool → Bool → Seen
+  abbrev from : Bool → Bool → Sight
   from d t = record { any = true; value = v; evidence = e; differs = d; both = t }
 
   abbrev same : List Observation → Bool
@@ -162,18 +173,18 @@ module _ (v e : ℕ) where
           → ((d t : Bool) → lookAll (from d t) os ≡ from (d || not (same os)) (t || not (agree os)))
           → lookAll (lookAt (from d t) o) os ≡ from (d || not ((eqb v (o .value) && eqb e (o .evidence)) && same os)) (t || not (eqb (o .value) v && agree os))
       pick false y x k ih =
-          ap (λ (s : Seen). lookAll s os) (at-other d t o x) ∙ ih true true
+          ap (λ (s : Sight). lookAll s os) (at-other d t o x) ∙ ih true true
           ∙ rw (eqb-swap v (o .value), x) (ap₂ from (sym (or-true d)) (sym (or-true t)))
       pick true false x k ih =
-          ap (λ (s : Seen). lookAll s os) (at-differs d t o x k) ∙ ih true t
+          ap (λ (s : Sight). lookAll s os) (at-differs d t o x k) ∙ ih true t
           ∙ rw (eqb-swap v (o .value), eqb-swap e (o .evidence), x, k) (ap (λ (b : Bool). from b (t || not (agree os))) (sym (or-true d)))
-      pick true true x k ih = ap (λ (s : Seen). lookAll s os) (at-same d t o x k) ∙ ih d t ∙ rw (eqb-swap v (o .value), eqb-swap e (o .evidence), x, k)
+      pick true true x k ih = ap (λ (s : Sight). lookAll s os) (at-same d t o x k) ∙ ih d t ∙ rw (eqb-swap v (o .value), eqb-swap e (o .evidence), x, k)
 
 pub look-bound : (os : List Observation) (silent : Bound) → boundBy (lookAll nothing os) silent ≡ weighed os silent
 unfolding boundBy weighed lookAll lookAt valuesSeen
 look-bound [] silent = refl
 look-bound (o ∷ os) silent =
-    ap (λ (s : Seen). boundBy s silent) (look-result (o .value) (o .evidence) false false os)
+    ap (λ (s : Sight). boundBy s silent) (look-result (o .value) (o .evidence) false false os)
     ∙ pick (same (o .value) (o .evidence) os) (agree (o .value) (o .evidence) os)
   where
     pick : (a b : Bool)
@@ -188,4 +199,4 @@ look-bound (o ∷ os) silent =
 pub look-any : (os : List Observation) → lookAll nothing os .any ≡ not (eqb (length os) 0)
 unfolding lookAll lookAt
 look-any [] = refl
-look-any (o ∷ os) = ap (λ (s : Seen). s .any) (look-result (o .value) (o .evidence) false false os) ∙ sym (ap not (eqb·suc-zero (length os)))
+look-any (o ∷ os) = ap (λ (s : Sight). s .any) (look-result (o .value) (o .evidence) false false os) ∙ sym (ap not (eqb·suc-zero (length os)))

@@ -1,4 +1,4 @@
--- What is gathered of a fact binds it as the definitions do, and says whether it took its default. Assumes nothing.
+-- What is gathered of a fact binds it as the definitions do, and says whether it took its default.
 use mathlib.Core.Path.{_≡_, refl, sym, ap, ap₂, _∙_}
 use mathlib.Core.Bool.{Bool, true, false, _&&_, not, cond, Bool·not-not}
 use mathlib.Core.List.{List, [], _∷_, map}
@@ -21,10 +21,10 @@ use Rattle.records.proofs.NamingLaws.{boolean-of, family-of}
 use Rattle.records.proofs.Listing.{below-ext}
 use Rattle.expressions.specs.paper.Rules.{factCount}
 use Rattle.expressions.specs.paper.Bindings.{Bound, unbound, unknown, observed, saidUnknown, elections, byDefault, defaultOf, scoped, inFamily, boundBoolean, bindingBy, bindingsBy, bindingAt, tookDefaultBy}
-use Rattle.expressions.specs.code.Seen.{nothing, boundBy}
+use Rattle.expressions.specs.code.Sight.{nothing, boundBy}
 use Rattle.expressions.specs.code.Codes.{boundOf, silentCode}
-use Rattle.expressions.specs.code.Told.{Tells, booleanBy, relationBy, bindingFrom, defaultFrom}
-use Rattle.expressions.specs.declared.observations.Seen.{Seen}
+use Rattle.expressions.specs.code.Told.{TellsFact, booleanBy, relationBy, bindingFrom, defaultFrom}
+use Rattle.expressions.specs.declared.observations.Sight.{Sight}
 use Rattle.expressions.specs.declared.observations.Sights.{Sights}
 use Rattle.expressions.specs.declared.elections.Elected.{Elected}
 use Rattle.expressions.specs.declared.bindings.Told.{Told}
@@ -39,7 +39,7 @@ swapped : {A : Type 0} (b : Bool) (x y : A) → cond (not b) x y ≡ cond b y x
 swapped true x y = refl
 swapped false x y = refl
 
-module _ (P : paper.Plan) (C : Case) (f : ℕ) (t : Told) (told : Tells P C f t) where
+module _ (P : paper.Plan) (C : Case) (f : ℕ) (t : Told) (told : TellsFact P C f t) where
   boolean-told : booleanBy t ≡ boundBoolean P C f
   unfolding booleanBy boundBoolean
   boolean-told =
@@ -57,7 +57,7 @@ module _ (P : paper.Plan) (C : Case) (f : ℕ) (t : Told) (told : Tells P C f t)
       pick : (b : Bool) → eqb (silentCode ms) 0 ≡ b → cond b unknown (boundBy (t .seen) (boundOf (silentCode ms))) ≡ inFamily ms (observed C f)
       pick true e = family-none ms (observed C f) (eqb-true _ _ e)
       pick false e =
-          ap (λ (s : Seen). boundBy s (boundOf (silentCode ms))) (told .seen) ∙ look-bound (observed C f) (boundOf (silentCode ms))
+          ap (λ (s : Sight). boundBy s (boundOf (silentCode ms))) (told .seen) ∙ look-bound (observed C f) (boundOf (silentCode ms))
           ∙ family-some ms (observed C f) (eqb-false _ _ e)
 
   module _ (x : Fact) (is : factOf x ≡ getFact P f) (set : ℕ) where
@@ -81,7 +81,7 @@ module _ (P : paper.Plan) (C : Case) (f : ℕ) (t : Told) (told : Tells P C f t)
     told-default =
         ap₂ _&&_ (ap (λ (b : Bool). has set f && b) (sym sort))
         (ap₂ _&&_
-        (ap₂ _&&_ (ap not (told .unknown) ∙ Bool·not-not (eqb (length (saidUnknown C f)) 0)) (ap not (ap (λ (s : Seen). s .any) (told .seen) ∙ look-any (observed C f)) ∙ Bool·not-not (eqb (length (observed C f)) 0)))
+        (ap₂ _&&_ (ap not (told .unknown) ∙ Bool·not-not (eqb (length (saidUnknown C f)) 0)) (ap not (ap (λ (s : Sight). s .any) (told .seen) ∙ look-any (observed C f)) ∙ Bool·not-not (eqb (length (observed C f)) 0)))
         (ap (λ (bs : List Bool). not (eqb (length bs) 0)) (ap defaultOf (told .election) ∙ default-first (elections P f))))
 
 -- ---- by number, from the tables
@@ -100,7 +100,7 @@ abbrev pub defaultAt : ℕ → Facts → Sights → ℕ → Elected → ℕ → 
 defaultAt set facts sights said elected f = defaultFrom (has set f) (getD (facts .items) f noFact) (toldAt sights said elected f)
 
 module _ (p : CodedPlan) (c : CodedCase) (set n scope said : ℕ) (sights : Sights) (elected : Elected) (long : length (p .facts .items) ≡ 64) (some : n ≡ min (p .facts .count) 64)
-    (scoped : scope ≡ caseHeading (caseOf c) .scope) (tells : (f : ℕ) → f < 64 → Tells (planOf p) (caseOf c) f (toldAt sights said elected f)) where
+    (scoped : scope ≡ caseHeading (caseOf c) .scope) (tells : (f : ℕ) → f < 64 → TellsFact (planOf p) (caseOf c) f (toldAt sights said elected f)) where
   abbrev facts : Facts
   facts = p .facts
 

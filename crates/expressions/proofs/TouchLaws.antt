@@ -1,13 +1,13 @@
--- Whom a fact touches and which facts are bound, from the list of rules: what document 01 says kind by kind. Assumes nothing.
+-- Whom a fact touches and which facts are bound, from the list of rules: what document 01 says kind by kind.
 use Prim.Native.Nat.{ℕ, zero, suc}
 use mathlib.Core.Path.{_≡_, refl, sym, ap, ap₂, _∙_, subst, fun-ext}
 use mathlib.Core.List.{List, [], _∷_, _++_, map, append-assoc}
 use lib.ListN.{length, getD}
 use Rattle.records.specs.paper.Sets.{has, one, union, only, setOf, below, numbers, unionBelow, unionOf}
 use Rattle.records.specs.paper.Plan.{getFact}
-use Rattle.expressions.specs.paper.Rules.{edge, cut, attachment, bar, status, pair, span}
+use Rattle.expressions.specs.paper.Rules.{edge, cut, attachment, bar, status, pair, withAnchor}
 use Rattle.expressions.specs.paper.Influence.{Frame, usesAt, edgeUses, cutUses, attachmentUses, barUses, statusUses, usersOf, constraintUses, boundFacts, touched, touch, touches}
-use Rattle.expressions.specs.code.Listed.{endsOf, spanOf, edgeUsed, cutUsed, cutHolds, attachmentUsed, barUsed, barHolds, statusUsed, statusHolds, joiningUses, ruleUses, rulePersons, usersIn, touchedBy, touchBy, touchesBy}
+use Rattle.expressions.specs.code.Listed.{endsOf, withAnchorOf, edgeUsed, cutUsed, heldByCut, attachmentUsed, barUsed, heldByBar, statusUsed, heldByStatus, joiningUses, ruleUses, personsByRule, usersIn, touchedBy, touchBy, touchesBy}
 use Rattle.expressions.specs.code.Coded.{Holds}
 use Rattle.expressions.proofs.ListLaws.{below-last}
 use Rattle.expressions.proofs.UnionLaws.{union-assoc, union-none, none-union, union-append}
@@ -71,36 +71,36 @@ module _ (F : Frame) where
       ∙ sym (union-five (map (edgeUsed at) (P .edges)) (map (cutUsed at) (P .cuts)) (map (attachmentUsed at) (P .attachments)) (map (barUsed at) (P .bars)) (map (statusUsed at) (P .statuses))))
 
   -- "all persons of rules using it (defeaters too)"
-  users-all : (f : ℕ) → usersIn f (ruleUses (usesAt (F .plan)) (F .plan)) (rulePersons (F .plan))
+  users-all : (f : ℕ) → usersIn f (ruleUses (usesAt (F .plan)) (F .plan)) (personsByRule (F .plan))
       ≡ union (usersOf (length (F .plan .edges)) (edgeUses (F .plan)) (pair (F .plan)) f)
       (union (usersOf (length (F .plan .cuts)) (cutUses (F .plan)) (λ i. cut (F .plan) i .members) f)
-      (union (usersOf (length (F .plan .attachments)) (attachmentUses (F .plan)) (span (F .plan)) f)
+      (union (usersOf (length (F .plan .attachments)) (attachmentUses (F .plan)) (withAnchor (F .plan)) f)
       (union (usersOf (length (F .plan .bars)) (barUses (F .plan)) (λ i. bar (F .plan) i .members) f)
       (usersOf (length (F .plan .statuses)) (statusUses (F .plan)) (λ i. one (status (F .plan) i .person)) f))))
-  unfolding ruleUses joiningUses rulePersons edgeUses cutUses attachmentUses barUses statusUses edge cut attachment bar status edgeUsed pair span endsOf spanOf
+  unfolding ruleUses joiningUses personsByRule edgeUses cutUses attachmentUses barUses statusUses edge cut attachment bar status edgeUsed pair withAnchor endsOf withAnchorOf
   users-all f =
       let P = F .plan in
       let at = usesAt P in
       ap₂ (usersIn f) (five (map (edgeUsed at) (P .edges)) (map (cutUsed at) (P .cuts)) (map (attachmentUsed at) (P .attachments)) (map (barUsed at) (P .bars)) (map (statusUsed at) (P .statuses)))
-      (ap (λ (l : List ℕ). l ++ map statusHolds (P .statuses)) (rule-sets P)
-      ∙ five (map endsOf (P .edges)) (map cutHolds (P .cuts)) (map spanOf (P .attachments)) (map barHolds (P .bars)) (map statusHolds (P .statuses)))
+      (ap (λ (l : List ℕ). l ++ map heldByStatus (P .statuses)) (rule-sets P)
+      ∙ five (map endsOf (P .edges)) (map heldByCut (P .cuts)) (map withAnchorOf (P .attachments)) (map heldByBar (P .bars)) (map heldByStatus (P .statuses)))
       ∙ users-append f (edgeUsed at) endsOf (P .edges) _ _
-      ∙ ap₂ union (sym (users-list f (edgeUsed at) endsOf _ (P .edges))) (users-append f (cutUsed at) cutHolds (P .cuts) _ _
-      ∙ ap₂ union (sym (users-list f (cutUsed at) cutHolds _ (P .cuts))) (users-append f (attachmentUsed at) spanOf (P .attachments) _ _
-      ∙ ap₂ union (sym (users-list f (attachmentUsed at) spanOf _ (P .attachments))) (users-append f (barUsed at) barHolds (P .bars) _ _
-      ∙ ap₂ union (sym (users-list f (barUsed at) barHolds _ (P .bars))) (sym (users-list f (statusUsed at) statusHolds _ (P .statuses))))))
+      ∙ ap₂ union (sym (users-list f (edgeUsed at) endsOf _ (P .edges))) (users-append f (cutUsed at) heldByCut (P .cuts) _ _
+      ∙ ap₂ union (sym (users-list f (cutUsed at) heldByCut _ (P .cuts))) (users-append f (attachmentUsed at) withAnchorOf (P .attachments) _ _
+      ∙ ap₂ union (sym (users-list f (attachmentUsed at) withAnchorOf _ (P .attachments))) (users-append f (barUsed at) heldByBar (P .bars) _ _
+      ∙ ap₂ union (sym (users-list f (barUsed at) heldByBar _ (P .bars))) (sym (users-list f (statusUsed at) heldByStatus _ (P .statuses))))))
 
-  touched-list : (f : ℕ) → touched F f ≡ touchedBy (ruleUses (usesAt (F .plan)) (F .plan)) (rulePersons (F .plan)) (constraintUses F) (F .roster) f (getFact (F .plan) f)
+  touched-list : (f : ℕ) → touched F f ≡ touchedBy (ruleUses (usesAt (F .plan)) (F .plan)) (personsByRule (F .plan)) (constraintUses F) (F .roster) f (getFact (F .plan) f)
   unfolding touched touchedBy
   touched-list f = ap (λ (x : ℕ). union (setOf (getFact (F .plan) f .tuple)) (union (only (has (constraintUses F) f) (F .roster)) x)) (sym (users-all f))
 
-  pub touches-list : touches F ≡ touchesBy (ruleUses (usesAt (F .plan)) (F .plan)) (rulePersons (F .plan)) (constraintUses F) (F .roster) (boundFacts F) (F .plan .facts)
+  pub touches-list : touches F ≡ touchesBy (ruleUses (usesAt (F .plan)) (F .plan)) (personsByRule (F .plan)) (constraintUses F) (F .roster) (boundFacts F) (F .plan .facts)
   unfolding touches touch touchesBy touchBy getFact
   touches-list = ap (below (length (F .plan .facts))) (fun-ext (λ f. ap (only (has (boundFacts F) f)) (touched-list f)))
 
   -- what the code's lists and masks make of it
-  pub touches-from : (us ps : List ℕ) (used bound : ℕ) (out : List ℕ) → us ≡ ruleUses (usesAt (F .plan)) (F .plan) → ps ≡ rulePersons (F .plan)
+  pub touches-from : (us ps : List ℕ) (used bound : ℕ) (out : List ℕ) → us ≡ ruleUses (usesAt (F .plan)) (F .plan) → ps ≡ personsByRule (F .plan)
       → used ≡ constraintUses F → bound ≡ boundFacts F → Holds 0 out (touchesBy us ps used (F .roster) bound (F .plan .facts)) → Holds 0 out (touches F)
   touches-from us ps used bound out e k u b h =
       subst (Holds 0 out) (ap₂ (λ (x y : List ℕ). touchesBy x y used (F .roster) bound (F .plan .facts)) e k
-      ∙ ap₂ (λ (x y : ℕ). touchesBy (ruleUses (usesAt (F .plan)) (F .plan)) (rulePersons (F .plan)) x (F .roster) y (F .plan .facts)) u b ∙ sym touches-list) h
+      ∙ ap₂ (λ (x y : ℕ). touchesBy (ruleUses (usesAt (F .plan)) (F .plan)) (personsByRule (F .plan)) x (F .roster) y (F .plan .facts)) u b ∙ sym touches-list) h

@@ -1,4 +1,4 @@
--- Laws of unions over lists. Assumes nothing.
+-- Laws of unions over lists.
 use Prim.Native.Nat.{ℕ}
 use mathlib.Core.Path.{_≡_, refl, sym, ap, ap₂, _∙_}
 use mathlib.Core.Bool.{Bool, true, false, _||_, or-assoc, or-false, or-self}

@@ -5,7 +5,7 @@ pub mod Reached
 pub mod Undecided
 pub mod Influences
 pub mod Joined
-pub mod Seen
+pub mod Sight
 pub mod Evident
 pub mod Codes
 pub mod Told

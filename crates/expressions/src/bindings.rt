@@ -2,7 +2,7 @@
 // What case and plan tell of the facts is gathered by fact first, so that a binding looks at no table.
 use crate::counts::upto;
 use crate::elections::elect;
-use crate::observations::Seen;
+use crate::observations::Sight;
 use crate::observations::said_unknown;
 use crate::observations::sights_of;
 use records::case::Case;
@@ -14,23 +14,21 @@ use records::sets::bit;
 use records::sets::contains;
 use records::sets::union;
 ghost use mathlib.Core.Path.{_≡_};
-ghost use mathlib.Core.Bool.{not, _&&_};
+ghost use mathlib.Core.Bool.{not};
 ghost use mathlib.Core.List.{List, [], _∷_, map};
 ghost use Prim.Native.Nat.{ℕ};
-ghost use lib.Dec.{eqb, ltb};
+ghost use lib.Dec.{eqb};
 ghost use lib.ListN.{length, getD, take};
-ghost use Rattle.records.specs.paper.Sets.{has};
 ghost use Rattle.records.specs.paper.Case.{caseHeading};
 ghost use Rattle.records.specs.code.Decoded.{planOf, caseOf, electionOf, familyOf};
-ghost use Rattle.expressions.specs.paper.Rules.{factCount};
-ghost use Rattle.expressions.specs.paper.Bindings.{byDefault, defaultOf, scoped, bindingsBy, bindingAt, tookDefaultBy};
-ghost use Rattle.expressions.specs.code.Seen.{boundBy};
+ghost use Rattle.expressions.specs.paper.Bindings.{byDefault, defaultOf, scoped, bindingsBy, bindingAt};
+ghost use Rattle.expressions.specs.code.Sight.{boundBy};
 ghost use Rattle.expressions.specs.code.Codes.{boundOf, silentCode};
 ghost use Rattle.expressions.specs.code.Told.{booleanBy, relationBy, bindingFrom, defaultFrom, BindsFacts};
 
 // What is told of a fact: its observations, whether it is said to be unknown, the first election on it.
 pub struct Told {
-    pub seen: Seen,
+    pub seen: Sight,
     pub unknown: bool,
     pub election: Election,
 }
@@ -42,7 +40,7 @@ pub struct Bound {
 }
 
 // What was seen decides; where nothing was, what is said beside it.
-fn weigh(seen: Seen, silent: u8) -> u8
+fn weigh(seen: Sight, silent: u8) -> u8
     ensures { λ r. ⌜ boundOf r ≡ boundBy seen (boundOf silent) ⌝ }
 {
     if !seen.any {
@@ -115,7 +113,7 @@ fn silence(families: Families, number: u8, scope: u8) -> u8
     0
 }
 
-fn bound_relation(seen: Seen, silent: u8) -> u8
+fn bound_relation(seen: Sight, silent: u8) -> u8
     ensures { λ r. ⌜ boundOf r ≡ relationBy silent seen ⌝ }
 {
     if silent == 0 {
@@ -179,10 +177,12 @@ pub fn bind_facts(plan: Plan, case: Case, set: u64) -> Bound
     let families = case.families;
     let booleans = case.booleans;
     let relations = case.relations;
+    let cuts = plan.cuts;
+    let attachments = plan.attachments;
     let scope = scope_of(case);
     let sights = sights_of(booleans, relations);
     let unknown = said_unknown(booleans);
-    let elections = elect(plan);
+    let elections = elect(cuts, attachments);
     let mut codes = [0u8; 64];
     let mut defaults: u64 = 0;
     let n = upto(facts.count, 64);
@@ -216,12 +216,4 @@ pub fn bindings(plan: Plan, case: Case, set: u64) -> [u8; 64]
 {
     let found = bind_facts(plan, case, set);
     found.codes
-}
-
-// The bound facts that took their election's default.
-pub fn defaults_taken(plan: Plan, case: Case, set: u64) -> u64
-    ensures { λ r. ⌜ ((f : ℕ) → has r f ≡ (ltb f (factCount (planOf plan)) && tookDefaultBy (planOf plan) (caseOf case) set f)) ⌝ }
-{
-    let found = bind_facts(plan, case, set);
-    found.defaults
 }

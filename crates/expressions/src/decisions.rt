@@ -1,22 +1,25 @@
 // The unresolved decisions of a plan, by cut and edge.
 use crate::counts::upto;
 use crate::counts::wide;
+use crate::observations::with_number;
 use crate::rules::ends;
 use records::plan::Cuts;
 use records::plan::Decisions;
 use records::plan::Edges;
 use records::plan::Plan;
+use records::sets::contains;
 use records::sets::union;
 ghost use mathlib.Core.Path.{_≡_};
 ghost use mathlib.Core.List.{_++_, map};
-ghost use Prim.Native.Nat.{_+_, _<_, _≤_};
+ghost use Prim.Native.Nat.{ℕ, _+_, _<_, _≤_};
 ghost use lib.ListN.{length};
-ghost use Rattle.records.specs.paper.Sets.{below};
+ghost use Rattle.records.specs.paper.Sets.{has, below};
+ghost use Rattle.records.specs.paper.Plan.{Plan as Paper};
 ghost use Rattle.records.specs.code.Decoded.{decisionsOf, planOf};
 ghost use Rattle.records.specs.promises.Sound.{All, Sound};
 ghost use Rattle.expressions.specs.code.Coded.{Holds, EndsFit, cutsOf, edgesOf};
-ghost use Rattle.expressions.specs.paper.Influence.{openDecisions, decisionCount, decisionTouch};
-ghost use Rattle.expressions.specs.code.Undecided.{decides, opensOf, openOf, openAll, Named, openTouch};
+ghost use Rattle.expressions.specs.paper.Influence.{hasVerdict, openIn, openBelow, openDecisions, decisionCount, openTouch, decisionTouch};
+ghost use Rattle.expressions.specs.code.Undecided.{opensOf, Named};
 
 pub struct Undecided {
     pub count: usize,
@@ -24,36 +27,34 @@ pub struct Undecided {
     pub edges: [u8; 16],
 }
 
-// Whether this verdict (1 blocked, 2 overrides, 3 unresolved) is given on the edge.
-pub fn says(decisions: Decisions, edge: u8, verdict: u8) -> bool
+// The edges below 64 on which this verdict (1 blocked, 2 overrides, 3 unresolved) is given.
+pub fn edges_with(decisions: Decisions, verdict: u8) -> u64
     requires { ⌜ 0 < verdict ⌝ }
-    ensures { λ r. ⌜ r ≡ decides edge verdict (decisionsOf decisions) ⌝ }
+    ensures { λ r. ⌜ ((e : ℕ) → e < 64 → has r e ≡ hasVerdict e verdict (decisionsOf decisions)) ⌝ }
 {
     let n = upto(wide(decisions.count), 64);
+    let mut m: u64 = 0;
     let mut i: usize = 0;
     while i < n {
         let e = decisions.edges[i];
         let v = decisions.verdicts[i];
-        if e == edge {
-            if v == verdict {
-                return true;
-            }
-        }
+        m = with_number(m, e, v == verdict);
         i = i + 1;
     }
-    false
+    m
 }
 
 // The unresolved decisions of the cut c, on edges below the count.
 fn open_in(found: Undecided, decisions: Decisions, c: u8, edges: usize) -> Undecided
-    requires { ⌜ (edges ≤ 64) × (found .count + length (openOf (decisionsOf decisions) c edges) ≤ 16) ⌝ }
-    ensures { λ r. ⌜ opensOf r ≡ opensOf found ++ openOf (decisionsOf decisions) c edges ⌝ }
+    requires { ⌜ (edges ≤ 64) × (found .count + length (openIn (decisionsOf decisions) c edges) ≤ 16) ⌝ }
+    ensures { λ r. ⌜ opensOf r ≡ opensOf found ++ openIn (decisionsOf decisions) c edges ⌝ }
 {
+    let unresolved = edges_with(decisions, 3);
     let mut out = found;
     let mut e: usize = 0;
     while e < edges {
         let k = e as u8;
-        if says(decisions, k, 3) {
+        if contains(unresolved, k) {
             let at = out.count;
             out.cuts[at] = c;
             out.edges[at] = k;
@@ -65,8 +66,8 @@ fn open_in(found: Undecided, decisions: Decisions, c: u8, edges: usize) -> Undec
 }
 
 fn open_over(cuts: Cuts, edges: usize) -> Undecided
-    requires { ⌜ (edges ≤ 64) × (length (openAll (cutsOf cuts) edges (length (cutsOf cuts))) ≤ 16) ⌝ }
-    ensures { λ r. ⌜ opensOf r ≡ openAll (cutsOf cuts) edges (length (cutsOf cuts)) ⌝ }
+    requires { ⌜ (edges ≤ 64) × (length (openBelow (cutsOf cuts) edges (length (cutsOf cuts))) ≤ 16) ⌝ }
+    ensures { λ r. ⌜ opensOf r ≡ openBelow (cutsOf cuts) edges (length (cutsOf cuts)) ⌝ }
 {
     let n = upto(cuts.count, 16);
     let mut out = Undecided {
@@ -104,7 +105,7 @@ pub fn open_decisions(plan: Plan) -> Undecided
 // Whom each decision touches: the cut's members and the edge's ends.
 fn touches_over(cuts: Cuts, edges: Edges, found: Undecided) -> [u64; 16]
     requires { ⌜ (found .count ≤ 16) × All (Named (length (cutsOf cuts)) (length (edgesOf edges))) (opensOf found) × All EndsFit (edgesOf edges) ⌝ }
-    ensures { λ r. ⌜ Holds 0 r (map (openTouch (cutsOf cuts) (edgesOf edges)) (opensOf found)) ⌝ }
+    ensures { λ r. ⌜ ((P : Paper) → P .cuts ≡ cutsOf cuts → P .edges ≡ edgesOf edges → Holds 0 r (map (openTouch P) (opensOf found))) ⌝ }
 {
     let n = upto(found.count, 16);
     let mut out = [0u64; 16];

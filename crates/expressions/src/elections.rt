@@ -1,76 +1,20 @@
-// The election on a fact. Elections on one fact are equal in an accepted plan, so the first says all.
+// The first election on each fact. Elections on one fact are equal in an accepted plan, so the first says all.
 use crate::counts::upto;
 use crate::counts::wide;
 use records::plan::Attachments;
 use records::plan::Cuts;
 use records::plan::Election;
-use records::plan::Plan;
 ghost use mathlib.Core.Path.{_≡_};
 ghost use mathlib.Core.List.{_++_, map};
 ghost use Prim.Native.Nat.{ℕ, _<_};
 ghost use lib.ListN.{getD, take};
-ghost use Rattle.records.specs.code.Decoded.{planOf, electionOf, noElection};
-ghost use Rattle.expressions.specs.paper.Bindings.{elections, electionsIn};
+ghost use Rattle.records.specs.paper.Plan.{Plan as Paper};
+ghost use Rattle.records.specs.code.Decoded.{electionOf, noElection};
+ghost use Rattle.expressions.specs.code.Coded.{cutsOf, attachmentsOf};
+ghost use Rattle.expressions.specs.paper.Bindings.{electionsIn};
+ghost use Rattle.expressions.specs.code.Told.{ElectedBy};
 
-fn elected_in_cuts(cuts: Cuts, fact: u8) -> Election
-    ensures { λ r. ⌜ electionOf r ≡ take 1 (electionsIn (map (λ c. electionOf (c .election)) (take (cuts .count) (cuts .items))) fact) ⌝ }
-{
-    let n = upto(cuts.count, 16);
-    let mut i: usize = 0;
-    while i < n {
-        let c = cuts.items[i];
-        let e = c.election;
-        if e.given && e.fact == fact {
-            return e;
-        }
-        i = i + 1;
-    }
-    Election {
-        given: false,
-        fact: 0,
-        actor: 0,
-        policy: 0,
-        citation: 0,
-    }
-}
-
-fn elected_in_attachments(attachments: Attachments, fact: u8) -> Election
-    ensures { λ r. ⌜ electionOf r ≡ take 1 (electionsIn (map (λ a. electionOf (a .election)) (take (attachments .count) (attachments .items))) fact) ⌝ }
-{
-    let n = upto(attachments.count, 32);
-    let mut i: usize = 0;
-    while i < n {
-        let a = attachments.items[i];
-        let e = a.election;
-        if e.given && e.fact == fact {
-            return e;
-        }
-        i = i + 1;
-    }
-    Election {
-        given: false,
-        fact: 0,
-        actor: 0,
-        policy: 0,
-        citation: 0,
-    }
-}
-
-// The first election on a fact; one that is not given where there is none.
-pub fn election_on(plan: Plan, fact: u8) -> Election
-    ensures { λ r. ⌜ electionOf r ≡ take 1 (elections (planOf plan) fact) ⌝ }
-{
-    let cuts = plan.cuts;
-    let attachments = plan.attachments;
-    let e = elected_in_cuts(cuts, fact);
-    if e.given {
-        e
-    } else {
-        elected_in_attachments(attachments, fact)
-    }
-}
-
-// The first election on each fact; one that is not given where there is none.
+// By fact; one that is not given where there is none.
 pub struct Elected {
     pub items: [Election; 64],
 }
@@ -111,11 +55,9 @@ fn elect_by_cuts(elected: Elected, cuts: Cuts) -> Elected
 }
 
 // In one pass over the rules that may have elections.
-pub fn elect(plan: Plan) -> Elected
-    ensures { λ r. ⌜ ((f : ℕ) → f < 64 → electionOf (getD (r .items) f noElection) ≡ take 1 (elections (planOf plan) f)) ⌝ }
+pub fn elect(cuts: Cuts, attachments: Attachments) -> Elected
+    ensures { λ r. ⌜ ((P : Paper) → P .cuts ≡ cutsOf cuts → P .attachments ≡ attachmentsOf attachments → ElectedBy P r) ⌝ }
 {
-    let cuts = plan.cuts;
-    let attachments = plan.attachments;
     let none = Elected {
         items: [Election {
             given: false,

@@ -1,6 +1,8 @@
-// The evidence that a case gives for a fact, bound or not.
+// The evidence that a case gives for each fact, bound or not.
 use crate::counts::upto;
+use crate::counts::wide;
 use crate::observations::entry;
+use records::case::Boolean;
 use records::case::Booleans;
 use records::case::Case;
 use records::case::Observations;
@@ -9,13 +11,13 @@ use records::sets::bit;
 use records::sets::union;
 ghost use mathlib.Core.Path.{_≡_};
 ghost use mathlib.Core.List.{map};
-ghost use Prim.Native.Nat.{_<_};
-ghost use lib.ListN.{take};
-ghost use Rattle.records.specs.paper.Sets.{one, union as both, unionOf, setOf};
+ghost use Prim.Native.Nat.{ℕ, _<_};
+ghost use lib.Dec.{eqb};
+ghost use lib.ListN.{length, getD, take};
+ghost use Rattle.records.specs.paper.Sets.{one, union as both, only, unionOf};
 ghost use Rattle.records.specs.promises.Sound.{All};
 ghost use Rattle.records.specs.code.Decoded.{observationsOf, booleanOf, relationOf, caseOf};
-ghost use Rattle.expressions.specs.paper.Bindings.{observedInBooleans, observedInRelations, unknownIn, evidenceOf};
-ghost use Rattle.expressions.specs.code.Evident.{evidenceMark, Evident, EvidentBoolean, EvidentRelation, ReadCase};
+ghost use Rattle.expressions.specs.code.Evident.{evidenceMark, booleanEvidence, Evident, EvidentBoolean, EvidentRelation, ReadCase, EvidenceBy};
 
 fn mark(m: u64, e: u8) -> u64
     requires { ⌜ e < 64 ⌝ }
@@ -39,64 +41,72 @@ fn mark_all(m: u64, o: Observations) -> u64
     all
 }
 
-fn mark_booleans(m: u64, booleans: Booleans, fact: u8) -> u64
-    requires { ⌜ All EvidentBoolean (map booleanOf (take (booleans .count) (booleans .items))) ⌝ }
-    ensures { λ r. ⌜ r ≡ both m (unionOf evidenceMark (observedInBooleans (map booleanOf (take (booleans .count) (booleans .items))) fact)) ⌝ }
+// All evidence of a boolean record.
+fn evidence_in(b: Boolean) -> u64
+    requires { ⌜ EvidentBoolean (booleanOf b) ⌝ }
+    ensures { λ r. ⌜ r ≡ booleanEvidence (booleanOf b) ⌝ }
 {
-    let mut all = m;
+    let o = b.observations;
+    let seen = mark_all(0, o);
+    if b.unknown {
+        mark(seen, b.evidence)
+    } else {
+        seen
+    }
+}
+
+// A table has its 256 entries, which a reference to it does not tell the proof. The compiler drops the call with its copy.
+fn whole(table: [u64; 256])
+    ensures { λ r. ⌜ length table ≡ 256 ⌝ }
+{}
+
+// More evidence for a fact.
+fn note(table: &mut [u64; 256], fact: u8, more: u64)
+    ensures { λ r. ⌜ ((f : ℕ) → getD (now (table .exit)) f 0 ≡ both (getD (now (table .entry)) f 0) (only (eqb fact f) more)) ⌝ }
+{
+    whole(*table);
+    let f = wide(fact);
+    let m = union(table[f], more);
+    table[f] = m;
+}
+
+fn note_booleans(table: &mut [u64; 256], booleans: Booleans)
+    requires { ⌜ All EvidentBoolean (map booleanOf (take (booleans .count) (booleans .items))) ⌝ }
+    ensures { λ r. ⌜ ((f : ℕ) → getD (now (table .exit)) f 0 ≡ both (getD (now (table .entry)) f 0) (unionOf (λ b. only (eqb (b .fact) f) (booleanEvidence b)) (map booleanOf (take (booleans .count) (booleans .items))))) ⌝ }
+{
     let n = upto(booleans.count, 64);
     let mut i: usize = 0;
     while i < n {
         let b = booleans.items[i];
-        if b.fact == fact {
-            let o = b.observations;
-            all = mark_all(all, o);
-        }
+        let more = evidence_in(b);
+        note(table, b.fact, more);
         i = i + 1;
     }
-    all
 }
 
-fn mark_unknown(m: u64, booleans: Booleans, fact: u8) -> u64
-    requires { ⌜ All EvidentBoolean (map booleanOf (take (booleans .count) (booleans .items))) ⌝ }
-    ensures { λ r. ⌜ r ≡ both m (setOf (unknownIn (map booleanOf (take (booleans .count) (booleans .items))) fact)) ⌝ }
-{
-    let mut all = m;
-    let n = upto(booleans.count, 64);
-    let mut i: usize = 0;
-    while i < n {
-        let b = booleans.items[i];
-        if b.fact == fact && b.unknown {
-            all = mark(all, b.evidence);
-        }
-        i = i + 1;
-    }
-    all
-}
-
-fn mark_relations(m: u64, relations: Relations, fact: u8) -> u64
+fn note_relations(table: &mut [u64; 256], relations: Relations)
     requires { ⌜ All EvidentRelation (map relationOf (take (relations .count) (relations .items))) ⌝ }
-    ensures { λ r. ⌜ r ≡ both m (unionOf evidenceMark (observedInRelations (map relationOf (take (relations .count) (relations .items))) fact)) ⌝ }
+    ensures { λ r. ⌜ ((f : ℕ) → getD (now (table .exit)) f 0 ≡ both (getD (now (table .entry)) f 0) (unionOf (λ r. only (eqb (r .fact) f) (evidenceMark (r .observation))) (map relationOf (take (relations .count) (relations .items))))) ⌝ }
 {
-    let mut all = m;
     let n = upto(relations.count, 256);
     let mut i: usize = 0;
     while i < n {
         let r = relations.items[i];
-        if r.fact == fact {
-            all = mark(all, r.evidence);
-        }
+        let more = mark(0, r.evidence);
+        note(table, r.fact, more);
         i = i + 1;
     }
-    all
 }
 
-pub fn evidence_of(case: Case, fact: u8) -> u64
+// The evidence of each fact, in one pass over the case's records.
+pub fn evidence_by_fact(case: Case) -> [u64; 256]
     requires { ⌜ ReadCase (caseOf case) ⌝ }
-    ensures { λ r. ⌜ r ≡ evidenceOf (caseOf case) fact ⌝ }
+    ensures { λ r. ⌜ EvidenceBy (caseOf case) r ⌝ }
 {
     let booleans = case.booleans;
     let relations = case.relations;
-    let observed = mark_relations(mark_booleans(0, booleans, fact), relations, fact);
-    mark_unknown(observed, booleans, fact)
+    let mut table = [0u64; 256];
+    note_booleans(&mut table, booleans);
+    note_relations(&mut table, relations);
+    table
 }

@@ -6,36 +6,22 @@ use records::plan::Nodes;
 use records::plan::Numbers;
 use records::sets::contains;
 ghost use mathlib.Core.Path.{_≡_};
-ghost use Rattle.records.specs.paper.Sets.{allOf, anyOf};
+ghost use Rattle.records.specs.paper.Sets.{anyOf};
 ghost use Rattle.records.specs.code.Decoded.{numbersOf, nodeOf};
-ghost use mathlib.Core.Bool.{false};
+ghost use mathlib.Core.Bool.{false, Bool·beq};
 ghost use mathlib.Core.List.{[]};
 ghost use Rattle.expressions.specs.paper.Nodes.{on, value as valueOf, valuesFrom};
 ghost use Rattle.expressions.specs.code.Coded.{Holds, nodesOf};
 
-fn all_hold(children: Numbers, lower: &[bool; 256]) -> bool
-    ensures { λ r. ⌜ r ≡ allOf (on (now (lower .entry))) (numbersOf children) ⌝ }
+// Whether one of these nodes has the value asked for.
+fn one_is(children: Numbers, lower: &[bool; 256], wanted: bool) -> bool
+    ensures { λ r. ⌜ r ≡ anyOf (λ i. Bool·beq (on (now (lower .entry)) i) wanted) (numbersOf children) ⌝ }
 {
     let n = upto(wide(children.count), 16);
     let mut i: usize = 0;
     while i < n {
         let k = wide(children.items[i]);
-        if !lower[k] {
-            return false;
-        }
-        i = i + 1;
-    }
-    true
-}
-
-fn any_holds(children: Numbers, lower: &[bool; 256]) -> bool
-    ensures { λ r. ⌜ r ≡ anyOf (on (now (lower .entry))) (numbersOf children) ⌝ }
-{
-    let n = upto(wide(children.count), 16);
-    let mut i: usize = 0;
-    while i < n {
-        let k = wide(children.items[i]);
-        if lower[k] {
+        if lower[k] == wanted {
             return true;
         }
         i = i + 1;
@@ -53,8 +39,8 @@ pub fn value(node: Node, facts: u64, lower: &[bool; 256]) -> bool
     match sort {
         0 => number == 1,
         1 => contains(facts, number),
-        2 => all_hold(children, lower),
-        3 => any_holds(children, lower),
+        2 => !one_is(children, lower, false),
+        3 => one_is(children, lower, true),
         _ => !lower[wide(number)],
     }
 }

@@ -8,7 +8,7 @@ ghost use lib.Dec.{eqb};
 ghost use Rattle.records.specs.paper.Sets.{has};
 ghost use Rattle.records.specs.code.Decoded.{observationsOf, booleanOf, relationOf};
 ghost use Rattle.expressions.specs.paper.Bindings.{unknownIn, observedInBooleans, observedInRelations};
-ghost use Rattle.expressions.specs.code.Seen.{nothing, lookAt, lookAll};
+ghost use Rattle.expressions.specs.code.Sight.{nothing, lookAt, lookAll};
 use crate::counts::upto;
 use crate::counts::wide;
 use records::case::Booleans;
@@ -18,7 +18,7 @@ use records::sets::bit;
 use records::sets::union;
 
 // What was seen of a fact so far: the first pair of value and evidence, whether another pair came, whether another value did.
-pub struct Seen {
+pub struct Sight {
     pub any: bool,
     pub value: u8,
     pub evidence: u8,
@@ -26,11 +26,11 @@ pub struct Seen {
     pub both: bool,
 }
 
-pub fn look(seen: Seen, value: u8, evidence: u8) -> Seen
+pub fn look(seen: Sight, value: u8, evidence: u8) -> Sight
     ensures { λ r. ⌜ r ≡ lookAt seen (record { value = value; evidence = evidence }) ⌝ }
 {
     if !seen.any {
-        return Seen {
+        return Sight {
             any: true,
             value: value,
             evidence: evidence,
@@ -39,7 +39,7 @@ pub fn look(seen: Seen, value: u8, evidence: u8) -> Seen
         };
     }
     if value != seen.value {
-        return Seen {
+        return Sight {
             any: true,
             value: seen.value,
             evidence: seen.evidence,
@@ -48,7 +48,7 @@ pub fn look(seen: Seen, value: u8, evidence: u8) -> Seen
         };
     }
     if evidence != seen.evidence {
-        return Seen {
+        return Sight {
             any: true,
             value: seen.value,
             evidence: seen.evidence,
@@ -67,7 +67,7 @@ pub fn entry(items: [u8; 16], i: u8) -> u8
     if at < 16 { items[at] } else { 0 }
 }
 
-pub fn look_all(seen: Seen, o: Observations) -> Seen
+pub fn look_all(seen: Sight, o: Observations) -> Sight
     ensures { λ r. ⌜ r ≡ lookAll seen (observationsOf o) ⌝ }
 {
     let mut s = seen;
@@ -84,7 +84,7 @@ pub fn look_all(seen: Seen, o: Observations) -> Seen
 
 // What was seen of each fact.
 pub struct Sights {
-    pub items: [Seen; 64],
+    pub items: [Sight; 64],
 }
 
 fn look_in_booleans(sights: Sights, booleans: Booleans) -> Sights
@@ -131,7 +131,7 @@ pub fn sights_of(booleans: Booleans, relations: Relations) -> Sights
     ensures { λ r. ⌜ ((f : ℕ) → f < 64 → getD (r .items) f nothing ≡ lookAll nothing (observedInBooleans (map booleanOf (take (booleans .count) (booleans .items))) f ++ observedInRelations (map relationOf (take (relations .count) (relations .items))) f)) ⌝ }
 {
     let none = Sights {
-        items: [Seen {
+        items: [Sight {
             any: false,
             value: 0,
             evidence: 0,
@@ -142,17 +142,17 @@ pub fn sights_of(booleans: Booleans, relations: Relations) -> Sights
     look_in_relations(look_in_booleans(none, booleans), relations)
 }
 
-// A fact that is said to be unknown joins the others.
-fn with_fact(m: u64, fact: u8, said: bool) -> u64
-    ensures { λ r. ⌜ ((f : ℕ) → f < 64 → has r f ≡ (has m f || (eqb fact f && said))) ⌝ }
+// A number below 64 joins the others, where it is said to.
+pub fn with_number(m: u64, number: u8, said: bool) -> u64
+    ensures { λ r. ⌜ ((f : ℕ) → f < 64 → has r f ≡ (has m f || (eqb number f && said))) ⌝ }
 {
     if !said {
         return m;
     }
-    if fact >= 64 {
+    if number >= 64 {
         return m;
     }
-    union(m, bit(fact))
+    union(m, bit(number))
 }
 
 // The facts that a boolean record says explicitly to be unknown.
@@ -164,7 +164,7 @@ pub fn said_unknown(booleans: Booleans) -> u64
     let mut i: usize = 0;
     while i < n {
         let b = booleans.items[i];
-        m = with_fact(m, b.fact, b.unknown);
+        m = with_number(m, b.fact, b.unknown);
         i = i + 1;
     }
     m

@@ -20,7 +20,7 @@ ghost use Rattle.records.specs.paper.Sets.{one};
 ghost use Rattle.records.specs.promises.Sound.{All, Sound};
 ghost use Rattle.records.specs.code.Decoded.{edgeOf, attachmentOf, planOf};
 ghost use Rattle.expressions.specs.code.Coded.{edgesOf, cutsOf, attachmentsOf, barsOf, statusesOf, EndsFit, AnchorFits, PersonFits};
-ghost use Rattle.expressions.specs.code.Listed.{lists, Joining, Listed, usedAt, endsOf, spanOf, edgeUsed, cutUsed, cutHolds, attachmentUsed, barUsed, barHolds, statusUsed, statusHolds, Added};
+ghost use Rattle.expressions.specs.code.Listed.{lists, Joining, Listed, usedAt, endsOf, withAnchorOf, edgeUsed, cutUsed, heldByCut, attachmentUsed, barUsed, heldByBar, statusUsed, heldByStatus, Added};
 
 // A list has its 176 entries, which a reference to it does not tell the proof. The compiler drops the call with its copy.
 fn whole(list: [u64; 176])
@@ -47,9 +47,9 @@ pub fn ends(e: Edge) -> u64
 }
 
 // The members of an attachment, with its anchor.
-pub fn span(a: Attachment) -> u64
+pub fn with_anchor(a: Attachment) -> u64
     requires { ⌜ AnchorFits (attachmentOf a) ⌝ }
-    ensures { λ r. ⌜ r ≡ spanOf (attachmentOf a) ⌝ }
+    ensures { λ r. ⌜ r ≡ withAnchorOf (attachmentOf a) ⌝ }
 {
     union(a.members, bit(a.anchor))
 }
@@ -94,7 +94,7 @@ fn add_cuts(
     nodes: &[u64; 256],
 ) -> usize
     requires { ⌜ (at ≤ 160) ⌝ }
-    ensures { λ r. ⌜ Added (lists at (now (uses .entry)) (now (persons .entry))) (lists r (now (uses .exit)) (now (persons .exit))) (map (cutUsed (usedAt (now (nodes .entry)))) (cutsOf cuts)) (map cutHolds (cutsOf cuts)) × (r ≤ at + 16) ⌝ }
+    ensures { λ r. ⌜ Added (lists at (now (uses .entry)) (now (persons .entry))) (lists r (now (uses .exit)) (now (persons .exit))) (map (cutUsed (usedAt (now (nodes .entry)))) (cutsOf cuts)) (map heldByCut (cutsOf cuts)) × (r ≤ at + 16) ⌝ }
 {
     let n = upto(cuts.count, 16);
     let mut i: usize = 0;
@@ -117,7 +117,7 @@ fn add_attachments(
     nodes: &[u64; 256],
 ) -> usize
     requires { ⌜ (at ≤ 144) × All AnchorFits (attachmentsOf attachments) ⌝ }
-    ensures { λ r. ⌜ Added (lists at (now (uses .entry)) (now (persons .entry))) (lists r (now (uses .exit)) (now (persons .exit))) (map (attachmentUsed (usedAt (now (nodes .entry)))) (attachmentsOf attachments)) (map spanOf (attachmentsOf attachments)) × (r ≤ at + 32) ⌝ }
+    ensures { λ r. ⌜ Added (lists at (now (uses .entry)) (now (persons .entry))) (lists r (now (uses .exit)) (now (persons .exit))) (map (attachmentUsed (usedAt (now (nodes .entry)))) (attachmentsOf attachments)) (map withAnchorOf (attachmentsOf attachments)) × (r ≤ at + 32) ⌝ }
 {
     let n = upto(attachments.count, 32);
     let mut i: usize = 0;
@@ -125,7 +125,7 @@ fn add_attachments(
         let x = attachments.items[i];
         let k = wide(x.condition);
         let used = nodes[k];
-        let held = span(x);
+        let held = with_anchor(x);
         push(uses, persons, at + i, used, held);
         i = i + 1;
     }
@@ -140,7 +140,7 @@ fn add_bars(
     nodes: &[u64; 256],
 ) -> usize
     requires { ⌜ (at ≤ 144) ⌝ }
-    ensures { λ r. ⌜ Added (lists at (now (uses .entry)) (now (persons .entry))) (lists r (now (uses .exit)) (now (persons .exit))) (map (barUsed (usedAt (now (nodes .entry)))) (barsOf bars)) (map barHolds (barsOf bars)) × (r ≤ at + 32) ⌝ }
+    ensures { λ r. ⌜ Added (lists at (now (uses .entry)) (now (persons .entry))) (lists r (now (uses .exit)) (now (persons .exit))) (map (barUsed (usedAt (now (nodes .entry)))) (barsOf bars)) (map heldByBar (barsOf bars)) × (r ≤ at + 32) ⌝ }
 {
     let n = upto(bars.count, 32);
     let mut i: usize = 0;
@@ -163,7 +163,7 @@ fn add_statuses(
     nodes: &[u64; 256],
 ) -> usize
     requires { ⌜ (at ≤ 144) × All PersonFits (statusesOf statuses) ⌝ }
-    ensures { λ r. ⌜ Added (lists at (now (uses .entry)) (now (persons .entry))) (lists r (now (uses .exit)) (now (persons .exit))) (map (statusUsed (usedAt (now (nodes .entry)))) (statusesOf statuses)) (map statusHolds (statusesOf statuses)) × (r ≤ at + 32) ⌝ }
+    ensures { λ r. ⌜ Added (lists at (now (uses .entry)) (now (persons .entry))) (lists r (now (uses .exit)) (now (persons .exit))) (map (statusUsed (usedAt (now (nodes .entry)))) (statusesOf statuses)) (map heldByStatus (statusesOf statuses)) × (r ≤ at + 32) ⌝ }
 {
     let n = upto(statuses.count, 32);
     let mut i: usize = 0;

@@ -19,7 +19,7 @@ use Rattle.report.proofs.OpenedLaws.{OnOpened, opened-law}
 use Rattle.listing.specs.Text.{table, refusedRow}
 use Rattle.listing.specs.Page.{Page, puts, begun}
 use Rattle.listing.specs.Listing.{longest, textOf, outcomeText, listing}
-use Rattle.listing.specs.Shown.{Tells, Listed}
+use Rattle.listing.specs.Shown.{TellsAnswer, Listed}
 use Rattle.listing.specs.declared.list.Told.{Told}
 use Rattle.listing.proofs.PageLaws.{puts-begun, begun-inside}
 
@@ -83,7 +83,7 @@ answered-few plan case l e = over (opened plan case l) (opened-law plan case l)
 
 module _ (plan case lines₀ events₀ lines₁ events₁ : List ℕ) (a : Answer)
     (answered : _≡_ {A = Outcome} (record { answer = a; lines = lines₁; events = events₁ }) (answer plan case (length lines₀) (length events₀)))
-    (t : Told) (tells : Tells (told a) t) where
+    (t : Told) (tells : TellsAnswer (told a) t) where
   pub lines-few : length lines₁ ≡ length lines₀ → (t .lines ≤ 64) × (29 * t .lines ≤ length lines₁)
   lines-few h =
       let few = answered-few plan case (length lines₀) (length events₀) (ap (λ (o : Outcome). length (o .lines)) (sym answered) ∙ h) in

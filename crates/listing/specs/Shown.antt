@@ -22,7 +22,7 @@ pub record IsUnits (us : List ℕ) (r : Units) : Type 0 where
   pub few : r .count ≤ 64
   pub long : length (r .blocks) ≡ 64
 
-pub record Tells (t : operations.Told) (r : Told) : Type 0 where
+pub record TellsAnswer (t : operations.Told) (r : Told) : Type 0 where
   pub refusal : r .refusal ≡ t .refusal
   pub at : r .at ≡ t .«record»
   pub lines : r .lines ≡ t .lines

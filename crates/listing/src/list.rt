@@ -16,7 +16,7 @@ ghost use Rattle.report.specs.paper.Units.{units};
 ghost use Rattle.listing.specs.Text.{table, lastRow};
 ghost use Rattle.listing.specs.Page.{puts};
 ghost use Rattle.listing.specs.Listing.{longest};
-ghost use Rattle.listing.specs.Shown.{Tells, Listed};
+ghost use Rattle.listing.specs.Shown.{TellsAnswer, Listed};
 
 // Of document 01's numbers those that are printed.
 struct Told {
@@ -26,7 +26,7 @@ struct Told {
 }
 
 fn tell(found: Answer) -> Told
-    ensures { λ r. ⌜ Tells (toldOf found) r ⌝ }
+    ensures { λ r. ⌜ TellsAnswer (toldOf found) r ⌝ }
 {
     match found {
         Answer::Accepted => Told {

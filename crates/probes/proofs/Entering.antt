@@ -22,9 +22,8 @@ use Rattle.records.proofs.Accepted.{accepted}
 use Rattle.records.proofs.AcceptedCase.{accepted-case}
 use Rattle.records.specs.paper.Sets.{has}
 use Rattle.expressions.specs.paper.Influence.{Frame, openDecisions, decisionCount}
-use Rattle.expressions.specs.paper.Variables.{isVariable, slots, booleanCount, worldCount}
+use Rattle.expressions.specs.paper.Variables.{isVariable, slotsBy, slots, booleansAmong, booleanCount, worldCount}
 use Rattle.expressions.specs.code.Codes.{boundOf}
-use Rattle.expressions.specs.code.Slots.{slotsBy, booleansIn}
 use Rattle.expressions.specs.code.Counted.{countOf, Counts}
 use Rattle.expressions.specs.code.Reached.{Reached}
 use Rattle.expressions.specs.code.Influences.{influenceBy, setsOf}
@@ -35,13 +34,13 @@ use Rattle.expressions.proofs.SlotLaws.{variable-from, order-of}
 use Rattle.expressions.proofs.CountLaws.{boolean-few}
 use Rattle.expressions.proofs.OpenLaws.{opens-number}
 use Rattle.expressions.specs.paper.Bindings.{Bound, bindings, bindingsBy, bindingAt, bindable, frameOf}
-use Rattle.expressions.specs.code.Coded.{frameBy}
+use Rattle.expressions.specs.code.Coded.{factsOf, frameBy}
 use Rattle.expressions.proofs.FactLaws.{bindings-by}
 use Rattle.expressions.proofs.ReachLaws.{frame-of, heading-of, influence-list}
 use Rattle.records.specs.code.Check.{checkedOf}
 use Rattle.records.proofs.CheckLaws.{refused-is}
 use Rattle.records.specs.declared.checked.Checked.the-variants.{Accepted, Refused}
-use Rattle.probes.specs.Entries.{numberOf, recordOf, givenOver, given, influencesIn, refusalBy}
+use Rattle.probes.specs.Entries.{refusalNumber, recordOf, givenOver, bothRead, influencesIn, refusalBy}
 use Rattle.records.specs.declared.plan.Plan.{Plan as Coded}
 use Rattle.records.specs.declared.case.Case.{Case as CodedCase}
 
@@ -54,8 +53,8 @@ read-plan s r e z = sym e ∙ ap (λ (b : Bool). cond b (fine (planOf (r .plan))
 pub plan-sound : (s : List ℕ) (r : PlanRead) → planReadOf r ≡ checkedPlan s → r .number ≡ 0 → Sound (planOf (r .plan))
 plan-sound s r e z = accepted s (planOf (r .plan)) (read-plan s r e z)
 
-pub plan-refused : (s t : List ℕ) (r : PlanRead) → planReadOf r ≡ checkedPlan s → (r .number ≡ 0 → ⊥) → refused (r .number) (r .«record») ≡ given s t
-unfolding given planReadOf
+pub plan-refused : (s t : List ℕ) (r : PlanRead) → planReadOf r ≡ checkedPlan s → (r .number ≡ 0 → ⊥) → refused (r .number) (r .«record») ≡ bothRead s t
+unfolding bothRead planReadOf
 plan-refused s t r e n =
     ap (λ (v : Verdict Plan). onFine v (givenOver t))
     (sym (ap (λ (b : Bool). cond b (fine (planOf (r .plan))) (refused (r .number) (r .«record»))) (ne-eqb (r .number) 0 n)) ∙ e)
@@ -66,14 +65,14 @@ module _ (s t : List ℕ) (r : PlanRead) (e : planReadOf r ≡ checkedPlan s) (z
   abbrev P : Plan
   P = planOf (r .plan)
 
-  over-plan : givenOver t P ≡ given s t
-  unfolding given
+  over-plan : givenOver t P ≡ bothRead s t
+  unfolding bothRead
   over-plan = ap (λ (v : Verdict Plan). onFine v (givenOver t)) (sym (read-plan s r e z))
 
-  with-plan : {v : Verdict Case} → v ≡ caseReadOf q → onFine v (λ C. fine (record { plan = P; case = C })) ≡ given s t
+  with-plan : {v : Verdict Case} → v ≡ caseReadOf q → onFine v (λ C. fine (record { plan = P; case = C })) ≡ bothRead s t
   with-plan h = ap (λ (v : Verdict Case). onFine v (λ C. fine (record { plan = P; case = C }))) (h ∙ k) ∙ over-plan
 
-  pub case-refused : (q .number ≡ 0 → ⊥) → refused (q .number) (q .«record») ≡ given s t
+  pub case-refused : (q .number ≡ 0 → ⊥) → refused (q .number) (q .«record») ≡ bothRead s t
   unfolding caseReadOf
   case-refused n = with-plan (sym (ap (λ (b : Bool). cond b (fine (caseOf (q .case))) (refused (q .number) (q .«record»))) (ne-eqb (q .number) 0 n)))
 
@@ -82,7 +81,7 @@ module _ (s t : List ℕ) (r : PlanRead) (e : planReadOf r ≡ checkedPlan s) (z
     unfolding caseReadOf
     case-fine = ap (λ (b : Bool). cond b (fine (caseOf (q .case))) (refused (q .number) (q .«record»))) (eq-eqb (q .number) 0 y)
 
-    pub both-read : fine (record { plan = P; case = caseOf (q .case) }) ≡ given s t
+    pub both-read : fine (record { plan = P; case = caseOf (q .case) }) ≡ bothRead s t
     both-read = with-plan (sym case-fine)
 
     pub case-sound : SoundCase P (caseOf (q .case))
@@ -114,9 +113,9 @@ module _ (plan : Coded) (case : CodedCase) (sound : Sound (planOf plan)) (whole 
   pub decisions-few : reach .undecided .count ≡ decisionCount Pl
   decisions-few = opens-number (reach .undecided) (openDecisions Pl) (over .opens)
 
-  module _ (booleans : ℕ) (b : booleans ≡ booleansIn (plan .facts)) where
+  module _ (booleans : ℕ) (b : booleans ≡ booleansAmong (factsOf (plan .facts))) where
     booleans-are : booleans ≡ booleanCount Pl
-    unfolding booleansIn booleanCount planOf
+    unfolding factsOf booleanCount planOf
     booleans-are = b
 
     pub booleans-fit : booleans ≤ reach .count
@@ -145,17 +144,17 @@ module _ (plan : Coded) (case : CodedCase) (sound : Sound (planOf plan)) (whole 
 
 -- ---- the refusals that come with binding
 
-pub passed-over : (C : Case) (over b : Bool) → over ≡ b → checkedOf (bindable C) ≡ Accepted → (cond b 11 0 ≡ numberOf (refusalBy C over)) × (0 ≡ recordOf (refusalBy C over))
+pub passed-over : (C : Case) (over b : Bool) → over ≡ b → checkedOf (bindable C) ≡ Accepted → (cond b 11 0 ≡ refusalNumber (refusalBy C over)) × (0 ≡ recordOf (refusalBy C over))
 unfolding checkedOf
-passed-over C over b o e = subst (λ (x : Bool). (cond b 11 0 ≡ numberOf (refusalBy C x)) × (0 ≡ recordOf (refusalBy C x))) (sym o) (told (bindable C) e b)
+passed-over C over b o e = subst (λ (x : Bool). (cond b 11 0 ≡ refusalNumber (refusalBy C x)) × (0 ≡ recordOf (refusalBy C x))) (sym o) (told (bindable C) e b)
   where
     told : (v : Verdict Case) → checkedOf v ≡ Accepted → (b : Bool)
-        → (cond b 11 0 ≡ numberOf (onFine v (λ C. cond b (refused 11 0) (fine C)))) × (0 ≡ recordOf (onFine v (λ C. cond b (refused 11 0) (fine C))))
+        → (cond b 11 0 ≡ refusalNumber (onFine v (λ C. cond b (refused 11 0) (fine C)))) × (0 ≡ recordOf (onFine v (λ C. cond b (refused 11 0) (fine C))))
     told (fine C) e true = (refl, refl)
     told (fine C) e false = (refl, refl)
     told (refused n k) e b = let z : _≡_ {A = ℕ} 0 1 = cc in absurd (omega arith)
 
-pub first-refused : (C : Case) (over : Bool) (n k : ℕ) → checkedOf (bindable C) ≡ Refused n k → (n ≡ numberOf (refusalBy C over)) × (k ≡ recordOf (refusalBy C over))
+pub first-refused : (C : Case) (over : Bool) (n k : ℕ) → checkedOf (bindable C) ≡ Refused n k → (n ≡ refusalNumber (refusalBy C over)) × (k ≡ recordOf (refusalBy C over))
 first-refused C over n k e = let h = refused-is (bindable C) (sym e) in (rw h, rw h)
 
 -- ---- nothing, and what is read of it

@@ -12,9 +12,9 @@ use Rattle.expressions.specs.code.Counted.{countOf}
 use Rattle.expressions.specs.declared.variables.Count.{Count}
 
 -- the refusal's number, 0 for none, and its record
-abbrev pub numberOf : {A : Type 0} → Verdict A → ℕ
-numberOf (fine a) = 0
-numberOf (refused n k) = n
+abbrev pub refusalNumber : {A : Type 0} → Verdict A → ℕ
+refusalNumber (fine a) = 0
+refusalNumber (refused n k) = n
 
 abbrev pub recordOf : {A : Type 0} → Verdict A → ℕ
 recordOf (fine a) = 0
@@ -30,8 +30,8 @@ pub record Given : Type 0 where
 abbrev pub givenOver : List ℕ → Plan → Verdict Given
 givenOver case P = onFine (readCase P case) (λ C. fine (record { plan = P; case = C }))
 
-unfoldable pub given : List ℕ → List ℕ → Verdict Given
-given plan case = onFine (checkedPlan plan) (givenOver case)
+unfoldable pub bothRead : List ℕ → List ℕ → Verdict Given
+bothRead plan case = onFine (checkedPlan plan) (givenOver case)
 
 abbrev pub bindingsOf : Given → List Bound
 bindingsOf g = bindings (g .plan) (g .case)
@@ -41,8 +41,8 @@ abbrev pub boundIn : ℕ → Verdict Given → Bound
 boundIn f (fine g) = bindingAt (bindingsOf g) f
 boundIn f (refused n k) = unbound
 
-unfoldable pub bound : List ℕ → List ℕ → ℕ → Bound
-bound plan case f = boundIn f (given plan case)
+unfoldable pub bindingIn : List ℕ → List ℕ → ℕ → Bound
+bindingIn plan case f = boundIn f (bothRead plan case)
 
 -- a binding as a number
 abbrev pub codeOf : Bound → ℕ
@@ -55,15 +55,15 @@ codeOf (conflict (just true)) = 5
 codeOf (conflict both) = 6
 
 -- the influence of each fact, then of each decision: none where they are not read
-abbrev pub listed : Influence → List ℕ
-listed I = I .facts ++ I .decisions
+abbrev pub setsListed : Influence → List ℕ
+setsListed I = I .facts ++ I .decisions
 
 abbrev pub influencesIn : Verdict Given → List ℕ
-influencesIn (fine g) = listed (influence (frameOf (g .plan) (g .case)) (bindingsOf g))
+influencesIn (fine g) = setsListed (influence (frameOf (g .plan) (g .case)) (bindingsOf g))
 influencesIn (refused n k) = []
 
 unfoldable pub influences : List ℕ → List ℕ → List ℕ
-influences plan case = influencesIn (given plan case)
+influences plan case = influencesIn (bothRead plan case)
 
 -- ---- "Variables: Unknown facts (false, true), Conflicts (candidates, false first), unresolved decisions (false, true)"
 
@@ -97,7 +97,7 @@ variablesIn (fine g) = variableCodes (bindingsOf g) (slots (g .plan))
 variablesIn (refused n k) = []
 
 unfoldable pub variables : List ℕ → List ℕ → List ℕ
-variables plan case = variablesIn (given plan case)
+variables plan case = variablesIn (bothRead plan case)
 
 -- ---- the count of worlds before constraints and the heading's maximum, "both 2^64 − 1 from 2^64 on": zeros where they are not read
 
@@ -108,8 +108,8 @@ abbrev pub countIn : Verdict Given → Count
 countIn (fine g) = countOf (worldCount (g .plan) (bindingsOf g)) (caseHeading (g .case) .mostWorlds)
 countIn (refused n k) = nothingCounted
 
-unfoldable pub counted : List ℕ → List ℕ → Count
-counted plan case = countIn (given plan case)
+unfoldable pub worldsCounted : List ℕ → List ℕ → Count
+worldsCounted plan case = countIn (bothRead plan case)
 
 -- ---- the first refusal up to the count of worlds; 8, 9 and 12, which document 01 has between reading and binding, are left out
 
@@ -121,5 +121,5 @@ abbrev pub refusalIn : Verdict Given → Verdict Case
 refusalIn (fine g) = refusalBy (g .case) (countIn (fine g) .refused)
 refusalIn (refused n k) = refused n k
 
-unfoldable pub refusal : List ℕ → List ℕ → Verdict Case
-refusal plan case = refusalIn (given plan case)
+unfoldable pub caseRefusal : List ℕ → List ℕ → Verdict Case
+caseRefusal plan case = refusalIn (bothRead plan case)

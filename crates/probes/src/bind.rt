@@ -21,7 +21,7 @@ ghost use Rattle.records.specs.paper.Fields.{fine, refused};
 ghost use Rattle.records.specs.code.Decoded.{planOf, caseOf};
 ghost use Rattle.records.specs.promises.Sound.{Sound, SoundCase};
 ghost use Rattle.expressions.specs.code.Influences.{setsOf};
-ghost use Rattle.probes.specs.Entries.{given};
+ghost use Rattle.probes.specs.Entries.{bothRead};
 ghost use Rattle.probes.specs.Binds.{Binds};
 
 // The code of each fact's binding, the influence of facts and decisions, the order of what a world gives values to, the count of worlds, and
@@ -85,7 +85,7 @@ fn bound_over(plan: Plan, case: Case) -> Bound
 }
 
 pub fn bind(plan: &[u8], case: &[u8]) -> Bound
-    ensures { λ r. ⌜ Binds (given (now (plan .entry)) (now (case .entry))) r ⌝ }
+    ensures { λ r. ⌜ Binds (bothRead (now (plan .entry)) (now (case .entry))) r ⌝ }
 {
     let read = decode_plan(plan);
     if read.number != 0 {

@@ -12,13 +12,13 @@ use variables::list_variables;
 use variables::variable_at;
 ghost use mathlib.Core.Path.{_≡_};
 ghost use lib.ListN.{length, getD};
-ghost use Rattle.probes.specs.Entries.{numberOf, recordOf, codeOf, bound, influences, variables, counted, refusal};
+ghost use Rattle.probes.specs.Entries.{refusalNumber, recordOf, codeOf, bindingIn, influences, variables, worldsCounted, caseRefusal};
 
 // How a case binds a fact, as a code: 0 not bound, and for every fact where plan or case is not read; 1 known false, 2 known true, 3 unknown,
 // 4 a conflict of false, 5 of true, 6 of both.
 #[no_mangle]
 pub extern "C" fn lukhveri_binding(plan: &[u8], case: &[u8], fact: usize) -> u8
-    ensures { λ r. ⌜ r ≡ codeOf (bound (now (plan .entry)) (now (case .entry)) fact) ⌝ }
+    ensures { λ r. ⌜ r ≡ codeOf (bindingIn (now (plan .entry)) (now (case .entry)) fact) ⌝ }
 {
     let found = bind(plan, case);
     let codes = found.codes;
@@ -59,7 +59,7 @@ pub extern "C" fn lukhveri_variable(plan: &[u8], case: &[u8], place: usize) -> u
 #[no_mangle]
 pub extern "C" fn lukhveri_worlds(plan: &[u8], case: &[u8], maximum: &mut u64) -> u64
     ensures { λ r.
-        ⌜ (r ≡ counted (now (plan .entry)) (now (case .entry)) .count) × (now (maximum .exit) ≡ counted (now (plan .entry)) (now (case .entry)) .maximum) ⌝ }
+        ⌜ (r ≡ worldsCounted (now (plan .entry)) (now (case .entry)) .count) × (now (maximum .exit) ≡ worldsCounted (now (plan .entry)) (now (case .entry)) .maximum) ⌝ }
 {
     let found = bind(plan, case);
     let count = found.count;
@@ -71,7 +71,7 @@ pub extern "C" fn lukhveri_worlds(plan: &[u8], case: &[u8], maximum: &mut u64) -
 #[no_mangle]
 pub extern "C" fn lukhveri_bindable(plan: &[u8], case: &[u8], place: &mut u64) -> u8
     ensures { λ r.
-        ⌜ (r ≡ numberOf (refusal (now (plan .entry)) (now (case .entry)))) × (now (place .exit) ≡ recordOf (refusal (now (plan .entry)) (now (case .entry)))) ⌝ }
+        ⌜ (r ≡ refusalNumber (caseRefusal (now (plan .entry)) (now (case .entry)))) × (now (place .exit) ≡ recordOf (caseRefusal (now (plan .entry)) (now (case .entry)))) ⌝ }
 {
     let found = bind(plan, case);
     let refusal = found.refusal;

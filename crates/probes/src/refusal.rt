@@ -4,7 +4,7 @@ use records::case::Case;
 use records::checked::Checked;
 ghost use Rattle.records.specs.code.Decoded.{caseOf};
 ghost use Rattle.probes.specs.Entries.{refusalBy};
-ghost use Rattle.probes.specs.Binds.{Tells};
+ghost use Rattle.probes.specs.Binds.{TellsVerdict};
 
 // Number 0 and place 0 where nothing is refused.
 pub struct Refusal {
@@ -14,7 +14,7 @@ pub struct Refusal {
 
 // `over`: there are more worlds than the heading allows.
 pub fn refusal_of(case: Case, over: bool) -> Refusal
-    ensures { λ r. ⌜ Tells (refusalBy (caseOf case) over) r ⌝ }
+    ensures { λ r. ⌜ TellsVerdict (refusalBy (caseOf case) over) r ⌝ }
 {
     let found = bindable(case);
     match found {

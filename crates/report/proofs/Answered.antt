@@ -56,11 +56,7 @@ refused-gives l e a bytes n h = absurd (n h)
 
 pub too-many : (count most : ℕ) → told (tooMany count most) .refusal ≡ 0 → ⊥
 unfolding tooMany
-too-many count most = go (ltb count (2 ^ 64)) (TooManyWorlds count most) (TooManyWorlds (2 ^ 64 - 1) (2 ^ 64 - 1)) (λ h. omega arith) (λ h. omega arith)
-  where
-    go : (b : Bool) (x y : Answer) → (told x .refusal ≡ 0 → ⊥) → (told y .refusal ≡ 0 → ⊥) → told (cond b x y) .refusal ≡ 0 → ⊥
-    go true x y h k = h
-    go false x y h k = k
+too-many count most h = omega arith
 
 written-lines : (l e : ℕ) (ls : List Line) (es : List (List ℕ)) (n : ℕ) → Gives (written l e ls es n) (filled l (map lineBytes ls))
 unfolding written

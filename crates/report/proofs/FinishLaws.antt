@@ -37,7 +37,7 @@ use Rattle.worlds.specs.code.Tables.{row}
 use Rattle.report.specs.paper.Line.{Line, lineBytes, bareLine, lineOver, lineIn, firstKind, holding}
 use Rattle.report.specs.paper.EventList.{insert, rising, defaultEvents}
 use Rattle.report.specs.code.Happened.{Rises, Gathered, defaultOver, discretionOver, happened}
-use Rattle.report.specs.code.EventsWritten.{byRules, countOf, RuleEvents, AllWritten}
+use Rattle.report.specs.code.EventsWritten.{byRules, eventCount, RuleEvents, AllWritten}
 use Rattle.report.specs.code.Nine.{Nines}
 use Rattle.report.specs.code.Kept.{Kept}
 use Rattle.report.specs.code.Written.{SumsOf, LinesBy}
@@ -317,7 +317,7 @@ module _ {plan : Plan} {c : Case} {o : Opens} (w : Wanted) {walked : Walked} {no
   rules = byRules P C sums noted (o .defaults)
 
   abbrev count : ℕ
-  count = countOf sums noted (o .defaults) (cutCount P)
+  count = eventCount sums noted (o .defaults) (cutCount P)
 
   abbrev KeptOf : List World → Type 0
   KeptOf ws = Kept P people ws sums noted (walked .listing) events₀

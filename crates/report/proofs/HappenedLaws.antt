@@ -18,7 +18,7 @@ use Rattle.worlds.specs.paper.Events.{listed}
 use Rattle.worlds.proofs.FindLaws.{few-low}
 use Rattle.report.specs.code.Happened.{frozenOver, appliedOver, blockedOver, overlapOver, attachmentOver, barOver, statusOver, defaultOver, discretionOver, happened}
 use Rattle.report.specs.code.EventBytes.{Below, Writes, sizes}
-use Rattle.report.specs.code.EventsWritten.{Shifted, byRules, countOf, RuleEvents, EventsWritten, AllWritten}
+use Rattle.report.specs.code.EventsWritten.{Shifted, byRules, eventCount, RuleEvents, EventsWritten, AllWritten}
 use Rattle.report.proofs.EventLaws.{event-length, listed-members, Long, long-map, long-both, writes-both, writes-long}
 
 -- ---- bytes moved up
@@ -178,7 +178,7 @@ module _ (plan : Plan) (c : Case) (sums noted : List (List ℕ)) (defaults : ℕ
 
   module _ (r : RuleEvents plan c sums noted defaults (length before)) where
     fits : 12 * (clashes + size (row sums 4 6) + size (row sums 4 7) + size (row sums 4 8) + size defaults) ≤ length before
-    unfolding countOf
+    unfolding eventCount
     fits = let f = r .fit in omega arith
 
     many-frozen : Many frozen (size (row sums 4 4))
@@ -219,8 +219,8 @@ module _ (plan : Plan) (c : Case) (sums noted : List (List ℕ)) (defaults : ℕ
     frozen-room = let f = fits in omega arith
 
     -- HOW MANY THERE ARE BY RULE
-    pub rules-many : Many (byRules (planOf plan) (caseOf c) sums noted defaults) (countOf sums noted defaults (cutCount (planOf plan)))
-    unfolding byRules happened discretionOver countOf flatMap
+    pub rules-many : Many (byRules (planOf plan) (caseOf c) sums noted defaults) (eventCount sums noted defaults (cutCount (planOf plan)))
+    unfolding byRules happened discretionOver eventCount flatMap
     rules-many =
         let none : Many [] 0 = record { count = refl; each = record { bytes = refl } } in
         let m =
@@ -277,7 +277,7 @@ module _ (plan : Plan) (c : Case) (sums noted : List (List ℕ)) (defaults : ℕ
 
     -- ALL KINDS ARE WRITTEN
     pub all-written : {after : List ℕ} {next : ℕ} → Defaulted after next → EventsWritten (planOf plan) (caseOf c) sums noted defaults before after
-    unfolding byRules happened discretionOver countOf
+    unfolding byRules happened discretionOver eventCount
     all-written {after} {next} u =
         let e : excluded ++ defaultOver (planOf plan) defaults ≡ byRules (planOf plan) (caseOf c) sums noted defaults = simp (append-assoc, append-nil) in record {
           bytes =
@@ -290,6 +290,22 @@ module _ (plan : Plan) (c : Case) (sums noted : List (List ℕ)) (defaults : ℕ
 
 pub room-same : (plan : Plan) (c : Case) (sums noted : List (List ℕ)) (defaults : ℕ) {m n : ℕ} → n ≡ m → RuleEvents plan c sums noted defaults m → RuleEvents plan c sums noted defaults n
 room-same plan c sums noted defaults e = subst (RuleEvents plan c sums noted defaults) (sym e)
+
+-- where there are none, nothing moves
+pub none-written : (plan : Plan) (c : Case) (sums noted : List (List ℕ)) (defaults count listed : ℕ) (before : List ℕ) → RuleEvents plan c sums noted defaults (length before) → count ≡ 0
+    → AllWritten (planOf plan) (caseOf c) sums noted defaults count listed before before
+unfolding flatMap
+none-written plan c sums noted defaults count listed before r z = record {
+  bytes = λ e.
+      let es = byRules (planOf plan) (caseOf c) sums noted defaults in
+      let k : length es ≡ 0 = rules-many plan c sums noted defaults before r .count ∙ sym e ∙ z in
+      sym (take-append-drop (12 * listed) before)
+      ∙ ap₂ (λ (xs : List (List ℕ)) (j : ℕ). flatMap (λ e. e) xs ++ (take (12 * listed) before ++ drop j before)) (sym (length-none es k)) (let y : 12 * listed ≡ 12 * (count + listed) = omega arith in y);
+}
+  where
+    length-none : {A : Type 0} (xs : List A) → length xs ≡ 0 → xs ≡ []
+    length-none [] k = refl
+    length-none (x ∷ xs) k = absurd (omega arith)
 
 pub behind-all : (plan : Plan) (c : Case) (sums noted : List (List ℕ)) (defaults count listed : ℕ) (before mid after : List ℕ) → Shifted (listed * 12) (count * 12) before mid
     → EventsWritten (planOf plan) (caseOf c) sums noted defaults mid after → AllWritten (planOf plan) (caseOf c) sums noted defaults count listed before after

@@ -9,8 +9,8 @@ use lib.ListN.{length, getD, take, drop, drop-of-length-le}
 use Rattle.records.specs.paper.Sets.{union, subset, size, below, unionBelow, unionOf}
 use Rattle.records.specs.paper.Plan.{Plan}
 use Rattle.records.specs.paper.Case.{CaseHeading}
-use Rattle.expressions.specs.paper.Rules.{edgeCount, cutCount, attachmentCount, barCount, statusCount, cut, bar, status, pair, span, ruleSets, rulePersons}
-use Rattle.expressions.specs.code.Listed.{statusHolds}
+use Rattle.expressions.specs.paper.Rules.{edgeCount, cutCount, attachmentCount, barCount, statusCount, cut, bar, status, pair, withAnchor, ruleSets, rulePersons}
+use Rattle.expressions.specs.code.Listed.{heldByStatus}
 use Rattle.expressions.proofs.ListLaws.{rest-next, made-length, made-at}
 use Rattle.expressions.proofs.RuleLaws.{below-list}
 use Rattle.expressions.proofs.UnionLaws.{union-assoc, union-append}
@@ -45,24 +45,24 @@ unfolding unionOf
 map-union g [] = refl
 map-union g (x ∷ xs) = ap (union (g x)) (map-union g xs)
 
-status-union : (P : Plan) → unionOf statusHolds (P .statuses) ≡ unionBelow (statusCount P) (λ i. statusHolds (status P i))
+status-union : (P : Plan) → unionOf heldByStatus (P .statuses) ≡ unionBelow (statusCount P) (λ i. heldByStatus (status P i))
 unfolding status
 status-union P =
-    sym (map-union statusHolds (P .statuses)) ∙ ap (unionOf itself) (sym (below-list statusHolds _ (P .statuses)))
-    ∙ union-below itself (statusCount P) (λ i. statusHolds (status P i))
+    sym (map-union heldByStatus (P .statuses)) ∙ ap (unionOf itself) (sym (below-list heldByStatus _ (P .statuses)))
+    ∙ union-below itself (statusCount P) (λ i. heldByStatus (status P i))
 
-pub persons-are : (P : Plan) → union (unionOf itself (ruleSets P)) (unionOf statusHolds (P .statuses)) ≡ rulePersons P
+pub persons-are : (P : Plan) → union (unionOf itself (ruleSets P)) (unionOf heldByStatus (P .statuses)) ≡ rulePersons P
 unfolding ruleSets rulePersons
 persons-are P =
     let es = below (edgeCount P) (pair P) in
     let bs = below (cutCount P) (λ i. cut P i .members) in
-    let cs = below (attachmentCount P) (span P) in
+    let cs = below (attachmentCount P) (withAnchor P) in
     let ds = below (barCount P) (λ i. bar P i .members) in
-    let e = unionOf statusHolds (P .statuses) in
+    let e = unionOf heldByStatus (P .statuses) in
     union-then es (bs ++ (cs ++ ds)) e
     ∙ ap₂ union (union-below itself (edgeCount P) (pair P)) (union-then bs (cs ++ ds) e
     ∙ ap₂ union (union-below itself (cutCount P) (λ i. cut P i .members)) (union-then cs ds e
-    ∙ ap₂ union (union-below itself (attachmentCount P) (span P))
+    ∙ ap₂ union (union-below itself (attachmentCount P) (withAnchor P))
     (ap₂ union (union-below itself (barCount P) (λ i. bar P i .members)) (status-union P))))
 
 -- ---- the refusals

@@ -113,12 +113,7 @@ not-both (refused m j) e f = let z : _≡_ {A = ℕ} 0 1 = cc in omega arith
 -- the code's count and maximum are those of refusal 11
 too-many : (n most : ℕ) → tooMany n most ≡ TooManyWorlds (countOf n most .count) (countOf n most .maximum)
 unfolding tooMany countOf
-too-many n most = pick (ltb n (2 ^ 64)) refl
-  where
-    pick : (b : Bool) → ltb n (2 ^ 64) ≡ b
-        → cond b (TooManyWorlds n most) (TooManyWorlds (2 ^ 64 - 1) (2 ^ 64 - 1)) ≡ TooManyWorlds (min n (2 ^ 64 - 1)) (cond b most (2 ^ 64 - 1))
-    pick true q = let l = ltb-true n (2 ^ 64) q in let m : n ≡ min n (2 ^ 64 - 1) = omega arith in ap (λ (x : ℕ). TooManyWorlds x most) m
-    pick false q = let l = ltb-false n (2 ^ 64) q in let m : 2 ^ 64 - 1 ≡ min n (2 ^ 64 - 1) = omega arith in ap (λ (x : ℕ). TooManyWorlds x (2 ^ 64 - 1)) m
+too-many n most = refl
 
 -- ---- the heading
 

@@ -25,9 +25,9 @@ use Rattle.expressions.specs.paper.Influence.{Frame, openDecisions, decisionCou
 use Rattle.expressions.specs.declared.bindings.Bound as code-bound
 use Rattle.expressions.specs.paper.Bindings.{Bound, bindings, bindingOf, frameOf, tookDefault, tookDefaultBy}
 use Rattle.expressions.specs.paper.Variables as variables
-use Rattle.expressions.specs.paper.Variables.{Values, slots, worlds, booleanCount, isVariable, factInfluence, decisionInfluence, influence}
-use Rattle.expressions.specs.code.Coded.{frameBy}
-use Rattle.expressions.specs.code.Slots.{slotOf, slotsOf, slotsBy, booleansIn}
+use Rattle.expressions.specs.paper.Variables.{Values, slotsBy, slots, worlds, booleansAmong, booleanCount, isVariable, factInfluence, decisionInfluence, influence}
+use Rattle.expressions.specs.code.Coded.{factsOf, frameBy}
+use Rattle.expressions.specs.code.Slots.{slotOf, slotsOf}
 use Rattle.expressions.specs.code.Reached.{Reached}
 use Rattle.expressions.specs.code.Influences.{setsOf, influenceBy}
 use Rattle.expressions.specs.declared.influence.Influence.{Influence}
@@ -55,7 +55,8 @@ use Rattle.report.specs.paper.Operations.{relationOf, mismatched, headin
 use Rattle.report.specs.paper.Line.{lineLength}
 use Rattle.report.specs.code.Run.{Started, Runs}
 use Rattle.report.specs.code.Finish.{Ends, Placed, ended, Finishes}
-use Rattle.report.specs.code.Ready.{Defaulted, Concerns, IsReady, readyOutcome, AnswersReady}
+use Rattle.expressions.specs.code.Told.{Defaulted}
+use Rattle.report.specs.code.Ready.{Concerns, IsReady, readyOutcome, AnswersReady}
 use Rattle.report.specs.declared.Answer.{Answer}
 use Rattle.report.specs.declared.finish.Opens.{Opens}
 use Rattle.report.specs.declared.nine.Listing.{Listing}
@@ -245,9 +246,9 @@ module _ {plan : Plan} {c : Case} {reach : Reach} {given : code-bound.Bound} {li
   decisions-are : reach .undecided .count ≡ decisionCount P
   decisions-are = opens-number (reach .undecided) (openDecisions P) (over .opens)
 
-  module _ {booleans : ℕ} (b : booleans ≡ booleansIn (plan .facts)) where
+  module _ {booleans : ℕ} (b : booleans ≡ booleansAmong (factsOf (plan .facts))) where
     booleans-are : booleans ≡ booleanCount P
-    unfolding booleansIn booleanCount planOf
+    unfolding factsOf booleanCount planOf
     booleans-are = b
 
     pub booleans-fit : booleans ≤ reach .count
@@ -332,8 +333,8 @@ module _ {plan : Plan} {c : Case} {reach : Reach} {given : code-bound.Bound} {li
     all-counted = over-case .1 ∙ sym (ap length worlds-are ∙ length-map (worlds F bs) made)
 
     module _ {i : Influence} (sets : setsOf i ≡ influences P C bs .facts ++ influences P C bs .decisions) {o : Opens} (concerns : Concerns i (reach .count) (given .defaults) (w .all) o) where
-      default-at : w .all ≡ true → Defaulted plan c (reach .bound) (o .defaults)
-      default-at e = subst (Defaulted plan c (reach .bound)) (sym (concerns .yes e .3)) (h .defaulted)
+      default-at : w .all ≡ true → Defaulted P C (reach .bound) (o .defaults)
+      default-at e = subst (Defaulted P C (reach .bound)) (sym (concerns .yes e .3)) (h .defaulted)
 
       -- the sets are within their array, those of the facts first
       fits : (b : Bool) → w .all ≡ b → (o .facts ≤ o .influence .count) × (o .facts ≤ 64) × (o .influence .count ≤ o .facts + 16) × (o .influence .count ≤ 80)

@@ -16,6 +16,7 @@ use crate::sums::MOVED;
 use crate::sums::Sums;
 use crate::sums::TALLY;
 use expressions::counts::upto;
+use expressions::evidence::evidence_by_fact;
 use records::case::Case;
 use records::plan::Plan;
 use records::sets::size;
@@ -26,7 +27,7 @@ ghost use mathlib.Core.Path.{_≡_};
 ghost use Prim.Native.Nat.{_+_, _*_, _≤_};
 ghost use lib.ListN.{length};
 ghost use Rattle.records.specs.code.Decoded.{planOf, caseOf};
-ghost use Rattle.report.specs.code.EventsWritten.{countOf, Shifted, RuleEvents, EventsWritten, AllWritten};
+ghost use Rattle.report.specs.code.EventsWritten.{eventCount, Shifted, RuleEvents, EventsWritten, AllWritten};
 
 // The first n bytes moved up; what stood between is free.
 fn shift_up(events: &mut [u8], n: usize, by: usize)
@@ -45,7 +46,7 @@ fn shift_up(events: &mut [u8], n: usize, by: usize)
 // How many events there are but for kind 9.
 pub fn count_events(sums: &Sums, noted: &Noted, defaults: u64, cuts: usize) -> usize
     requires { ⌜ cuts ≤ 16 ⌝ }
-    ensures { λ r. ⌜ (r ≡ countOf (now (sums .entry)) (now (noted .entry)) defaults cuts) × (r ≤ 4096) ⌝ }
+    ensures { λ r. ⌜ (r ≡ eventCount (now (sums .entry)) (now (noted .entry)) defaults cuts) × (r ≤ 4096) ⌝ }
 {
     let rules = size(sums[TALLY][FROZEN]) + size(sums[TALLY][APPLIED]) + size(sums[TALLY][MOVED]);
     let more = size(sums[TALLY][BARRING]) + size(sums[TALLY][EXCLUDING]) + size(defaults);
@@ -62,18 +63,19 @@ fn write_rules(events: &mut [u8], plan: Plan, case: Case, sums: &Sums, noted: &N
     let cuts = plan.cuts;
     let attachments = plan.attachments;
     let statuses = plan.statuses;
+    let evidence = evidence_by_fact(case);
     let n = upto(cuts.count, 16);
     let a = write_frozen(events, 0, edges, sums[TALLY][FROZEN]);
-    let b = write_applied(events, a, cuts, case, sums[TALLY][APPLIED]);
-    let c = write_blocked(events, b, cuts, case, &noted[BLOCKINGS], n);
+    let b = write_applied(events, a, cuts, &evidence, sums[TALLY][APPLIED]);
+    let c = write_blocked(events, b, cuts, &evidence, &noted[BLOCKINGS], n);
     let d = write_clashes(events, c, &noted[CLASHES], n);
-    let e = write_attachments(events, d, attachments, case, sums[TALLY][MOVED]);
+    let e = write_attachments(events, d, attachments, &evidence, sums[TALLY][MOVED]);
     let f = write_bars(events, e, sums[TALLY][BARRING]);
     let g = write_statuses(events, f, statuses, sums[TALLY][EXCLUDING]);
-    write_defaults(events, g, plan, defaults);
+    write_defaults(events, g, cuts, attachments, defaults);
 }
 
-// All events: `listed` of kind 9 stand at the start of the buffer, and come behind the `count` others.
+// All events: `listed` of kind 9 stand at the start of the buffer, and come behind the `count` others, where there are any.
 pub fn write_events(
     events: &mut [u8],
     plan: Plan,
@@ -87,6 +89,9 @@ pub fn write_events(
     requires { ⌜ RuleEvents plan case (now sums) (now noted) defaults (length (now events)) × (12 * (count + listed) ≤ length (now events)) ⌝ }
     ensures { λ r. ⌜ AllWritten (planOf plan) (caseOf case) (now (sums .entry)) (now (noted .entry)) defaults count listed (now (events .entry)) (now (events .exit)) ⌝ }
 {
+    if count == 0 {
+        return;
+    }
     shift_up(events, listed * 12, count * 12);
     write_rules(events, plan, case, sums, noted, defaults);
 }

@@ -12,7 +12,7 @@ ghost use lib.ListN.{take};
 ghost use Rattle.records.specs.paper.Sets.{unionOf};
 ghost use Rattle.records.specs.promises.Sound.{All};
 ghost use Rattle.expressions.specs.code.Coded.{statusesOf, PersonFits};
-ghost use Rattle.expressions.specs.code.Listed.{statusHolds};
+ghost use Rattle.expressions.specs.code.Listed.{heldByStatus};
 ghost use Rattle.report.specs.code.Opening.{itself, RulePersons, HeadingFault};
 
 // All who are in one of these sets.
@@ -31,7 +31,7 @@ fn united(sets: &[u64]) -> u64
 // The persons whom statuses name.
 fn status_persons(statuses: Statuses) -> u64
     requires { ⌜ All PersonFits (statusesOf statuses) ⌝ }
-    ensures { λ r. ⌜ r ≡ unionOf statusHolds (statusesOf statuses) ⌝ }
+    ensures { λ r. ⌜ r ≡ unionOf heldByStatus (statusesOf statuses) ⌝ }
 {
     let n = upto(statuses.count, 32);
     let mut all: u64 = 0;

@@ -1,14 +1,12 @@
 // The events of all worlds kind by kind, rising by rule; each writer starts at a place and hands back the place behind its last event.
 use crate::event::Event;
 use crate::event::write_event;
-use expressions::elections::election_on;
-use expressions::evidence::evidence_of;
-use records::case::Case;
+use expressions::counts::wide;
+use expressions::elections::elect;
 use records::plan::Attachments;
 use records::plan::Cuts;
 use records::plan::Edges;
 use records::plan::Election;
-use records::plan::Plan;
 use records::plan::Statuses;
 use worlds::over::low;
 use worlds::over::others;
@@ -17,9 +15,10 @@ ghost use Prim.Native.Nat.{_+_, _*_, _≤_};
 ghost use lib.ListN.{length};
 ghost use Rattle.records.specs.paper.Sets.{size};
 ghost use Rattle.records.specs.paper.Plan.{Plan as Paper};
-ghost use Rattle.records.specs.code.Decoded.{planOf, caseOf, electionOf};
+ghost use Rattle.records.specs.paper.Case.{Case as PaperCase};
+ghost use Rattle.records.specs.code.Decoded.{electionOf};
 ghost use Rattle.expressions.specs.code.Coded.{edgesOf, cutsOf, attachmentsOf, statusesOf};
-ghost use Rattle.expressions.specs.code.Evident.{ReadCase};
+ghost use Rattle.expressions.specs.code.Evident.{EvidenceBy};
 ghost use Rattle.expressions.specs.paper.Rules.{edgeCount, cutCount, attachmentCount, barCount, statusCount, factCount};
 ghost use Rattle.worlds.specs.paper.Events.{electionActor, electionEvidence};
 ghost use Rattle.expressions.specs.paper.Bindings.{defaultOf};
@@ -58,22 +57,23 @@ pub fn actor_of(e: Election) -> u8
     if e.given { e.actor } else { 0 }
 }
 
-// All the evidence that a case gives for an election's fact; none without an election.
-pub fn election_evidence(case: Case, e: Election) -> u64
-    requires { ⌜ ReadCase (caseOf case) ⌝ }
-    ensures { λ r. ⌜ r ≡ electionEvidence (caseOf case) (electionOf e) ⌝ }
+// All the evidence that a case gives for an election's fact, by the table of its facts; none without an election.
+pub fn election_evidence(evidence: &[u64; 256], e: Election) -> u64
+    ensures { λ r. ⌜ ((C : PaperCase) → EvidenceBy C (now (evidence .entry)) → r ≡ electionEvidence C (electionOf e)) ⌝ }
 {
-    if e.given {
-        evidence_of(case, e.fact)
-    } else {
-        0
-    }
+    if e.given { evidence[wide(e.fact)] } else { 0 }
 }
 
 // 2 applied: cut, actor, 0, evidence.
-pub fn write_applied(events: &mut [u8], at: usize, cuts: Cuts, case: Case, applied: u64) -> usize
-    requires { ⌜ (at + 12 * size applied ≤ length (now events)) × Below applied 16 × ReadCase (caseOf case) ⌝ }
-    ensures { λ r. ⌜ ((P : Paper) → P .cuts ≡ cutsOf cuts → Below applied (cutCount P) → Writes at (appliedOver P (caseOf case) applied) (now (events .entry)) (now (events .exit)) r) ⌝ }
+pub fn write_applied(
+    events: &mut [u8],
+    at: usize,
+    cuts: Cuts,
+    evidence: &[u64; 256],
+    applied: u64,
+) -> usize
+    requires { ⌜ (at + 12 * size applied ≤ length (now events)) × Below applied 16 ⌝ }
+    ensures { λ r. ⌜ ((P : Paper) (C : PaperCase) → P .cuts ≡ cutsOf cuts → EvidenceBy C (now (evidence .entry)) → Below applied (cutCount P) → Writes at (appliedOver P C applied) (now (events .entry)) (now (events .exit)) r) ⌝ }
 {
     let mut place = at;
     let mut m = applied;
@@ -86,7 +86,7 @@ pub fn write_applied(events: &mut [u8], at: usize, cuts: Cuts, case: Case, appli
             a: i as u8,
             b: actor_of(e),
             c: 0,
-            mask: election_evidence(case, e),
+            mask: election_evidence(evidence, e),
         };
         write_event(&mut events[place..], event);
         place = place + 12;
@@ -100,11 +100,11 @@ pub fn write_attachments(
     events: &mut [u8],
     at: usize,
     attachments: Attachments,
-    case: Case,
+    evidence: &[u64; 256],
     moved: u64,
 ) -> usize
-    requires { ⌜ (at + 12 * size moved ≤ length (now events)) × Below moved 32 × ReadCase (caseOf case) ⌝ }
-    ensures { λ r. ⌜ ((P : Paper) → P .attachments ≡ attachmentsOf attachments → Below moved (attachmentCount P) → Writes at (attachmentOver P (caseOf case) moved) (now (events .entry)) (now (events .exit)) r) ⌝ }
+    requires { ⌜ (at + 12 * size moved ≤ length (now events)) × Below moved 32 ⌝ }
+    ensures { λ r. ⌜ ((P : Paper) (C : PaperCase) → P .attachments ≡ attachmentsOf attachments → EvidenceBy C (now (evidence .entry)) → Below moved (attachmentCount P) → Writes at (attachmentOver P C moved) (now (events .entry)) (now (events .exit)) r) ⌝ }
 {
     let mut place = at;
     let mut m = moved;
@@ -117,7 +117,7 @@ pub fn write_attachments(
             a: i as u8,
             b: a.anchor,
             c: a.actor,
-            mask: election_evidence(case, e),
+            mask: election_evidence(evidence, e),
         };
         write_event(&mut events[place..], event);
         place = place + 12;
@@ -187,15 +187,25 @@ fn citation_of(e: Election) -> u64
 }
 
 // 8 default: fact, actor, value, citation number.
-pub fn write_defaults(events: &mut [u8], at: usize, plan: Plan, defaults: u64) -> usize
+pub fn write_defaults(
+    events: &mut [u8],
+    at: usize,
+    cuts: Cuts,
+    attachments: Attachments,
+    defaults: u64,
+) -> usize
     requires { ⌜ at + 12 * size defaults ≤ length (now events) ⌝ }
-    ensures { λ r. ⌜ (Below defaults (factCount (planOf plan)) → Writes at (defaultOver (planOf plan) defaults) (now (events .entry)) (now (events .exit)) r) ⌝ }
+    ensures { λ r. ⌜ ((P : Paper) → P .cuts ≡ cutsOf cuts → P .attachments ≡ attachmentsOf attachments → Below defaults (factCount P) → Writes at (defaultOver P defaults) (now (events .entry)) (now (events .exit)) r) ⌝ }
 {
+    if defaults == 0 {
+        return at;
+    }
+    let elections = elect(cuts, attachments);
     let mut place = at;
     let mut m = defaults;
     while m != 0 {
         let i = low(m);
-        let e = election_on(plan, i as u8);
+        let e = elections.items[i];
         let event = Event {
             kind: 8,
             a: i as u8,

@@ -3,7 +3,6 @@ use crate::event::Event;
 use crate::event::write_event;
 use crate::kinds::actor_of;
 use crate::kinds::election_evidence;
-use records::case::Case;
 use records::plan::Cuts;
 use records::sets::size;
 use worlds::over::low;
@@ -13,9 +12,9 @@ ghost use Prim.Native.Nat.{ℕ, _+_, _*_, _≤_};
 ghost use lib.ListN.{length};
 ghost use Rattle.records.specs.paper.Sets.{size as many};
 ghost use Rattle.records.specs.paper.Plan.{Plan as Paper};
-ghost use Rattle.records.specs.code.Decoded.{caseOf};
+ghost use Rattle.records.specs.paper.Case.{Case as PaperCase};
 ghost use Rattle.expressions.specs.code.Coded.{cutsOf};
-ghost use Rattle.expressions.specs.code.Evident.{ReadCase};
+ghost use Rattle.expressions.specs.code.Evident.{EvidenceBy};
 ghost use Rattle.expressions.specs.paper.Rules.{edgeCount, cutCount};
 ghost use Rattle.worlds.specs.code.Over.{entry};
 ghost use Rattle.report.specs.code.Happened.{blockedOver, overlapOver};
@@ -48,13 +47,13 @@ pub fn write_blocked(
     events: &mut [u8],
     at: usize,
     cuts: Cuts,
-    case: Case,
+    evidence: &[u64; 256],
     blockings: &[u64; 64],
     n: usize,
 ) -> usize
-    requires { ⌜ (n ≤ 16) × (at + 12 * sizes n (entry (now blockings)) ≤ length (now events)) × ReadCase (caseOf case) ⌝ }
-    ensures { λ r. ⌜ ((P : Paper) → P .cuts ≡ cutsOf cuts → n ≡ cutCount P → ((c : ℕ) → Below (entry (now (blockings .entry)) c) (edgeCount P))
-        → Writes at (blockedOver P (caseOf case) (entry (now (blockings .entry)))) (now (events .entry)) (now (events .exit)) r) ⌝ }
+    requires { ⌜ (n ≤ 16) × (at + 12 * sizes n (entry (now blockings)) ≤ length (now events)) ⌝ }
+    ensures { λ r. ⌜ ((P : Paper) (C : PaperCase) → P .cuts ≡ cutsOf cuts → EvidenceBy C (now (evidence .entry)) → n ≡ cutCount P → ((c : ℕ) → Below (entry (now (blockings .entry)) c) (edgeCount P))
+        → Writes at (blockedOver P C (entry (now (blockings .entry)))) (now (events .entry)) (now (events .exit)) r) ⌝ }
 {
     let mut place = at;
     let mut i: usize = 0;
@@ -67,7 +66,7 @@ pub fn write_blocked(
                 a: i as u8,
                 b: 0,
                 c: actor_of(e),
-                mask: election_evidence(case, e),
+                mask: election_evidence(evidence, e),
             };
             place = write_pairs(events, place, first, blockings[i]);
         }

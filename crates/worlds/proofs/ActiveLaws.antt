@@ -24,7 +24,7 @@ use Rattle.expressions.proofs.ListLaws.{below-at}
 use Rattle.expressions.proofs.Follow.{On, node-follows}
 use Rattle.worlds.specs.paper.Active.{active, flags}
 use Rattle.worlds.specs.code.Over.{entry}
-use Rattle.worlds.specs.code.Tables.{row, Tells}
+use Rattle.worlds.specs.code.Tables.{row, TellsActive}
 use Rattle.worlds.specs.code.Valued.{NodesStand, OpenNodes, Valued, bitsAt, Chosen, ValuedWords, ReadWorld, Steady}
 use Rattle.worlds.specs.code.Conditions.{Split, Known, ActiveBy}
 use Rattle.worlds.specs.declared.tables.Active.{Active}
@@ -260,7 +260,7 @@ known-none P v all decisions h = record {
 }
 
 -- WHAT ALL WORLDS SHARE: the rules that use no varying fact, as one world tells them
-pub known-same : (P : Plan) (v w : Values) (varying : ℕ) (told asked : Active) (decisions : ℕ) → Off varying (v .facts) (w .facts) → Tells P (active P v) told → Using P varying asked
+pub known-same : (P : Plan) (v w : Values) (varying : ℕ) (told asked : Active) (decisions : ℕ) → Off varying (v .facts) (w .facts) → TellsActive P (active P v) told → Using P varying asked
     → Known P (active P w) (record {
       frozen = minus (told .frozen) (asked .frozen);
       cuts = minus (told .cuts) (asked .cuts);

@@ -17,7 +17,7 @@ use Rattle.expressions.specs.paper.Nodes.{on}
 use Rattle.expressions.specs.paper.Variables.{Influence}
 use Rattle.worlds.specs.paper.Active as paper
 use Rattle.worlds.specs.paper.World.{about, sameMembers, standing, overlappingCut, overlappingCuts, blockedBy, blockedCut, appliedCuts}
-use Rattle.worlds.specs.code.Tables.{row, crosses, Stands, Tells}
+use Rattle.worlds.specs.code.Tables.{row, crosses, Stands, TellsActive}
 use Rattle.worlds.specs.code.Cuts.{blockers, blockedTwins}
 use Rattle.worlds.specs.declared.tables.Common.{Common}
 use Rattle.worlds.specs.declared.tables.Active.{Active}
@@ -94,7 +94,7 @@ module _ (P : Plan) where
 
 -- ---- the cuts that are left when blocked ones and those merged with them are out
 
-module _ (P : Plan) (I : Influence) (k : Common) (t : List (List ℕ)) (S : Stands P I k t) (a : paper.Active) (f : Active) (T : Tells P a f)
+module _ (P : Plan) (I : Influence) (k : Common) (t : List (List ℕ)) (S : Stands P I k t) (a : paper.Active) (f : Active) (T : TellsActive P a f)
     (kept : List Bool) (low : (c : ℕ) → on kept c ≡ true → c < cutCount P)
     (st : ℕ) (told : (c : ℕ) → has st c ≡ standing kept (overlappingCuts P kept) c) where
   abbrev over : List Bool

@@ -24,7 +24,7 @@ use Rattle.expressions.proofs.UnionLaws.{none-union, union-none, union-go}
 use Rattle.worlds.specs.paper.Active.{Active}
 use Rattle.worlds.specs.paper.World.{State, Marks, marked, blockOf, keptCuts, firstState, move, attach, lastState, afterMarks, worldOf}
 use Rattle.worlds.specs.code.Over.{entry}
-use Rattle.worlds.specs.code.Tables.{row, Stands, Tells}
+use Rattle.worlds.specs.code.Tables.{row, Stands, TellsActive}
 use Rattle.worlds.specs.code.Blocks.{Parted, MovedTo, startOf}
 use Rattle.worlds.specs.declared.tables.Common.{Common}
 use Rattle.worlds.specs.declared.tables.Active as masks
@@ -404,7 +404,7 @@ module _ (P : Plan) (I : Influence) (k : Common) (t : List (List ℕ)) (a : Acti
         ∙ sym attached-is
 
 -- the set that goes by the rows of the anchors is the one of the world
-pub moved-rows : (P : Plan) (I : Influence) (k : Common) (t : List (List ℕ)) (a : Active) (f : masks.Active) → Stands P I k t → Tells P a f → (moved : ℕ)
+pub moved-rows : (P : Plan) (I : Influence) (k : Common) (t : List (List ℕ)) (a : Active) (f : masks.Active) → Stands P I k t → TellsActive P a f → (moved : ℕ)
     → ((i : ℕ) → has moved i ≡ (has (f .attachments) i && meets (row t 12 i) (liveIn P (k .roster) I a)))
     → moved ≡ worldOf P (k .roster) I a .state .moved
 moved-rows P I k t a f S T moved e = ext moved (worldOf P (k .roster) I a .state .moved) (λ i.
@@ -420,7 +420,7 @@ moved-rows P I k t a f S T moved e = ext moved (worldOf P (k .roster) I a .state
     pick i false e = ap (λ (b : Bool). b && meets (row t 12 i) live) e ∙ sym (ap (λ (b : Bool). b && has live (attachment P i .anchor)) e)
 
 -- both from what the code settles: the marks, and the set by the rows
-module _ (P : Plan) (I : Influence) (k : Common) (t : List (List ℕ)) (a : Active) (f : masks.Active) (S : Stands P I k t) (T : Tells P a f) (marked-by moved : ℕ)
+module _ (P : Plan) (I : Influence) (k : Common) (t : List (List ℕ)) (a : Active) (f : masks.Active) (S : Stands P I k t) (T : TellsActive P a f) (marked-by moved : ℕ)
     (same : marked-by ≡ marksIn P (k .roster) I a)
     (met : (i : ℕ) → has moved i ≡ (has (f .attachments) i && meets (row t 12 i) (minus (k .roster) marked-by))) where
   pub settled-moved : moved ≡ worldOf P (k .roster) I a .state .moved

@@ -16,7 +16,7 @@ use Rattle.expressions.specs.paper.Variables.{Influence}
 use Rattle.worlds.specs.paper.Active as paper
 use Rattle.worlds.specs.paper.World.{sameMembers, standing, overlappingCuts, blockedBy}
 use Rattle.worlds.specs.code.Over.{entry}
-use Rattle.worlds.specs.code.Tables.{row, sharing, Stands, Tells}
+use Rattle.worlds.specs.code.Tables.{row, sharing, Stands, TellsActive}
 use Rattle.worlds.specs.code.Cuts.{blockers, Noted}
 use Rattle.worlds.specs.code.Settled.{Added}
 use Rattle.worlds.specs.declared.tables.Common.{Common}
@@ -55,7 +55,7 @@ module _ (P : Plan) (I : Influence) (k : Common) (t : List (List ℕ)) (S : Stan
   abbrev mc : ℕ → ℕ
   mc c = cut P c .members
 
-  pub blocks-told : (a : paper.Active) (f : Active) → Tells P a f → (st : ℕ) → ((c : ℕ) → has st c ≡ standing kept over c)
+  pub blocks-told : (a : paper.Active) (f : Active) → TellsActive P a f → (st : ℕ) → ((c : ℕ) → has st c ≡ standing kept over c)
       → (c e : ℕ) → (has st c && has (blockers t (f .frozen) (f .decisions) c) e) ≡ (standing kept over c && blockedBy P a c e)
   blocks-told a f T st told c e = pick (which (has st c))
     where

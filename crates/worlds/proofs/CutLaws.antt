@@ -18,7 +18,7 @@ use Rattle.expressions.specs.paper.Variables.{Influence}
 use Rattle.expressions.proofs.OpenLaws.{open-few}
 use Rattle.worlds.specs.paper.Active as paper
 use Rattle.worlds.specs.paper.World.{about, precedes, sameMembers, keptCut, keptCuts, overlappingCut, overlappingCuts, blockedBy}
-use Rattle.worlds.specs.code.Tables.{row, sharing, crosses, Stands, Tells}
+use Rattle.worlds.specs.code.Tables.{row, sharing, crosses, Stands, TellsActive}
 use Rattle.worlds.specs.code.Cuts.{blockers}
 use Rattle.worlds.specs.declared.tables.Common.{Common}
 use Rattle.worlds.specs.declared.tables.Active.{Active}
@@ -57,7 +57,7 @@ module _ (P : Plan) (I : Influence) (k : Common) (t : List (List ℕ)) (S : Stan
   cuts-few = let l = S .sound .cutLimit in omega arith
 
   -- "the one preceded drops"
-  pub kept-told : (a : paper.Active) (f : Active) → Tells P a f → (r : ℕ) → ((c : ℕ) → has r c ≡ (has (f .cuts) c && not (meets (row t 4 c) (f .cuts))))
+  pub kept-told : (a : paper.Active) (f : Active) → TellsActive P a f → (r : ℕ) → ((c : ℕ) → has r c ≡ (has (f .cuts) c && not (meets (row t 4 c) (f .cuts))))
       → (c : ℕ) → has r c ≡ on (keptCuts P a) c
   unfolding keptCuts keptCut about
   kept-told a f T r h =
@@ -83,7 +83,7 @@ module _ (P : Plan) (I : Influence) (k : Common) (t : List (List ℕ)) (S : Stan
   decisions-few : decisionCount P ≤ 64
   decisions-few = let l = S .sound .decisionLimit in let m = open-few P in omega arith
 
-  module _ (a : paper.Active) (f : Active) (T : Tells P a f) where
+  module _ (a : paper.Active) (f : Active) (T : TellsActive P a f) where
     -- the decisions of the cut that are not true
     abbrev undecided : ℕ → ℕ
     undecided c = minus (row t 9 c) (f .decisions)

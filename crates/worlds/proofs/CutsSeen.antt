@@ -8,7 +8,7 @@ use Rattle.records.specs.paper.Sets.{has, one, meets, below, anyBelow, anyOf, u
 use Rattle.records.specs.paper.Plan.{Plan}
 use Rattle.records.proofs.SetLaws.{Within}
 use Rattle.records.proofs.Local.{Inside, Side, inside, outside, Flag, ins, meets-out, any-same, any-none}
-use Rattle.expressions.specs.paper.Rules.{edgeCount, cutCount, attachmentCount, barCount, statusCount, edge, cut, attachment, bar, status, pair, span}
+use Rattle.expressions.specs.paper.Rules.{edgeCount, cutCount, attachmentCount, barCount, statusCount, edge, cut, attachment, bar, status, pair, withAnchor}
 use Rattle.expressions.specs.paper.Nodes.{on, values}
 use Rattle.expressions.specs.paper.Influence.{Frame, touch, usesAt, edgeUses, cutUses, attachmentUses, barUses, statusUses, says, decisionCount, openDecision}
 use Rattle.expressions.specs.paper.Variables.{Values}
@@ -23,7 +23,7 @@ use Rattle.worlds.specs.paper.World.{about, keptCut, keptCuts, precedes,
 pub record Same (C : ℕ → Bool) (P : Plan) (a b : Active) : Type 0 where
   pub frozen : Flag C (pair P) (on (a .frozen)) (on (b .frozen))
   pub cuts : Flag C (λ i. cut P i .members) (on (a .cuts)) (on (b .cuts))
-  pub attachments : Flag C (span P) (on (a .attachments)) (on (b .attachments))
+  pub attachments : Flag C (withAnchor P) (on (a .attachments)) (on (b .attachments))
   pub bars : Flag C (λ i. bar P i .members) (on (a .bars)) (on (b .bars))
   pub statuses : Flag C (λ i. one (status P i .person)) (on (a .statuses)) (on (b .statuses))
   pub decisions : a .decisions ≡ b .decisions
@@ -67,7 +67,7 @@ module _ (F : Frame) (C : ℕ → Bool) (v w : Values) (S : Similar F C v w) whe
   active-same = record {
     frozen = flags-below C (pair P) (edgeCount P) _ _ frozen-same;
     cuts = flags-below C (λ i. cut P i .members) (cutCount P) _ _ (λ i q l h e. node (cut P i .condition) (by q e (cutUses P i) (cut P i .members) h (λ f x. touch-cut F f i l x)));
-    attachments = flags-below C (span P) (attachmentCount P) _ _ (λ i q l h e. node (attachment P i .condition) (by q e (attachmentUses P i) (span P i) h (λ f x. touch-attachment F f i l x)));
+    attachments = flags-below C (withAnchor P) (attachmentCount P) _ _ (λ i q l h e. node (attachment P i .condition) (by q e (attachmentUses P i) (withAnchor P i) h (λ f x. touch-attachment F f i l x)));
     bars = flags-below C (λ i. bar P i .members) (barCount P) _ _ (λ i q l h e. node (bar P i .condition) (by q e (barUses P i) (bar P i .members) h (λ f x. touch-bar F f i l x)));
     statuses = flags-below C (λ i. one (status P i .person)) (statusCount P) _ _
         (λ i q l h e. node (status P i .condition) (by q e (statusUses P i) (one (status P i .person)) h (λ f x. touch-status F f i l x)));

@@ -24,7 +24,7 @@ use Rattle.worlds.specs.paper.Active as paper
 use Rattle.worlds.specs.paper.World.{baseSet, baseSets, clique, loose, looseComponent, looseComponents, spread, discretionSeed, marksOf}
 use Rattle.worlds.specs.code.Over.{entry}
 use Rattle.worlds.specs.code.Discretion.{near, cliqueBy, looseBy, LooseParts}
-use Rattle.worlds.specs.code.Tables.{Stands, Tells}
+use Rattle.worlds.specs.code.Tables.{Stands, TellsActive}
 use Rattle.worlds.specs.code.Settled.{PartsAre}
 use Rattle.worlds.specs.declared.tables.Common.{Common}
 use Rattle.worlds.specs.declared.tables.Active.{Active}
@@ -75,7 +75,7 @@ union-below F (suc n) f = ap (unionOf F) (below-last n f) ∙ union-append F (be
 
 -- ---- the frozen Base edges
 
-module _ (P : Plan) (I : Influence) (k : Common) (t : List (List ℕ)) (a : paper.Active) (f : Active) (S : Stands P I k t) (T : Tells P a f) where
+module _ (P : Plan) (I : Influence) (k : Common) (t : List (List ℕ)) (a : paper.Active) (f : Active) (S : Stands P I k t) (T : TellsActive P a f) where
   abbrev pairs : List ℕ
   pairs = getD t 0 []
 

@@ -12,9 +12,9 @@ use Rattle.worlds.specs.paper.Active as paper
 use Rattle.worlds.specs.paper.World.{marked, blockOf, worldOf}
 use Rattle.worlds.specs.paper.View.{View}
 use Rattle.worlds.specs.code.Over.{entry}
-use Rattle.worlds.specs.code.Tables.{Stands, Tells}
+use Rattle.worlds.specs.code.Tables.{Stands, TellsActive}
 use Rattle.worlds.specs.code.Settled.{SettledAs}
-use Rattle.worlds.specs.code.Blocks.{Seen}
+use Rattle.worlds.specs.code.Blocks.{SeenBy}
 use Rattle.worlds.specs.declared.tables.Common.{Common}
 use Rattle.worlds.specs.declared.tables.Active.{Active}
 use Rattle.worlds.specs.declared.tables.Settled.{Settled}
@@ -42,8 +42,8 @@ three-or-four true e = omega arith
 three-or-four false e = omega arith
 
 -- DOCUMENT 01, "PROVED", OF THE CODE'S STATE
-pub evaluated-partition : (t : List (List ℕ)) (k : Common) (f : Active) (s : Settled) (r : World) → Seen t k f s r → (P : Plan) (I : Influence) (a : paper.Active)
-    → Stands P I k t → Tells P a f → SettledAs P (worldOf P (k .roster) I a) s → (p : ℕ) → has (k .roster) p ≡ true → IsMarked r p ⊎ IsPlaced (k .roster) r p
+pub evaluated-partition : (t : List (List ℕ)) (k : Common) (f : Active) (s : Settled) (r : World) → SeenBy t k f s r → (P : Plan) (I : Influence) (a : paper.Active)
+    → Stands P I k t → TellsActive P a f → SettledAs P (worldOf P (k .roster) I a) s → (p : ℕ) → has (k .roster) p ≡ true → IsMarked r p ⊎ IsPlaced (k .roster) r p
 evaluated-partition t k f s r seen P I a S T D p here = ⊎-elim (λ x. inl (out (x .0) (x .1))) (λ x. inr (placed x)) (partition P (k .roster) (S .roster) (S .named) I a p here)
   where
     is : (q : ℕ) → entry (r .blocks) q ≡ blockOf (worldOf P (k .roster) I a .state) q

@@ -110,17 +110,6 @@ each-row f d xs ys t k n e l a = record { at = each-all (λ x v. v ≡ f x) d xs
 
 -- ---- a test of f 0 … f (n − 1)
 
-pub any-more : {A : Type 0} (g : A → Bool) (f : ℕ → A) (i : ℕ) → anyOf g (below (i + 1) f) ≡ (anyOf g (below i f) || g (f i))
-any-more g f i = ap (anyOf g) (Listing.below-more i f) ∙ any-last g (below i f) (f i)
-
--- what fails from m on is not found there
-pub any-past : {A : Type 0} (g : A → Bool) (f : ℕ → A) (m n : ℕ) → m ≤ n → ((k : ℕ) → m ≤ k → g (f k) ≡ false) → anyOf g (below n f) ≡ anyOf g (below m f)
-any-past g f m zero l h = let z : 0 ≡ m = omega arith in ap (λ (k : ℕ). anyOf g (below k f)) z
-any-past g f m (suc n) l h =
-    ⊎-elim (λ p. let z : suc n ≡ m = omega arith in ap (λ (k : ℕ). anyOf g (below k f)) z)
-    (λ p. ap (λ (k : ℕ). anyOf g (below k f)) (sym (add-one n)) ∙ any-more g f n ∙ ap (λ (b : Bool). anyOf g (below n f) || b) (h n p) ∙ or-false (anyOf g (below n f))
-    ∙ any-past g f m n p h) (lt-or-le n m)
-
 -- what holds of each
 pub below-each : {A : Type 0} (Q : A → Type 0) (f : ℕ → A) (n i : ℕ) → i < n → All Q (below n f) → Q (f i)
 below-each Q f n i h q = let l = length-below n f in subst Q (getD-below n f (f i) i h) (all-at Q (below n f) (f i) i q (omega arith))

@@ -9,7 +9,7 @@ use Rattle.records.specs.paper.Sets.{has, one, union, minus, disjoint, subset, 
 use Rattle.records.specs.paper.Plan.{Plan, Cut, Attachment}
 use Rattle.records.proofs.SetLaws.{Within, has-none, has-high, thru, in-union-l, in-union-r, of-union, in-minus, of-minus, empty, subset-true, disjoint-false, lt-or-le}
 use Rattle.records.proofs.BelowLaws.{in-below, getD-below-all, fold-keeps}
-use Rattle.expressions.specs.paper.Rules.{edgeCount, cutCount, attachmentCount, barCount, statusCount, cut, attachment, bar, status, pair, span, rulePersons}
+use Rattle.expressions.specs.paper.Rules.{edgeCount, cutCount, attachmentCount, barCount, statusCount, cut, attachment, bar, status, pair, withAnchor, rulePersons}
 use Rattle.expressions.specs.paper.Nodes.{on}
 use Rattle.expressions.specs.paper.Variables.{Influence}
 use Rattle.worlds.specs.paper.Active.{Active}
@@ -104,7 +104,7 @@ module _ (P : Plan) (roster : ℕ) (on-roster : subset (rulePersons P) roster �
   cuts = unionBelow (cutCount P) (λ i. cut P i .members)
 
   spans : ℕ
-  spans = unionBelow (attachmentCount P) (span P)
+  spans = unionBelow (attachmentCount P) (withAnchor P)
 
   others : ℕ
   others = union (unionBelow (barCount P) (λ i. bar P i .members)) (unionBelow (statusCount P) (λ i. one (status P i .person)))
@@ -126,13 +126,13 @@ module _ (P : Plan) (roster : ℕ) (on-roster : subset (rulePersons P) roster �
       past l = nobody (cut P c .members) roster (ap (λ (x : Cut). x .members) (List·getD-eq-default (P .cuts) _ l))
 
   pub attachment-on : (i : ℕ) → Within (attachment P i .members) roster
-  unfolding spans span attachment
+  unfolding spans withAnchor attachment
   attachment-on i = ⊎-elim named past (lt-or-le i (attachmentCount P))
     where
       named : i < attachmentCount P → Within (attachment P i .members) roster
       named l =
           thru (in-union-l (attachment P i .members) (one (attachment P i .anchor)))
-          (thru (in-below (attachmentCount P) (span P) i l)
+          (thru (in-below (attachmentCount P) (withAnchor P) i l)
           (thru (in-union-l spans others) (thru (in-union-r cuts (union spans others)) (thru (in-union-r edges (union cuts (union spans others))) persons))))
 
       past : attachmentCount P ≤ i → Within (attachment P i .members) roster

@@ -24,9 +24,9 @@ use Rattle.worlds.specs.paper.World.{blockOf, marked, marksOf, cutMember
 use Rattle.worlds.specs.paper.View.{View, roleOf, citations, view}
 use Rattle.worlds.specs.code.Over.{entry, Marked}
 use Rattle.worlds.specs.code.Classes.{ClassesBy, Joins, joinable}
-use Rattle.worlds.specs.code.Tables.{Stands, Tells}
+use Rattle.worlds.specs.code.Tables.{Stands, TellsActive}
 use Rattle.worlds.specs.code.Settled.{SettledAs}
-use Rattle.worlds.specs.code.Blocks.{CutInto, Blanked, Frozen, Cut, Attached, Placing, startOf, SeenAt, Seen}
+use Rattle.worlds.specs.code.Blocks.{CutInto, Blanked, Frozen, Cut, Attached, Placing, startOf, SeenAt, SeenBy}
 use Rattle.worlds.specs.declared.tables.Common.{Common}
 use Rattle.worlds.specs.declared.tables.Active as told
 use Rattle.worlds.specs.declared.tables.Settled.{Settled}
@@ -323,7 +323,7 @@ module _ (t : List (List ℕ)) (k : Common) (f : told.Active) (s : Settled) (pla
       ap (λ (l : List ℕ). entry l p) (status .1 ∙ bar .1 ∙ attach .kinds) ∙ cuts .kinds .at p
       ∙ ap (cond (has (s .overlap) p) 3) (freeze .kinds .at p ∙ ap (cond (has (s .discretion) p) 4) (blank .kinds p))
 
-  module _ (P : Plan) (I : Influence) (a : Active) (S : Stands P I k t) (T : Tells P a f) (D : SettledAs P (worldOf P (k .roster) I a) s) where
+  module _ (P : Plan) (I : Influence) (a : Active) (S : Stands P I k t) (T : TellsActive P a f) (D : SettledAs P (worldOf P (k .roster) I a) s) where
     abbrev w : paper.World
     w = worldOf P (k .roster) I a
 
@@ -352,5 +352,5 @@ module _ (t : List (List ℕ)) (k : Common) (f : told.Active) (s : Settled) (pla
         (roles p ∙ ap₂ (λ (x y : ℕ). cond (has (meet x placed) p) 2 (cond (has (meet y placed) p) 3 (cond (has placed p) 1 0))) (D .excluded) (D .barred))
         (kinds p ∙ ap₂ (λ (x y : ℕ). cond (has x p) 3 (cond (has y p) 4 0)) (D .overlap) (D .discretion))
 
-  pub steps-seen : Seen t k f s w₅
+  pub steps-seen : SeenBy t k f s w₅
   steps-seen = record { blocks = blocks; at = seen }

@@ -19,7 +19,7 @@ use Rattle.expressions.specs.paper.Variables.{Influence}
 use Rattle.worlds.specs.paper.Active as paper
 use Rattle.worlds.specs.paper.World.{World, worldOf, afterMarks, marked, barHolds, barredBy, excludedBy}
 use Rattle.worlds.specs.code.Over.{entry}
-use Rattle.worlds.specs.code.Tables.{row, Stands, Tells}
+use Rattle.worlds.specs.code.Tables.{row, Stands, TellsActive}
 use Rattle.worlds.specs.code.Discretion.{Renewed, LooseParts}
 use Rattle.worlds.specs.code.Settled.{blocks, clashes, Added, CutsAre, CutsSettled, PartsAre, SettledAs, Settles}
 use Rattle.worlds.specs.declared.tables.Common.{Common}
@@ -88,7 +88,7 @@ bar-low : (P : Plan) (I : Influence) (k : Common) (t : List (List ℕ)) → Stan
 unfolding bar
 bar-low P I k t S i l = all-at (SoundBar P) (P .bars) _ i (S .sound .bars) l .members
 
-module _ (P : Plan) (I : Influence) (k : Common) (t : List (List ℕ)) (a : paper.Active) (f : Active) (S : Stands P I k t) (T : Tells P a f) where
+module _ (P : Plan) (I : Influence) (k : Common) (t : List (List ℕ)) (a : paper.Active) (f : Active) (S : Stands P I k t) (T : TellsActive P a f) where
   excluded-is : unionOf (row t 14) (members (f .statuses)) ≡ excludedBy P a
   unfolding excludedBy
   excluded-is =
@@ -139,7 +139,7 @@ module _ (t : List (List ℕ)) (k : Common) (f : Active) (noted after : List (Li
   put : getD (set noted 0 parts) 0 [] ≡ parts
   put = getD-set-same noted 0 parts [] (omega arith)
 
-  module _ (P : Plan) (I : Influence) (a : paper.Active) (S : Stands P I k t) (T : Tells P a f) where
+  module _ (P : Plan) (I : Influence) (a : paper.Active) (S : Stands P I k t) (T : TellsActive P a f) where
     abbrev w : World
     w = worldOf P (k .roster) I a
 

@@ -13,7 +13,7 @@ use Rattle.records.specs.promises.Sound.{All}
 use Rattle.records.proofs.SetLaws.{lt-or-le}
 use Rattle.records.proofs.LoopLaws.{getD-below, getD-past}
 use Rattle.records.proofs.Local.{clash, Inside, Outside, outer, Agree, Twins, Side, inside, outside, Flag, Weak, weak, weak-only, ins, in-zero, in-only, in-union, in-less, in-cond, in-not, in-left, in-right, at-single, out-not, agree-refl, agree-sym, agree-union, agree-minus, agree-twin, agree-frame, minus-near, minus-far, subset-near, twin-only, twins-below, below-all, below-two, union-in, union-same, union-agree, fold-two, single-side}
-use Rattle.expressions.specs.paper.Rules.{edgeCount, cutCount, attachmentCount, barCount, statusCount, cut, attachment, status, pair, span}
+use Rattle.expressions.specs.paper.Rules.{edgeCount, cutCount, attachmentCount, barCount, statusCount, cut, attachment, status, pair, withAnchor}
 use Rattle.expressions.specs.paper.Nodes.{on}
 use Rattle.expressions.proofs.Circles.{Uncrossed, edge-side, cut-side, span-side, bar-side}
 use Rattle.worlds.specs.paper.Active.{Active}
@@ -178,8 +178,8 @@ module _ (C : ℕ → Bool) (P : Plan) (roster : ℕ) (K : Uncrossed C P) (a b :
   abbrev movers : ℕ → ℕ → ℕ
   movers marks i = minus (attachment P i .members) marks
 
-  attach-far : (marks : ℕ) (u : Active) (i : ℕ) → Outside C (span P i) → (s t : State) → Alike C s t → Alike C (attach P marks u i s) t
-  unfolding attach span
+  attach-far : (marks : ℕ) (u : Active) (i : ℕ) → Outside C (withAnchor P i) → (s t : State) → Alike C s t → Alike C (attach P marks u i s) t
+  unfolding attach withAnchor
   attach-far marks u i o s t A = go (on (u .attachments) i && not (eqb (blockOf s (anchor i)) 0))
     where
       mo : Outside C (movers marks i)
@@ -192,8 +192,8 @@ module _ (C : ℕ → Bool) (P : Plan) (roster : ℕ) (K : Uncrossed C P) (a b :
       go true = move-far C i _ _ to mo s t A
       go false = A
 
-  attach-near : (i q : ℕ) → has (span P i) q ≡ true → C q ≡ true → Inside C (span P i) → (s t : State) → Alike C s t → Alike C (attach P m a i s) (attach P n b i t)
-  unfolding attach span
+  attach-near : (i q : ℕ) → has (withAnchor P i) q ≡ true → C q ≡ true → Inside C (withAnchor P i) → (s t : State) → Alike C s t → Alike C (attach P m a i s) (attach P n b i t)
+  unfolding attach withAnchor
   attach-near i q h e j s t A =
       go (on (a .attachments) i && not (eqb (blockOf s (anchor i)) 0)) (on (b .attachments) i && not (eqb (blockOf t (anchor i)) 0))
       (ap₂ (λ (x : Bool) (y : ℕ). x && not (eqb y 0)) (S .attachments i q h e) (A .same (anchor i) ai))
@@ -223,7 +223,7 @@ module _ (C : ℕ → Bool) (P : Plan) (roster : ℕ) (K : Uncrossed C P) (a b :
   attach-alike : (i : ℕ) (s t : State) → Alike C s t → Alike C (attach P m a i s) (attach P n b i t)
   attach-alike i s t A = go (span-side C P K i)
     where
-      go : Side C (span P i) → Alike C (attach P m a i s) (attach P n b i t)
+      go : Side C (withAnchor P i) → Alike C (attach P m a i s) (attach P n b i t)
       go (inside q h e j) = attach-near i q h e j s t A
       go (outside o) = alike-sym C _ _ (attach-far n b i o t _ (alike-sym C _ _ (attach-far m a i o s t A)))
 

@@ -33,7 +33,8 @@ ghost use Rattle.records.specs.paper.Sets.{has};
 ghost use Rattle.records.specs.promises.Sound.{All};
 ghost use Rattle.records.specs.code.Decoded.{decisionsOf};
 ghost use Rattle.expressions.specs.code.Coded.{edgesOf, cutsOf, attachmentsOf, barsOf, statusesOf};
-ghost use Rattle.expressions.specs.code.Undecided.{decides, opensOf};
+ghost use Rattle.expressions.specs.paper.Influence.{hasVerdict};
+ghost use Rattle.expressions.specs.code.Undecided.{opensOf};
 ghost use Rattle.worlds.specs.code.Laid.{Laid, EdgesLaid, CutsLaid, AttachmentsLaid, BarsLaid, StatusesLaid, DecisionsLaid, EdgeFits, CutFits, AttachmentFits, BarFits, StatusFits, OpenFits};
 
 // A reference to the tables does not tell the proof how long they are. The compiler drops the call with its copy.
@@ -67,7 +68,7 @@ pub fn lay_edges(t: &mut Tables, edges: Edges)
 // The edges on which blocked is decided.
 fn said_blocked(decisions: Decisions) -> u64
     requires { ⌜ All (λ d. d .edge < 64) (decisionsOf decisions) ⌝ }
-    ensures { λ r. ⌜ ((e : ℕ) → has r e ≡ decides e 1 (decisionsOf decisions)) ⌝ }
+    ensures { λ r. ⌜ ((e : ℕ) → has r e ≡ hasVerdict e 1 (decisionsOf decisions)) ⌝ }
 {
     let n = upto(wide(decisions.count), 64);
     let mut found: u64 = 0;

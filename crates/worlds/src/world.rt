@@ -21,7 +21,7 @@ use records::sets::subset;
 ghost use mathlib.Core.Path.{_≡_};
 ghost use Prim.Native.Nat.{ℕ, _<_};
 ghost use Rattle.worlds.specs.code.Over.{entry, Marked};
-ghost use Rattle.worlds.specs.code.Blocks.{CutInto, Regrouped, MovedTo, Frozen, Cut, Attached, Blanked, Seen};
+ghost use Rattle.worlds.specs.code.Blocks.{CutInto, Regrouped, MovedTo, Frozen, Cut, Attached, Blanked, SeenBy};
 
 // At each person the block and the role (0 none, 1 member, 2 excluded, 3 barred), or the kind of the mark (3 overlap, 4 discretion).
 pub struct World {
@@ -141,7 +141,7 @@ impl World {
 
 // One world, from what it settles.
 pub fn evaluate(t: &Tables, common: Common, active: Active, settled: Settled) -> World
-    ensures { λ r. ⌜ Seen (now (t .entry)) common active settled r ⌝ }
+    ensures { λ r. ⌜ SeenBy (now (t .entry)) common active settled r ⌝ }
 {
     let placed = minus(common.roster, settled.discretion | settled.overlap);
     blank()

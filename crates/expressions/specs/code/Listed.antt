@@ -16,8 +16,8 @@ usedAt us i = getD us i 0
 unfoldable pub endsOf : Edge → ℕ
 endsOf e = union (one (e .left)) (one (e .right))
 
-unfoldable pub spanOf : Attachment → ℕ
-spanOf a = union (a .members) (one (a .anchor))
+unfoldable pub withAnchorOf : Attachment → ℕ
+withAnchorOf a = union (a .members) (one (a .anchor))
 
 unfoldable pub edgeUsed : (ℕ → ℕ) → Edge → ℕ
 edgeUsed at e = union (at (e .condition)) (unionOf at (e .defeaters))
@@ -25,8 +25,8 @@ edgeUsed at e = union (at (e .condition)) (unionOf at (e .defeaters))
 abbrev pub cutUsed : (ℕ → ℕ) → Cut → ℕ
 cutUsed at c = at (c .condition)
 
-abbrev pub cutHolds : Cut → ℕ
-cutHolds c = c .members
+abbrev pub heldByCut : Cut → ℕ
+heldByCut c = c .members
 
 abbrev pub attachmentUsed : (ℕ → ℕ) → Attachment → ℕ
 attachmentUsed at a = at (a .condition)
@@ -34,14 +34,14 @@ attachmentUsed at a = at (a .condition)
 abbrev pub barUsed : (ℕ → ℕ) → Bar → ℕ
 barUsed at b = at (b .condition)
 
-abbrev pub barHolds : Bar → ℕ
-barHolds b = b .members
+abbrev pub heldByBar : Bar → ℕ
+heldByBar b = b .members
 
 abbrev pub statusUsed : (ℕ → ℕ) → Status → ℕ
 statusUsed at t = at (t .condition)
 
-abbrev pub statusHolds : Status → ℕ
-statusHolds t = one (t .person)
+abbrev pub heldByStatus : Status → ℕ
+heldByStatus t = one (t .person)
 
 -- ---- the rules of a plan
 
@@ -52,8 +52,8 @@ joiningUses at P = map (edgeUsed at) (P .edges) ++ (map (cutUsed at) (P .cuts) +
 unfoldable pub ruleUses : (ℕ → ℕ) → Plan → List ℕ
 ruleUses at P = joiningUses at P ++ map (statusUsed at) (P .statuses)
 
-unfoldable pub rulePersons : Plan → List ℕ
-rulePersons P = ruleSets P ++ map statusHolds (P .statuses)
+unfoldable pub personsByRule : Plan → List ℕ
+personsByRule P = ruleSets P ++ map heldByStatus (P .statuses)
 
 -- "all persons of rules using it", from the two lists
 unfoldable pub usersIn : ℕ → List ℕ → List ℕ → ℕ
@@ -104,6 +104,6 @@ pub record Joining (P : Plan) (at : ℕ → ℕ) (r : Rules) : Type 0 where
 
 pub record Listed (P : Plan) (at : ℕ → ℕ) (r : Rules) : Type 0 where
   pub uses : usesOf r ≡ ruleUses at P
-  pub persons : personsOf r ≡ rulePersons P
+  pub persons : personsOf r ≡ personsByRule P
   pub few : r .count ≤ 176
   pub room : (length (r .uses) ≡ 176) × (length (r .persons) ≡ 176)

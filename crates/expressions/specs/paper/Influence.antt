@@ -5,8 +5,8 @@ use Prim.Native.Nat.{ℕ, zero, suc}
 use lib.ListN.{length, getD}
 use lib.Dec.{eqb}
 use Rattle.records.specs.paper.Sets.{has, one, union, setOf, only, closeOf, below, unionBelow, anyOf, unionOf, meets}
-use Rattle.records.specs.paper.Plan.{Plan, getFact}
-use Rattle.expressions.specs.paper.Rules.{edgeCount, cutCount, attachmentCount, barCount, statusCount, factCount, edge, cut, attachment, bar, status, pair, span, ruleSets}
+use Rattle.records.specs.paper.Plan.{Plan, Cut, Decision, getFact}
+use Rattle.expressions.specs.paper.Rules.{noCut, edgeCount, cutCount, attachmentCount, barCount, statusCount, factCount, edge, cut, attachment, bar, status, pair, withAnchor, ruleSets}
 use Rattle.expressions.specs.paper.Nodes.{nodeUses}
 
 -- what circles follow from: "plan, heading and constraints alone"; of the heading it is the roster
@@ -20,21 +20,25 @@ pub record Open : Type 0 where
   pub cut : ℕ
   pub edge : ℕ
 
+-- whether these decisions have the verdict on the edge
+abbrev pub hasVerdict : ℕ → ℕ → List Decision → Bool
+hasVerdict e verdict ds = anyOf (λ d. eqb (d .edge) e && eqb (d .verdict) verdict) ds
+
+-- those of a cut with these decisions on edges below n, then those of the cuts below n
+unfoldable pub openIn : List Decision → ℕ → ℕ → List Open
+openIn ds c zero = []
+openIn ds c (suc n) = openIn ds c n ++ cond (hasVerdict n 3 ds) (record { cut = c; edge = n } ∷ []) []
+
+unfoldable pub openBelow : List Cut → ℕ → ℕ → List Open
+openBelow cs edges zero = []
+openBelow cs edges (suc n) = openBelow cs edges n ++ openIn (getD cs n noCut .decisions) n edges
+
 module _ (P : Plan) where
   abbrev pub says : ℕ → ℕ → ℕ → Bool
-  says c e verdict = anyOf (λ d. eqb (d .edge) e && eqb (d .verdict) verdict) (cut P c .decisions)
-
-  -- those of a cut with edges below n, then those of the cuts below n
-  unfoldable pub openIn : ℕ → ℕ → List Open
-  openIn c zero = []
-  openIn c (suc n) = openIn c n ++ cond (says c n 3) (record { cut = c; edge = n } ∷ []) []
-
-  unfoldable pub openBelow : ℕ → List Open
-  openBelow zero = []
-  openBelow (suc n) = openBelow n ++ openIn n (edgeCount P)
+  says c e verdict = hasVerdict e verdict (cut P c .decisions)
 
   unfoldable pub openDecisions : List Open
-  openDecisions = openBelow (cutCount P)
+  openDecisions = openBelow (P .cuts) (edgeCount P) (cutCount P)
 
   abbrev pub decisionCount : ℕ
   decisionCount = length openDecisions
@@ -43,8 +47,11 @@ module _ (P : Plan) where
   openDecision d = getD openDecisions d (record { cut = 16; edge = 64 })
 
   -- "for a decision, the cut's members and the edge's ends"
+  abbrev pub openTouch : Open → ℕ
+  openTouch o = union (cut P (o .cut) .members) (pair P (o .edge))
+
   unfoldable pub decisionTouch : ℕ → ℕ
-  decisionTouch d = union (cut P (openDecision d .cut) .members) (pair P (openDecision d .edge))
+  decisionTouch d = openTouch (openDecision d)
 
   -- ---- the facts that each rule uses
   abbrev pub usesAt : ℕ → ℕ
@@ -91,7 +98,7 @@ module _ (F : Frame) where
       (union (only (has constraintUses f) (F .roster))
       (union (usersOf (edgeCount P) (edgeUses P) (pair P) f)
       (union (usersOf (cutCount P) (cutUses P) (λ i. cut P i .members) f)
-      (union (usersOf (attachmentCount P) (attachmentUses P) (span P) f)
+      (union (usersOf (attachmentCount P) (attachmentUses P) (withAnchor P) f)
       (union (usersOf (barCount P) (barUses P) (λ i. bar P i .members) f)
       (usersOf (statusCount P) (statusUses P) (λ i. one (status P i .person)) f))))))
 

@@ -7,6 +7,13 @@ use lib.Dec.{eqb}
 use Rattle.records.specs.paper.Sets.{one, union, below, unionBelow}
 use Rattle.records.specs.paper.Plan.{Plan, Edge, Cut, Attachment, Bar, Status}
 
+-- past the last edge, and past the last cut
+abbrev pub noEdge : Edge
+noEdge = record { left = 64; right = 64; condition = 256; citation = 0; defeaters = []; combination = false }
+
+abbrev pub noCut : Cut
+noCut = record { members = 0; condition = 256; citation = 0; election = []; decisions = []; precedes = [] }
+
 module _ (P : Plan) where
   abbrev pub edgeCount : ℕ
   edgeCount = length (P .edges)
@@ -27,10 +34,10 @@ module _ (P : Plan) where
   factCount = length (P .facts)
 
   unfoldable pub edge : ℕ → Edge
-  edge i = getD (P .edges) i (record { left = 64; right = 64; condition = 256; citation = 0; defeaters = []; combination = false })
+  edge i = getD (P .edges) i noEdge
 
   unfoldable pub cut : ℕ → Cut
-  cut i = getD (P .cuts) i (record { members = 0; condition = 256; citation = 0; election = []; decisions = []; precedes = [] })
+  cut i = getD (P .cuts) i noCut
 
   unfoldable pub attachment : ℕ → Attachment
   attachment i = getD (P .attachments) i (record { members = 0; anchor = 64; condition = 256; citation = 0; actor = 0; election = [] })
@@ -46,20 +53,20 @@ module _ (P : Plan) where
   pair i = union (one (edge i .left)) (one (edge i .right))
 
   -- "attachments with anchor"
-  unfoldable pub span : ℕ → ℕ
-  span i = union (attachment i .members) (one (attachment i .anchor))
+  unfoldable pub withAnchor : ℕ → ℕ
+  withAnchor i = union (attachment i .members) (one (attachment i .anchor))
 
   -- "closed under edges, cuts, attachments with anchor, and bars"
   unfoldable pub ruleSets : List ℕ
   ruleSets =
-      below edgeCount pair ++ (below cutCount (λ i. cut i .members) ++ (below attachmentCount span ++ below barCount (λ i. bar i .members)))
+      below edgeCount pair ++ (below cutCount (λ i. cut i .members) ++ (below attachmentCount withAnchor ++ below barCount (λ i. bar i .members)))
 
   -- the persons of all rules
   unfoldable pub rulePersons : ℕ
   rulePersons =
       union (unionBelow edgeCount pair)
       (union (unionBelow cutCount (λ i. cut i .members))
-      (union (unionBelow attachmentCount span)
+      (union (unionBelow attachmentCount withAnchor)
       (union (unionBelow barCount (λ i. bar i .members)) (unionBelow statusCount (λ i. one (status i .person))))))
 
   -- "Without a base-chain citation"

@@ -1,6 +1,6 @@
 -- `lukhveri_bindable`: number and record of the refusal. Assumes nothing.
 use borrow.Author.Needs.{needs}
-use Rattle.probes.specs.Entries.{refusal}
+use Rattle.probes.specs.Entries.{caseRefusal}
 use Rattle.probes.proofs.lukhveri_bindable.Statement.{statement}
 use Rattle.probes.proofs.lukhveri_bindable.Tie as tie
 
@@ -8,7 +8,7 @@ bind-requires : tie.Need-bind-requires
 bind-requires c κs = search needs
 
 returns : tie.Need-returns
-unfolding refusal
+unfolding caseRefusal
 returns c = search needs
 
 pub lukhveri-bindable-spec : {M : Type 1} → statement M

@@ -3,7 +3,7 @@ use mathlib.Core.Path.{ap, _∙_}
 use Prim.Native.Nat.{ℕ}
 use borrow.Author.Needs.{needs}
 use Rattle.expressions.specs.code.Codes.{boundOf}
-use Rattle.probes.specs.Entries.{codeOf, bound}
+use Rattle.probes.specs.Entries.{codeOf, bindingIn}
 use Rattle.probes.proofs.lukhveri_binding.Statement.{statement}
 use Rattle.probes.proofs.lukhveri_binding.Tie as tie
 
@@ -17,7 +17,7 @@ told-code-requires : tie.Need-told-code-requires
 told-code-requires c κs = search needs
 
 returns : tie.Need-returns
-unfolding bound
+unfolding bindingIn
 returns c =
     let e = c .before in
     c .told-code .ensures ∙ ap (λ (n : ℕ). codeOf (boundOf n)) (e .entry .ensures) ∙ ap codeOf (e .before .before .bind .ensures .codes _)

@@ -2,7 +2,7 @@
 use mathlib.Core.Path.{ap}
 use borrow.Author.Needs.{needs}
 use Rattle.expressions.specs.declared.variables.Count.{Count}
-use Rattle.probes.specs.Entries.{counted}
+use Rattle.probes.specs.Entries.{worldsCounted}
 use Rattle.probes.proofs.lukhveri_worlds.Statement.{statement}
 use Rattle.probes.proofs.lukhveri_worlds.Tie as tie
 
@@ -10,7 +10,7 @@ bind-requires : tie.Need-bind-requires
 bind-requires c κs = search needs
 
 returns : tie.Need-returns
-unfolding counted
+unfolding worldsCounted
 returns c = let e = c .before .bind .ensures .count in (ap (λ (k : Count). k .count) e, ap (λ (k : Count). k .maximum) e)
 
 pub lukhveri-worlds-spec : {M : Type 1} → statement M

@@ -27,8 +27,8 @@ unfoldable pub byRules : paper.Plan → case.Case → List (List ℕ) → List (
 byRules P C sums noted defaults =
     happened P C (row sums 4 4) (row sums 4 5) (row noted 1) (row noted 2) (row sums 4 6) (row sums 4 7) (row sums 4 8) defaults []
 
-unfoldable pub countOf : List (List ℕ) → List (List ℕ) → ℕ → ℕ → ℕ
-countOf sums noted defaults cuts =
+unfoldable pub eventCount : List (List ℕ) → List (List ℕ) → ℕ → ℕ → ℕ
+eventCount sums noted defaults cuts =
     (size (row sums 4 4) + size (row sums 4 5) + size (row sums 4 6) + (size (row sums 4 7) + size (row sums 4 8) + size defaults))
     + (sizes cuts (row noted 1) + sizes cuts (row noted 2))
 
@@ -44,13 +44,13 @@ pub record RuleEvents (plan : Plan) (c : Case) (sums noted : List (List ℕ)) (d
   pub blocked : (i : ℕ) → Below (row noted 1 i) (edgeCount (planOf plan))
   pub clashed : (i : ℕ) → Below (row noted 2 i) (cutCount (planOf plan))
   pub facts : Below defaults (factCount (planOf plan))
-  pub fit : 12 * countOf sums noted defaults (cutCount (planOf plan)) ≤ room
+  pub fit : 12 * eventCount sums noted defaults (cutCount (planOf plan)) ≤ room
 
 pub record EventsWritten (P : paper.Plan) (C : case.Case) (sums noted : List (List ℕ)) (defaults : ℕ) (before after : List ℕ) : Type 0 where
   pub bytes : after ≡ flatMap (λ e. e) (byRules P C sums noted defaults) ++ drop (12 * length (byRules P C sums noted defaults)) before
-  pub count : length (byRules P C sums noted defaults) ≡ countOf sums noted defaults (cutCount P)
+  pub count : length (byRules P C sums noted defaults) ≡ eventCount sums noted defaults (cutCount P)
 
 -- with the events of kind 9 that stood at the start of the buffer behind them, and what lay behind all
 pub record AllWritten (P : paper.Plan) (C : case.Case) (sums noted : List (List ℕ)) (defaults count listed : ℕ) (before after : List ℕ) : Type 0 where
-  pub bytes : count ≡ countOf sums noted defaults (cutCount P)
+  pub bytes : count ≡ eventCount sums noted defaults (cutCount P)
       → after ≡ flatMap (λ e. e) (byRules P C sums noted defaults) ++ (take (12 * listed) before ++ drop (12 * (count + listed)) before)

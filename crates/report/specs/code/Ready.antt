@@ -1,18 +1,18 @@
 -- A case that is bound, with no more worlds than its heading allows.
 use mathlib.Core.Path.{_≡_}
-use mathlib.Core.Bool.{Bool, true, false, _&&_, cond}
+use mathlib.Core.Bool.{Bool, true, false, cond}
 use mathlib.Core.List.{List}
 use Prim.Native.Nat.{ℕ, _*_, _≤_}
 use lib.ListN.{length, getD, replicate}
-use lib.Dec.{ltb}
-use Rattle.records.specs.paper.Sets.{has, size, subset}
+use Rattle.records.specs.paper.Sets.{size, subset}
 use Rattle.records.specs.promises.Sound.{Sound, SoundCase}
 use Rattle.records.specs.code.Decoded.{planOf, caseOf}
 use Rattle.records.specs.declared.plan.Plan.{Plan}
 use Rattle.records.specs.declared.case.Case.{Case}
-use Rattle.expressions.specs.paper.Rules.{factCount, rulePersons}
-use Rattle.expressions.specs.paper.Bindings.{bindings, bindingAt, tookDefaultBy}
+use Rattle.expressions.specs.paper.Rules.{rulePersons}
+use Rattle.expressions.specs.paper.Bindings.{bindings, bindingAt}
 use Rattle.expressions.specs.code.Codes.{boundOf}
+use Rattle.expressions.specs.code.Told.{Defaulted}
 use Rattle.expressions.specs.paper.Variables.{worldCount}
 use Rattle.expressions.specs.code.Coded.{frameBy}
 use Rattle.expressions.specs.code.Reached.{Reached}
@@ -24,9 +24,6 @@ use Rattle.report.specs.paper.Operations.{Outcome, allWorlds, answerRead
 use Rattle.report.specs.declared.Answer.{Answer}
 use Rattle.report.specs.declared.finish.Opens.{Opens}
 use Rattle.report.specs.declared.run.Wanted.{Wanted}
-
-pub record Defaulted (plan : Plan) (c : Case) (bound r : ℕ) : Type 0 where
-  pub at : (f : ℕ) → has r f ≡ (ltb f (factCount (planOf plan)) && tookDefaultBy (planOf plan) (caseOf c) bound f)
 
 -- for an answer the sets of influence, the number of facts and the defaults that were taken; nothing for a shown world
 pub record Concerns (influence : Influence) (facts defaults : ℕ) (all : Bool) (r : Opens) : Type 0 where
@@ -41,7 +38,7 @@ pub record IsReady (plan : Plan) (c : Case) (reach : Reach) (b : Bound) (lines e
   pub named : subset (rulePersons (planOf plan)) (c .heading .roster) ≡ true
   pub reached : Reached (frameBy plan (c .heading .roster) (c .constraints)) reach
   pub bound : (f : ℕ) → boundOf (getD (b .codes) f 0) ≡ bindingAt (bindings (planOf plan) (caseOf c)) f
-  pub defaulted : Defaulted plan c (reach .bound) (b .defaults)
+  pub defaulted : Defaulted (planOf plan) (caseOf c) (reach .bound) (b .defaults)
   pub few : worldCount (planOf plan) (bindings (planOf plan) (caseOf c)) ≤ 4096
   pub room : 29 * size (c .heading .roster) ≤ length lines
   pub zeros : lines ≡ replicate (length lines) 0

@@ -1,7 +1,7 @@
 -- Check a plan, answer a case, show a world. Document 01, "Refused, by operation": result, refusal and every byte of both lent buffers.
 use mathlib.Core.Bool.{Bool, _||_, not, cond}
 use mathlib.Core.List.{List, [], _∷_, _++_, map, flatMap}
-use Prim.Native.Nat.{ℕ, zero, suc, _+_, _*_, _-_, _^_}
+use Prim.Native.Nat.{ℕ, zero, suc, _+_, _*_, _-_}
 use lib.ListN.{length, getD, replicate, drop}
 use lib.Dec.{eqb, ltb}
 use Rattle.records.specs.paper.Sets.{subset, size, members}
@@ -13,7 +13,7 @@ use Rattle.records.specs.declared.checked.Checked.the-variants as checked
 use Rattle.records.specs.paper.Case.{Case, CaseHeading, readCase, caseHeading}
 use Rattle.expressions.specs.paper.Rules.{rulePersons}
 use Rattle.expressions.specs.paper.Bindings.{Bound, bindings, bindable, frameOf}
-use Rattle.expressions.specs.paper.Variables.{Influence, worldCount, worlds, influence}
+use Rattle.expressions.specs.paper.Variables.{Influence, worldCount, ceiled, worlds, influence}
 use Rattle.worlds.specs.paper.Active.{active}
 use Rattle.worlds.specs.paper.World.{World, worldOf}
 use Rattle.worlds.specs.paper.View.{view}
@@ -69,7 +69,7 @@ headingFault P h lineRoom =
 
 -- "11 more worlds, before constraints, than the heading allows, with that count and that maximum (both 2^64 − 1 from 2^64 on)"
 unfoldable pub tooMany : ℕ → ℕ → Answer
-tooMany count most = cond (ltb count (2 ^ 64)) (TooManyWorlds count most) (TooManyWorlds (2 ^ 64 - 1) (2 ^ 64 - 1))
+tooMany count most = TooManyWorlds (ceiled count count) (ceiled count most)
 
 -- what stands before the worlds are looked at
 pub data Opened : Type 0 where

@@ -12,7 +12,7 @@ use Rattle.worlds.specs.paper.Active as paper
 use Rattle.worlds.specs.paper.World as world
 use Rattle.worlds.specs.paper.View.{View, view}
 use Rattle.worlds.specs.code.Over.{entry, Marked}
-use Rattle.worlds.specs.code.Tables.{Stands, Tells}
+use Rattle.worlds.specs.code.Tables.{Stands, TellsActive}
 use Rattle.worlds.specs.code.Settled.{SettledAs}
 use Rattle.worlds.specs.declared.tables.Common.{Common}
 use Rattle.worlds.specs.declared.tables.Active.{Active}
@@ -90,9 +90,9 @@ pub record SeenAt (v : View) (block role kind : ℕ) : Type 0 where
   pub inRole : role ≡ v .role
   pub ofKind : kind ≡ v .kind
 
-pub record Seen (t : List (List ℕ)) (k : Common) (f : Active) (s : Settled) (r : World) : Type 0 where
-  pub blocks : (P : Plan) (I : Influence) (a : paper.Active) → Stands P I k t → Tells P a f → SettledAs P (world.worldOf P (k .roster) I a) s
+pub record SeenBy (t : List (List ℕ)) (k : Common) (f : Active) (s : Settled) (r : World) : Type 0 where
+  pub blocks : (P : Plan) (I : Influence) (a : paper.Active) → Stands P I k t → TellsActive P a f → SettledAs P (world.worldOf P (k .roster) I a) s
       → (p : ℕ) → entry (r .blocks) p ≡ world.blockOf (world.worldOf P (k .roster) I a .state) p
-  pub at : (P : Plan) (I : Influence) (a : paper.Active) → Stands P I k t → Tells P a f → SettledAs P (world.worldOf P (k .roster) I a) s
+  pub at : (P : Plan) (I : Influence) (a : paper.Active) → Stands P I k t → TellsActive P a f → SettledAs P (world.worldOf P (k .roster) I a) s
       → (p : ℕ) → has (k .roster) p ≡ true
       → SeenAt (view P (world.worldOf P (k .roster) I a) p) (entry (r .blocks) p) (entry (r .roles) p) (entry (r .kinds) p)

@@ -13,7 +13,7 @@ use Rattle.expressions.specs.paper.Variables.{Values}
 use Rattle.worlds.specs.paper.Active as paper
 use Rattle.expressions.specs.code.Coded.{edgesOf}
 use Rattle.records.specs.declared.plan.Edges.{Edges}
-use Rattle.worlds.specs.code.Tables.{row, Tells}
+use Rattle.worlds.specs.code.Tables.{row, TellsActive}
 use Rattle.worlds.specs.code.Laid.{Row, Same}
 use Rattle.worlds.specs.code.Valued.{Valued}
 use Rattle.worlds.specs.declared.tables.Active.{Active}
@@ -52,4 +52,4 @@ pub record Known (P : Plan) (a : paper.Active) (known asked : Active) : Type 0 w
 -- in every world of a plan whose nodes have these values
 pub record ActiveBy (conditions defeaters : List (List ℕ)) (known asked : Active) (decisions : ℕ) (vs : List Bool) (r : Active) : Type 0 where
   pub at : (P : Plan) (v : Values) → Sound P → Conditioned P conditions defeaters → Valued P (v .facts) vs → v .decisions ≡ decisions
-      → Known P (paper.active P v) known asked → Tells P (paper.active P v) r
+      → Known P (paper.active P v) known asked → TellsActive P (paper.active P v) r

@@ -12,7 +12,7 @@ use Rattle.worlds.specs.paper.Active as paper
 use Rattle.worlds.specs.paper.World.{World, worldOf, baseSets, looseComponent, standing, blockedBy, barHolds}
 use Rattle.worlds.specs.paper.Events.{leastOfMerged}
 use Rattle.worlds.specs.code.Over.{entry}
-use Rattle.worlds.specs.code.Tables.{Stands, Tells}
+use Rattle.worlds.specs.code.Tables.{Stands, TellsActive}
 use Rattle.worlds.specs.code.Discretion.{Renewed}
 use Rattle.worlds.specs.declared.tables.Common.{Common}
 use Rattle.worlds.specs.declared.tables.Active.{Active}
@@ -40,7 +40,7 @@ pub record CutsAre (P : Plan) (w : World) (r : CutsDone) (blockings₀ blockings
 
 -- for every plan, influence and valuation that tables and masks stand for
 pub record CutsSettled (t : List (List ℕ)) (f : Active) (r : CutsDone) (blockings₀ blockings₁ clashes₀ clashes₁ : List ℕ) : Type 0 where
-  pub at : (P : Plan) (I : Influence) (k : Common) (a : paper.Active) → Stands P I k t → Tells P a f
+  pub at : (P : Plan) (I : Influence) (k : Common) (a : paper.Active) → Stands P I k t → TellsActive P a f
       → CutsAre P (worldOf P (k .roster) I a) r blockings₀ blockings₁ clashes₀ clashes₁
 
 -- the components at discretion, each at one of its persons
@@ -63,8 +63,8 @@ pub record SettledAs (P : Plan) (w : World) (s : Settled) : Type 0 where
 
 -- the whole of it, with the tables of events that it adds to
 pub record Settles (t : List (List ℕ)) (k : Common) (f : Active) (s : Settled) (parts₀ parts₁ blockings₀ blockings₁ clashes₀ clashes₁ : List ℕ) : Type 0 where
-  pub at : (P : Plan) (I : Influence) (a : paper.Active) → Stands P I k t → Tells P a f → SettledAs P (worldOf P (k .roster) I a) s
-  pub components : (P : Plan) (I : Influence) (a : paper.Active) → Stands P I k t → Tells P a f → PartsAre P (k .roster) a (s .heads) parts₁
+  pub at : (P : Plan) (I : Influence) (a : paper.Active) → Stands P I k t → TellsActive P a f → SettledAs P (worldOf P (k .roster) I a) s
+  pub components : (P : Plan) (I : Influence) (a : paper.Active) → Stands P I k t → TellsActive P a f → PartsAre P (k .roster) a (s .heads) parts₁
   pub renewed : Renewed (s .heads) (s .fresh) parts₀ parts₁
-  pub blocked : (P : Plan) (I : Influence) (a : paper.Active) → Stands P I k t → Tells P a f → Added (blocks P (worldOf P (k .roster) I a)) blockings₀ blockings₁
-  pub clashed : (P : Plan) (I : Influence) (a : paper.Active) → Stands P I k t → Tells P a f → Added (clashes P (worldOf P (k .roster) I a)) clashes₀ clashes₁
+  pub blocked : (P : Plan) (I : Influence) (a : paper.Active) → Stands P I k t → TellsActive P a f → Added (blocks P (worldOf P (k .roster) I a)) blockings₀ blockings₁
+  pub clashed : (P : Plan) (I : Influence) (a : paper.Active) → Stands P I k t → TellsActive P a f → Added (clashes P (worldOf P (k .roster) I a)) clashes₀ clashes₁

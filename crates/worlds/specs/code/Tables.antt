@@ -62,7 +62,7 @@ pub record Stands (P : Plan) (I : Influence) (k : Common) (t : List (List ℕ)) 
   pub statusCites : (i : ℕ) → i < statusCount P → row t 20 i ≡ one (status P i .citation)
 
 -- masks that say what the lists say; no rule past its count is active
-pub record Tells (P : Plan) (a : paper.Active) (f : Active) : Type 0 where
+pub record TellsActive (P : Plan) (a : paper.Active) (f : Active) : Type 0 where
   pub frozen : (e : ℕ) → has (f .frozen) e ≡ on (a .frozen) e
   pub cuts : (c : ℕ) → has (f .cuts) c ≡ on (a .cuts) c
   pub attachments : (i : ℕ) → has (f .attachments) i ≡ on (a .attachments) i

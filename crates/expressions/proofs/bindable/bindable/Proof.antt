@@ -12,28 +12,13 @@ use Rattle.expressions.proofs.bindable.bindable.Statement.{statement}
 use Rattle.expressions.proofs.bindable.bindable.Tie as tie
 
 -- src/bindable.rt:106:9
-upto-requires : tie.Need-upto-requires
-upto-requires c κs = search needs
-
 -- src/bindable.rt:107:26
-upto-requires-2 : tie.Need-upto-requires-2
-upto-requires-2 c κs = search needs
-
 -- src/bindable.rt:107:18
-add-before : tie.Need-add-before
-add-before c = search needs
-
 -- src/bindable.rt:108:9
-family-faults-requires : tie.Need-family-faults-requires
-family-faults-requires c κs = search needs
-
 enum-told : tie.Need-enum-told
 enum-told c = search needs
 
 -- src/bindable.rt:110:9
-enum-told-2 : tie.Need-enum-told-2
-enum-told-2 c = search needs
-
 -- src/bindable.rt:110:9
 returns : tie.Need-returns
 unfolding caseOf
@@ -46,9 +31,6 @@ returns c =
     refused-stands (r .result) (booleansChecked C) (c .enum-told2 .given .1) ∙ bindable-first C (u .upto .result) (r .result) e (r .ensures)
 
 -- src/bindable.rt:112:5
-boolean-faults-requires : tie.Need-boolean-faults-requires
-boolean-faults-requires c κs = search needs
-
 -- src/bindable.rt:101:1
 returns-2 : tie.Need-returns-2
 unfolding caseOf
@@ -71,12 +53,12 @@ pub bindable-spec : {M : Type 1} → statement M
 bindable-spec =
     tie.close
     (tie.spec
-    upto-requires
-    upto-requires-2
-    add-before
-    family-faults-requires
+    (λ c κs. search needs)
+    (λ c κs. search needs)
+    (λ c. search needs)
+    (λ c κs. search needs)
     enum-told
-    enum-told-2
+    (λ c. search needs)
     returns
-    boolean-faults-requires
+    (λ c κs. search needs)
     returns-2)

@@ -1,4 +1,4 @@
--- `bindings::bind_facts`: the facts below i have their binding, and those of them that took their default are found. Assumes nothing.
+-- `bindings::bind_facts`: the facts below i have their binding, and those of them that took their default are found.
 use Prim.Native.Nat.{ℕ, _≤_, _<_, _-_}
 use mathlib.Core.Path.{_≡_, refl, sym, ap, ap₂, _∙_, subst}
 use mathlib.Core.Bool.{Bool}
@@ -9,7 +9,8 @@ use lib.ListN.{length, getD, take, length-map, length-set}
 use borrow.Author.Needs.{needs}
 use Rattle.records.specs.paper.Sets.{has, one, union, only, unionBelow}
 use Rattle.records.specs.code.Decoded.{planOf, caseOf, familyOf}
-use Rattle.expressions.specs.code.Told.{Tells, bindingFrom, defaultFrom}
+use Rattle.expressions.specs.code.Coded.{cutsOf, attachmentsOf}
+use Rattle.expressions.specs.code.Told.{TellsFact, bindingFrom, defaultFrom}
 use Rattle.expressions.proofs.UnionLaws.{joined-if, left-if}
 use Rattle.expressions.proofs.MaskLaws.{built, built-next}
 use Rattle.expressions.proofs.FactLaws.{Filled, filled-none, filled-next}
@@ -27,83 +28,20 @@ Inv-loop set facts families scope sights said elected codes₀ defaults₀ n i�
 abbrev μ-loop : tie.MeasureT-loop
 μ-loop set facts families scope sights said elected codes₀ defaults₀ n i₀ codes defaults i = n - i
 
-scope-of-requires : tie.Need-scope-of-requires Inv-loop μ-loop
-scope-of-requires c κs = search needs
-
-sights-of-requires : tie.Need-sights-of-requires Inv-loop μ-loop
-sights-of-requires c κs = search needs
-
-said-unknown-requires : tie.Need-said-unknown-requires Inv-loop μ-loop
-said-unknown-requires c κs = search needs
-
-elect-requires : tie.Need-elect-requires Inv-loop μ-loop
-elect-requires c κs = search needs
-
-upto-requires : tie.Need-upto-requires Inv-loop μ-loop
-upto-requires c κs = search needs
-
 loop-holds : tie.Need-loop-holds Inv-loop μ-loop
 unfolding unionBelow
 loop-holds c = (refl, search needs, filled-none _ 64, refl)
 
-cast-k : tie.Need-cast-k Inv-loop μ-loop
-cast-k c = search needs
-
-mul-fact : tie.Need-mul-fact Inv-loop μ-loop
-mul-fact c = search needs
-
-element-copy-out-fact : tie.Need-element-copy-out-fact Inv-loop μ-loop
-element-copy-out-fact c = search needs
-
-mul-seen : tie.Need-mul-seen Inv-loop μ-loop
-mul-seen c = search needs
-
-element-copy-out-seen : tie.Need-element-copy-out-seen Inv-loop μ-loop
-element-copy-out-seen c = search needs
-
-mul-election : tie.Need-mul-election Inv-loop μ-loop
-mul-election c = search needs
-
-element-copy-out-election : tie.Need-element-copy-out-election Inv-loop μ-loop
-element-copy-out-election c = search needs
-
-contains-requires : tie.Need-contains-requires Inv-loop μ-loop
-contains-requires c κs = search needs
-
-contains-requires-2 : tie.Need-contains-requires-2 Inv-loop μ-loop
-contains-requires-2 c κs = search needs
-
-binding-requires : tie.Need-binding-requires Inv-loop μ-loop
-binding-requires c κs = search needs
-
-array-write-codes : tie.Need-array-write-codes Inv-loop μ-loop
-array-write-codes c = search needs
-
-takes-default-requires : tie.Need-takes-default-requires Inv-loop μ-loop
-takes-default-requires c κs = search needs
-
-bit-requires : tie.Need-bit-requires Inv-loop μ-loop
-bit-requires c κs = search needs
-
-union-requires : tie.Need-union-requires Inv-loop μ-loop
-union-requires c κs = search needs
-
-add-i : tie.Need-add-i Inv-loop μ-loop
-add-i c = search needs
-
-loop-less : tie.Need-loop-less Inv-loop μ-loop
-loop-less c = search needs
-
 loop-again : tie.Need-loop-again Inv-loop μ-loop
 loop-again c =
     let l = c .before .before .before .before .before .before .before .before .before in
-    let facts = c .before .before .before .before .before .before .before .before .before .before .before .before .before .before .before .before .before .before .before .args .plan .facts in
-    let families = c .before .before .before .before .before .before .before .before .before .before .before .before .before .before .before .before .before .before .before .args .case .families in
+    let facts = c .before .before .before .before .before .before .before .before .before .before .before .before .before .before .before .before .before .before .before .before .before .args .plan .facts in
+    let families = c .before .before .before .before .before .before .before .before .before .before .before .before .before .before .before .before .before .before .before .before .before .args .case .families in
     let scope = c .before .before .before .before .before .before .before .before .before .before .before .before .before .before .scope-of .result in
     let sights = c .before .before .before .before .before .before .before .before .before .before .before .before .before .sights-of .result in
     let said = c .before .before .before .before .before .before .before .before .before .before .before .before .said-unknown .result in
     let elected = c .before .before .before .before .before .before .before .before .before .before .before .elect .result in
-    let set = c .before .before .before .before .before .before .before .before .before .before .before .before .before .before .before .before .before .before .before .args .set in
+    let set = c .before .before .before .before .before .before .before .before .before .before .before .before .before .before .before .before .before .before .before .before .before .args .set in
     let i = l .loop .i in
     let code = codeAt set facts families scope sights said elected in
     let test = defaultAt set facts sights said elected in
@@ -121,21 +59,23 @@ loop-again c =
     )
 
 returns : tie.Need-returns Inv-loop μ-loop
-unfolding caseOf
+unfolding caseOf planOf cutsOf attachmentsOf
 returns c =
     let l = c .before in
-    let s = c .before .before .before .before .before .before .before .before .before .before .before in
+    let s = c .before .before .before .before .before .before .before .before .before .before .before .before .before in
     let p = s .args .plan in
     let e : l .loop .i ≡ c .before .before .upto .result = omega (arith, c .loop-test .left, l .loop .inv .1) in
     let long : length (p .facts .items) ≡ 64 = simp length-map at (s .good .0 .1 .1 .1 .1 .1 .1 .0 .1 .1 .1 .0 .1 .0 .1) in
     let code = codeAt (s .args .set) (p .facts) (s .args .case .families) (c .before .before .before .before .before .before .scope-of .result) (c .before .before .before .before .before .sights-of .result) (c .before .before .before .before .said-unknown .result) (c .before .before .before .elect .result) in
     let test = defaultAt (s .args .set) (p .facts) (c .before .before .before .before .before .sights-of .result) (c .before .before .before .before .said-unknown .result) (c .before .before .before .elect .result) in
-    let tells : (f : ℕ) → f < 64 → Tells (planOf p) (caseOf (s .args .case)) f (toldAt (c .before .before .before .before .before .sights-of .result) (c .before .before .before .before .said-unknown .result) (c .before .before .before .elect .result) f) = λ f h. record { seen = c .before .before .before .before .before .sights-of .ensures f h; unknown = c .before .before .before .before .said-unknown .ensures f h; election = c .before .before .before .elect .ensures f h } in
+    let tells : (f : ℕ) → f < 64 → TellsFact (planOf p) (caseOf (s .args .case)) f (toldAt (c .before .before .before .before .before .sights-of .result) (c .before .before .before .before .said-unknown .result) (c .before .before .before .elect .result) f) = λ f h. record { seen = c .before .before .before .before .before .sights-of .ensures f h; unknown = c .before .before .before .before .said-unknown .ensures f h; election = c .before .before .before .elect .ensures (planOf p) refl refl .at f h } in
     record {
       codes = codes-made p (s .args .case) (s .args .set) (c .before .before .upto .result) (c .before .before .before .before .before .before .scope-of .result) (c .before .before .before .before .said-unknown .result) (c .before .before .before .before .before .sights-of .result) (c .before .before .before .elect .result) long (c .before .before .upto .ensures .0) (c .before .before .before .before .before .before .scope-of .ensures) tells (l .loop .codes)
           (subst (Filled code (l .loop .codes)) e (l .loop .inv .2));
-      defaults = λ f. ap (λ (m : ℕ). has m f) (l .loop .inv .3 ∙ ap (built test) e)
-          ∙ defaults-made p (s .args .case) (s .args .set) (c .before .before .upto .result) (c .before .before .before .before .before .before .scope-of .result) (c .before .before .before .before .said-unknown .result) (c .before .before .before .before .before .sights-of .result) (c .before .before .before .elect .result) long (c .before .before .upto .ensures .0) (c .before .before .before .before .before .before .scope-of .ensures) tells f;
+      defaults = record {
+        at = λ f. ap (λ (m : ℕ). has m f) (l .loop .inv .3 ∙ ap (built test) e)
+            ∙ defaults-made p (s .args .case) (s .args .set) (c .before .before .upto .result) (c .before .before .before .before .before .before .scope-of .result) (c .before .before .before .before .said-unknown .result) (c .before .before .before .before .before .sights-of .result) (c .before .before .before .elect .result) long (c .before .before .upto .ensures .0) (c .before .before .before .before .before .before .scope-of .ensures) tells f;
+      };
     }
 
 pub bind-facts-spec : {M : Type 1} → statement M
@@ -144,27 +84,27 @@ bind-facts-spec =
     (tie.spec
     Inv-loop
     μ-loop
-    scope-of-requires
-    sights-of-requires
-    said-unknown-requires
-    elect-requires
-    upto-requires
+    (λ c κs. search needs)
+    (λ c κs. search needs)
+    (λ c κs. search needs)
+    (λ c κs. search needs)
+    (λ c κs. search needs)
     loop-holds
-    cast-k
-    mul-fact
-    element-copy-out-fact
-    mul-seen
-    element-copy-out-seen
-    mul-election
-    element-copy-out-election
-    contains-requires
-    contains-requires-2
-    binding-requires
-    array-write-codes
-    takes-default-requires
-    bit-requires
-    union-requires
-    add-i
-    loop-less
+    (λ c. search needs)
+    (λ c. search needs)
+    (λ c. search needs)
+    (λ c. search needs)
+    (λ c. search needs)
+    (λ c. search needs)
+    (λ c. search needs)
+    (λ c κs. search needs)
+    (λ c κs. search needs)
+    (λ c κs. search needs)
+    (λ c. search needs)
+    (λ c κs. search needs)
+    (λ c κs. search needs)
+    (λ c κs. search needs)
+    (λ c. search needs)
+    (λ c. search needs)
     loop-again
     returns)

@@ -1,4 +1,4 @@
--- `bindings::binding`: a case for each test. Assumes nothing.
+-- `bindings::binding`: a case for each test.
 use mathlib.Core.Path.{ap, _∙_}
 use Prim.Native.Nat.{ℕ}
 use borrow.Author.Tests.{not-true, not-false}
@@ -12,18 +12,9 @@ returns : tie.Need-returns
 unfolding bindingFrom boundOf
 returns c = rw (not-true (c .before .before .args .bound) (c .if1 .taken))
 
-bound-boolean-requires : tie.Need-bound-boolean-requires
-bound-boolean-requires c κs = search needs
-
 returns-2 : tie.Need-returns-2
 unfolding bindingFrom
 returns-2 c = rw (not-false (c .before .before .before .before .args .bound) (c .before .before .if1 .left), c .before .if2 .taken) (c .bound-boolean .ensures)
-
-silence-requires : tie.Need-silence-requires
-silence-requires c κs = search needs
-
-bound-relation-requires : tie.Need-bound-relation-requires
-bound-relation-requires c κs = search needs
 
 returns-3 : tie.Need-returns-3
 unfolding bindingFrom
@@ -34,8 +25,8 @@ binding-spec =
     tie.close
     (tie.spec
     returns
-    bound-boolean-requires
+    (λ c κs. search needs)
     returns-2
-    silence-requires
-    bound-relation-requires
+    (λ c κs. search needs)
+    (λ c κs. search needs)
     returns-3)

@@ -1,10 +1,7 @@
--- `bindings::bindings`: those that are found with the defaults. Assumes nothing.
+-- `bindings::bindings`: those that are found with the defaults.
 use borrow.Author.Needs.{needs}
 use Rattle.expressions.proofs.bindings.bindings.Statement.{statement}
 use Rattle.expressions.proofs.bindings.bindings.Tie as tie
-
-bind-facts-requires : tie.Need-bind-facts-requires
-bind-facts-requires c κs = search needs
 
 returns : tie.Need-returns
 returns c = c .before .bind-facts .ensures .codes
@@ -13,5 +10,5 @@ pub bindings-spec : {M : Type 1} → statement M
 bindings-spec =
     tie.close
     (tie.spec
-    bind-facts-requires
+    (λ c κs. search needs)
     returns)

@@ -1,21 +1,15 @@
--- `bindings::bound_boolean`: explicit unknown first, then what was seen, then the default. Assumes nothing.
+-- `bindings::bound_boolean`: explicit unknown first, then what was seen, then the default.
 use mathlib.Core.Path.{ap, _∙_}
 use borrow.Author.Needs.{needs}
-use Rattle.expressions.specs.code.Seen.{boundBy}
+use Rattle.expressions.specs.code.Sight.{boundBy}
 use Rattle.expressions.specs.code.Codes.{boundOf}
 use Rattle.expressions.specs.code.Told.{booleanBy}
 use Rattle.expressions.proofs.bindings.bound_boolean.Statement.{statement}
 use Rattle.expressions.proofs.bindings.bound_boolean.Tie as tie
 
-by-default-requires : tie.Need-by-default-requires
-by-default-requires c κs = search needs
-
 returns : tie.Need-returns
 unfolding booleanBy boundOf
 returns c = rw (c .if1 .taken)
-
-weigh-requires : tie.Need-weigh-requires
-weigh-requires c κs = search needs
 
 returns-2 : tie.Need-returns-2
 unfolding booleanBy
@@ -25,7 +19,7 @@ pub bound-boolean-spec : {M : Type 1} → statement M
 bound-boolean-spec =
     tie.close
     (tie.spec
-    by-default-requires
-    weigh-requires
+    (λ c κs. search needs)
+    (λ c κs. search needs)
     returns
     returns-2)

@@ -1,4 +1,4 @@
--- `bindings::bound_relation`: Unknown without a family in scope, else what was seen, else what silence means. Assumes nothing.
+-- `bindings::bound_relation`: Unknown without a family in scope, else what was seen, else what silence means.
 use borrow.Author.Tests.{eq-eqb, ne-eqb}
 use borrow.Author.Needs.{needs}
 use Rattle.expressions.specs.code.Codes.{boundOf}
@@ -10,9 +10,6 @@ returns : tie.Need-returns
 unfolding relationBy boundOf
 returns c = rw (eq-eqb _ _ (c .if1 .taken))
 
-weigh-requires : tie.Need-weigh-requires
-weigh-requires c κs = search needs
-
 returns-2 : tie.Need-returns-2
 unfolding relationBy
 returns-2 c = rw (ne-eqb _ _ (c .before .if1 .left)) (c .weigh .ensures)
@@ -22,5 +19,5 @@ bound-relation-spec =
     tie.close
     (tie.spec
     returns
-    weigh-requires
+    (λ c κs. search needs)
     returns-2)

@@ -1,4 +1,4 @@
--- `expressions::bindings::by_default` meets its contract: a case for each policy. Assumes nothing.
+-- `expressions::bindings::by_default` meets its contract: a case for each policy.
 use borrow.Author.Tests.{eq-eqb, ne-eqb, not-true, not-false}
 use Rattle.expressions.specs.code.Codes.{boundOf}
 use Rattle.expressions.specs.paper.Bindings.{defaultOf}

@@ -1,4 +1,4 @@
--- `expressions::bindings::has_default` meets its contract. Assumes nothing.
+-- `expressions::bindings::has_default` meets its contract.
 use mathlib.Core.List.{[], _∷_}
 use mathlib.Core.Bool.{Bool, true, false, not, cond}
 use mathlib.Core.Path.{_≡_, refl}

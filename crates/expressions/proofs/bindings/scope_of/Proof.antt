@@ -1,4 +1,4 @@
--- `expressions::bindings::scope_of` meets its contract. Assumes nothing.
+-- `expressions::bindings::scope_of` meets its contract.
 use mathlib.Core.List.{[], _∷_}
 use mathlib.Core.Path.{sym, ap}
 use native.Mathlib.Omega.{arith}

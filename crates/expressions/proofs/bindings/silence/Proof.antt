@@ -1,4 +1,4 @@
--- `expressions::bindings::silence` meets its contract: the first family that fits is among the records from i on. Assumes nothing.
+-- `expressions::bindings::silence` meets its contract: the first family that fits is among the records from i on.
 use Prim.Native.Nat.{_≤_, _-_}
 use mathlib.Core.Bool.{true, false}
 use mathlib.Core.Logic.{⊎-elim}
@@ -18,17 +18,8 @@ Inv-loop number scope families n i₀ i =
 abbrev μ-loop : tie.MeasureT-loop
 μ-loop number scope families n i₀ i = n - i
 
-upto-requires : tie.Need-upto-requires Inv-loop μ-loop
-upto-requires c κs = search needs
-
 loop-holds : tie.Need-loop-holds Inv-loop μ-loop
 loop-holds c = (simp length-map at (c .before .good .0 .1 .1 .1 .0 .1 .0 .1), search needs, refl)
-
-mul-m : tie.Need-mul-m Inv-loop μ-loop
-mul-m c = search needs
-
-element-copy-out-m : tie.Need-element-copy-out-m Inv-loop μ-loop
-element-copy-out-m c = search needs
 
 returns : tie.Need-returns Inv-loop μ-loop
 returns c =
@@ -41,12 +32,6 @@ returns-2 c =
     let l = c .before .before .before .before .before .before .before in
     let a = l .before .before .args in
     sym (silent-here (a .t1 .items) (a .t1 .count) (a .number) (a .scope) (l .loop .i) _ (search needs) false (c .before .before .before .if1 .taken) (c .before .if2 .taken) (c .if3 .left)) ∙ l .loop .inv .2
-
-add-i : tie.Need-add-i Inv-loop μ-loop
-add-i c = search needs
-
-loop-less : tie.Need-loop-less Inv-loop μ-loop
-loop-less c = search needs
 
 loop-again : tie.Need-loop-again Inv-loop μ-loop
 loop-again c =
@@ -72,13 +57,13 @@ silence-spec =
     (tie.spec
     Inv-loop
     μ-loop
-    upto-requires
+    (λ c κs. search needs)
     loop-holds
-    mul-m
-    element-copy-out-m
+    (λ c. search needs)
+    (λ c. search needs)
     returns
     returns-2
-    add-i
-    loop-less
+    (λ c. search needs)
+    (λ c. search needs)
     loop-again
     returns-3)

@@ -1,4 +1,4 @@
--- `bindings::takes_default`: a case for each test. Assumes nothing.
+-- `bindings::takes_default`: a case for each test.
 use borrow.Author.Tests.{not-true, not-false}
 use borrow.Author.Needs.{needs}
 use Rattle.expressions.specs.code.Told.{defaultFrom}
@@ -21,9 +21,6 @@ returns-4 : tie.Need-returns-4
 unfolding defaultFrom
 returns-4 c = rw (not-false (c .before .before .before .before .before .before .before .args .bound) (c .before .before .before .before .if1 .left), not-false (c .before .before .before .before .before .before .before .args .fact .boolean) (c .before .before .if2 .left), c .before .if3 .left, c .if4 .taken)
 
-has-default-requires : tie.Need-has-default-requires
-has-default-requires c κs = search needs
-
 returns-5 : tie.Need-returns-5
 unfolding defaultFrom
 returns-5 c = rw (not-false (c .before .before .before .before .before .before .before .before .args .bound) (c .before .before .before .before .before .if1 .left), not-false (c .before .before .before .before .before .before .before .before .args .fact .boolean) (c .before .before .before .if2 .left), c .before .before .if3 .left, c .before .if4 .left) (c .has-default .ensures)
@@ -36,5 +33,5 @@ takes-default-spec =
     returns-2
     returns-3
     returns-4
-    has-default-requires
+    (λ c κs. search needs)
     returns-5)

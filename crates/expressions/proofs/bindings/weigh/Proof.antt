@@ -1,7 +1,7 @@
--- `expressions::bindings::weigh` meets its contract: a case for each test. Assumes nothing.
+-- `expressions::bindings::weigh` meets its contract: a case for each test.
 use borrow.Author.Tests.{eq-eqb, ne-eqb, not-true, not-false}
 use Rattle.expressions.specs.code.Codes.{boundOf}
-use Rattle.expressions.specs.code.Seen.{boundBy}
+use Rattle.expressions.specs.code.Sight.{boundBy}
 use Rattle.expressions.proofs.bindings.weigh.Statement.{statement}
 use Rattle.expressions.proofs.bindings.weigh.Tie as tie
 

@@ -1,4 +1,4 @@
--- `circle::append`: after i sets the list has them behind those that were there. Assumes nothing.
+-- `circle::append`: after i sets the list has them behind those that were there.
 use Prim.Native.Nat.{ℕ, _+_, _≤_, _<_, _-_}
 use mathlib.Core.Path.{_≡_, sym, ap, _∙_}
 use mathlib.Core.List.{List, _++_, append-nil}
@@ -24,12 +24,6 @@ loop-holds c =
     let k = c .args .joins in
     (search needs, sym (length-map (k .sets) (λ v. v)) ∙ c .good .0 .1 .1 .1 .0 .1 .0 .1, sym (add-zero (k .count)), sym (append-nil (joinsOf k)))
 
-mul-s : tie.Need-mul-s Inv-loop μ-loop
-mul-s c = search needs
-
-shared-slice-read-s : tie.Need-shared-slice-read-s Inv-loop μ-loop
-shared-slice-read-s c = search needs
-
 mul-all : tie.Need-mul-all Inv-loop μ-loop
 mul-all c = omega (arith, c .before .before .loop .inv .2, c .before .before .before .pre, c .before .loop-test .taken)
 
@@ -38,12 +32,6 @@ element-write-all c = omega (arith, c .before .before .loop .inv .2, c .before .
 
 add-all : tie.Need-add-all Inv-loop μ-loop
 add-all c = omega (arith, c .before .before .loop .inv .2, c .before .before .before .pre, c .before .loop-test .taken)
-
-add-i : tie.Need-add-i Inv-loop μ-loop
-add-i c = search needs
-
-loop-less : tie.Need-loop-less Inv-loop μ-loop
-loop-less c = search needs
 
 loop-again : tie.Need-loop-again Inv-loop μ-loop
 unfolding joinsOf
@@ -68,12 +56,12 @@ append-spec =
     Inv-loop
     μ-loop
     loop-holds
-    mul-s
-    shared-slice-read-s
+    (λ c. search needs)
+    (λ c. search needs)
     mul-all
     element-write-all
     add-all
-    add-i
-    loop-less
+    (λ c. search needs)
+    (λ c. search needs)
     loop-again
     returns)

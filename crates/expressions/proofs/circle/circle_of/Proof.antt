@@ -1,4 +1,4 @@
--- `circle::circle_of`: the closing of the person under the sets in use. Assumes nothing.
+-- `circle::circle_of`: the closing of the person under the sets in use.
 use mathlib.Core.Path.{_≡_, sym, ap₂, _∙_}
 use native.Mathlib.Omega.{arith}
 use lib.ListN.{length, length-map}
@@ -13,20 +13,11 @@ use Rattle.expressions.proofs.circle.circle_of.Tie as tie
 long : (c : tie.Start) → length (c .args .joins .sets) ≡ 224
 long c = sym (length-map (c .args .joins .sets) (λ v. v)) ∙ c .good .0 .1 .1 .1 .0 .1 .0 .1
 
-upto-requires : tie.Need-upto-requires
-upto-requires c κs = search needs
-
 array-share-prefix-sets : tie.Need-array-share-prefix-sets
 array-share-prefix-sets c = omega (arith, long (c .before .before), c .upto .ensures .1)
 
 slice-aggregate-close : tie.Need-slice-aggregate-close
 slice-aggregate-close c = sym (length-take-le (c .before .upto .result) (c .before .before .before .args .joins .sets) (omega (arith, long (c .before .before .before), c .before .upto .ensures .1)))
-
-bit-requires : tie.Need-bit-requires
-bit-requires c κs = search needs
-
-close-requires : tie.Need-close-requires
-close-requires c κs = search needs
 
 returns : tie.Need-returns
 unfolding joinsOf
@@ -39,9 +30,9 @@ pub circle-of-spec : {M : Type 1} → statement M
 circle-of-spec =
     tie.close
     (tie.spec
-    upto-requires
+    (λ c κs. search needs)
     array-share-prefix-sets
     slice-aggregate-close
-    bit-requires
-    close-requires
+    (λ c κs. search needs)
+    (λ c κs. search needs)
     returns)

@@ -1,4 +1,4 @@
--- `circle::joins_of`: rules, then facts, then decisions. Assumes nothing.
+-- `circle::joins_of`: rules, then facts, then decisions.
 use Prim.Native.Nat.{ℕ, _+_}
 use mathlib.Core.Path.{_≡_, sym, ap, ap₂, _∙_}
 use mathlib.Core.List.{List, _++_, append-assoc}
@@ -29,9 +29,6 @@ front-facts c = length-take-le (c .args .count) (c .args .t2) (omega (arith, wid
 front-decisions : (c : tie.Start) → length (take (c .args .undecided) (c .args .t4)) ≡ c .args .undecided
 front-decisions c = length-take-le (c .args .undecided) (c .args .t4) (omega (arith, deep c, c .pre .1))
 
-upto-requires : tie.Need-upto-requires
-upto-requires c κs = search needs
-
 array-share-prefix-sets : tie.Need-array-share-prefix-sets
 array-share-prefix-sets c = omega (arith, long (c .before .before), c .upto .ensures .1)
 
@@ -41,17 +38,11 @@ slice-aggregate-append c = sym (front-sets (c .before))
 append-requires : tie.Need-append-requires
 append-requires c κs = omega (arith, front-sets (c .before), c .before .upto .ensures .1)
 
-array-share-prefix-facts : tie.Need-array-share-prefix-facts
-array-share-prefix-facts c = search needs
-
 slice-aggregate-append-2 : tie.Need-slice-aggregate-append-2
 slice-aggregate-append-2 c = sym (front-facts (c .before .before .before .before .before))
 
 append-requires-2 : tie.Need-append-requires-2
 append-requires-2 c κs = omega (arith, c .before .append .ensures .0, front-sets (c .before .before .before), c .before .before .before .upto .ensures .1, front-facts (c .before .before .before .before .before), c .before .before .before .before .before .pre .0)
-
-array-share-prefix-decisions : tie.Need-array-share-prefix-decisions
-array-share-prefix-decisions c = search needs
 
 slice-aggregate-append-3 : tie.Need-slice-aggregate-append-3
 slice-aggregate-append-3 c = sym (front-decisions (c .before .before .before .before .before .before .before))
@@ -77,14 +68,14 @@ pub joins-of-spec : {M : Type 1} → statement M
 joins-of-spec =
     tie.close
     (tie.spec
-    upto-requires
+    (λ c κs. search needs)
     array-share-prefix-sets
     slice-aggregate-append
     append-requires
-    array-share-prefix-facts
+    (λ c. search needs)
     slice-aggregate-append-2
     append-requires-2
-    array-share-prefix-decisions
+    (λ c. search needs)
     slice-aggregate-append-3
     append-requires-3
     returns)

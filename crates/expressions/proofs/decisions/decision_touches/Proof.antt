@@ -1,13 +1,13 @@
--- `decisions::decision_touches`: the open decisions name cuts and edges of the plan. Assumes nothing.
-use mathlib.Core.Path.{sym, ap, _∙_, subst}
+-- `decisions::decision_touches`: the open decisions name cuts and edges of the plan.
+use mathlib.Core.Path.{refl, sym, ap, _∙_, subst}
 use mathlib.Core.List.{map}
 use native.Mathlib.Omega.{arith}
 use Rattle.records.specs.code.Decoded.{planOf}
 use Rattle.records.specs.promises.Sound.{All}
 use Rattle.expressions.specs.paper.Rules.{cutCount, edgeCount}
-use Rattle.expressions.specs.paper.Influence.{openDecisions}
+use Rattle.expressions.specs.paper.Influence.{openDecisions, openTouch}
 use Rattle.expressions.specs.code.Coded.{Holds, cutsOf, edgesOf}
-use Rattle.expressions.specs.code.Undecided.{Named, openTouch}
+use Rattle.expressions.specs.code.Undecided.{Named}
 use Rattle.expressions.proofs.FitLaws.{edges-fit}
 use Rattle.expressions.proofs.OpenLaws.{opens-number, open-few, all-named, open-touches}
 use Rattle.expressions.proofs.decisions.decision_touches.Statement.{statement}
@@ -28,7 +28,7 @@ unfolding cutsOf edgesOf planOf
 returns c =
     let s = c .before .before .before in
     let P = planOf (s .args .plan) in
-    subst (Holds 0 (c .touches-over .result)) (ap (map (openTouch (P .cuts) (P .edges))) (s .pre .1) ∙ open-touches P) (c .touches-over .ensures)
+    subst (Holds 0 (c .touches-over .result)) (ap (map (openTouch P)) (s .pre .1) ∙ open-touches P) (c .touches-over .ensures P refl refl)
 
 pub decision-touches-spec : {M : Type 1} → statement M
 decision-touches-spec = tie.close (tie.spec touches-over-requires returns)

@@ -1,4 +1,4 @@
--- `decisions::edge_count`: the edges in use. Assumes nothing.
+-- `decisions::edge_count`: the edges in use.
 use mathlib.Core.Path.{_≡_, sym, _∙_}
 use lib.ListN.{length, length-map}
 use borrow.Author.Needs.{needs}
@@ -9,9 +9,6 @@ use Rattle.expressions.proofs.ListLaws.{made-length}
 use Rattle.expressions.proofs.decisions.edge_count.Statement.{statement}
 use Rattle.expressions.proofs.decisions.edge_count.Tie as tie
 
-upto-requires : tie.Need-upto-requires
-upto-requires c κs = search needs
-
 returns : tie.Need-returns
 unfolding edgesOf
 returns c =
@@ -20,4 +17,4 @@ returns c =
     (sym (made-length edgeOf (s .args .edges .items) (s .args .edges .count) 64 (c .upto .result) long (c .upto .ensures .0)), c .upto .ensures .1)
 
 pub edge-count-spec : {M : Type 1} → statement M
-edge-count-spec = tie.close (tie.spec upto-requires returns)
+edge-count-spec = tie.close (tie.spec (λ c κs. search needs) returns)

@@ -1,4 +1,4 @@
--- `decisions::open_over`: after i cuts the list has their open decisions. Assumes nothing.
+-- `decisions::open_over`: after i cuts the list has their open decisions.
 use Prim.Native.Nat.{_+_, _≤_, _<_, _-_}
 use mathlib.Core.Bool.{false}
 use mathlib.Core.List.{[], List, _++_}
@@ -10,9 +10,9 @@ use Rattle.records.proofs.plan.Cut.{the-type}
 use Rattle.records.specs.paper.Sets.{below, numbers}
 use Rattle.records.specs.paper.Plan.{Cut}
 use Rattle.records.specs.code.Decoded.{cutOf, decisionsOf}
-use Rattle.expressions.specs.paper.Influence.{Open}
+use Rattle.expressions.specs.paper.Influence.{Open, openIn, openBelow}
 use Rattle.expressions.specs.code.Coded.{cutsOf}
-use Rattle.expressions.specs.code.Undecided.{opensOf, openOf, openAll}
+use Rattle.expressions.specs.code.Undecided.{opensOf}
 use Rattle.expressions.proofs.ListLaws.{made-at, made-length}
 use Rattle.expressions.proofs.OpenLaws.{all-next, room-all}
 use Rattle.expressions.proofs.decisions.open_over.Statement.{statement}
@@ -30,7 +30,7 @@ none = record {
 }
 
 abbrev Inv-loop : tie.InvT-loop
-Inv-loop edges cuts n out₀ i₀ out i = (i ≤ n) × (opensOf out ≡ openAll (cutsOf cuts) edges i)
+Inv-loop edges cuts n out₀ i₀ out i = (i ≤ n) × (opensOf out ≡ openBelow (cutsOf cuts) edges i)
 
 abbrev μ-loop : tie.MeasureT-loop
 μ-loop edges cuts n out₀ i₀ out i = n - i
@@ -42,8 +42,8 @@ long c = sym (length-map (c .args .t1 .items) (the-type .to)) ∙ c .good .0 .1 
 next : (c : tie.After-decisions Inv-loop μ-loop) →
     let l = c .before .before .before in
     let s = l .before .before in
-    openAll (cutsOf (s .args .t1)) (s .args .edges) (l .loop .i + 1)
-    ≡ openAll (cutsOf (s .args .t1)) (s .args .edges) (l .loop .i) ++ openOf (decisionsOf (getD (s .args .t1 .items) (l .loop .i) none .decisions)) (l .loop .i) (s .args .edges)
+    openBelow (cutsOf (s .args .t1)) (s .args .edges) (l .loop .i + 1)
+    ≡ openBelow (cutsOf (s .args .t1)) (s .args .edges) (l .loop .i) ++ openIn (decisionsOf (getD (s .args .t1 .items) (l .loop .i) none .decisions)) (l .loop .i) (s .args .edges)
 unfolding cutsOf cutOf
 next c =
     let l = c .before .before .before in
@@ -53,21 +53,9 @@ next c =
     all-next (cutsOf (s .args .t1)) (s .args .edges) (l .loop .i) (decisionsOf (getD (s .args .t1 .items) (l .loop .i) none .decisions)) (λ d.
     ap (λ (x : Cut). x .decisions) (made-at cutOf (s .args .t1 .items) (s .args .t1 .count) 16 (a .upto .result) (long s) (a .upto .ensures .0) (l .loop .i) none d k))
 
-upto-requires : tie.Need-upto-requires Inv-loop μ-loop
-upto-requires c κs = search needs
-
 loop-holds : tie.Need-loop-holds Inv-loop μ-loop
-unfolding opensOf openAll below numbers
+unfolding opensOf openBelow below numbers
 loop-holds c = (search needs, refl)
-
-mul-cut : tie.Need-mul-cut Inv-loop μ-loop
-mul-cut c = search needs
-
-element-copy-out-cut : tie.Need-element-copy-out-cut Inv-loop μ-loop
-element-copy-out-cut c = search needs
-
-cast-c : tie.Need-cast-c Inv-loop μ-loop
-cast-c c = search needs
 
 open-in-requires : tie.Need-open-in-requires Inv-loop μ-loop
 unfolding cutsOf
@@ -79,17 +67,11 @@ open-in-requires c κs =
     let len = made-length cutOf (s .args .t1 .items) (s .args .t1 .count) 16 (a .upto .result) (long s) (a .upto .ensures .0) in
     (s .pre .0, room-all cs (s .args .edges) (l .loop .i) (length cs) (l .loop .out) _ (l .loop .inv .1) (next c) (omega (arith, len, c .before .before .loop-test .taken)) (s .pre .1))
 
-add-i : tie.Need-add-i Inv-loop μ-loop
-add-i c = search needs
-
-loop-less : tie.Need-loop-less Inv-loop μ-loop
-loop-less c = search needs
-
 loop-again : tie.Need-loop-again Inv-loop μ-loop
 loop-again c =
     let l = c .before .before .before .before in
     let s = l .before .before in
-    let new = openOf (decisionsOf (getD (s .args .t1 .items) (l .loop .i) none .decisions)) (l .loop .i) (s .args .edges) in
+    let new = openIn (decisionsOf (getD (s .args .t1 .items) (l .loop .i) none .decisions)) (l .loop .i) (s .args .edges) in
     (search needs, c .open-in .ensures ∙ ap (λ (os : List Open). os ++ new) (l .loop .inv .1) ∙ sym (next (c .before)))
 
 returns : tie.Need-returns Inv-loop μ-loop
@@ -100,7 +82,7 @@ returns c =
     let s = a .before in
     let len = made-length cutOf (s .args .t1 .items) (s .args .t1 .count) 16 (a .upto .result) (long s) (a .upto .ensures .0) in
     let e : l .loop .i ≡ length (cutsOf (s .args .t1)) = omega arith in
-    l .loop .inv .1 ∙ ap (openAll (cutsOf (s .args .t1)) (s .args .edges)) e
+    l .loop .inv .1 ∙ ap (openBelow (cutsOf (s .args .t1)) (s .args .edges)) e
 
 pub open-over-spec : {M : Type 1} → statement M
 open-over-spec =
@@ -108,13 +90,13 @@ open-over-spec =
     (tie.spec
     Inv-loop
     μ-loop
-    upto-requires
+    (λ c κs. search needs)
     loop-holds
-    mul-cut
-    element-copy-out-cut
-    cast-c
+    (λ c. search needs)
+    (λ c. search needs)
+    (λ c. search needs)
     open-in-requires
-    add-i
-    loop-less
+    (λ c. search needs)
+    (λ c. search needs)
     loop-again
     returns)

@@ -1,4 +1,4 @@
--- `decisions::touches_over`: after i decisions the array holds whom the first i touch. Assumes nothing.
+-- `decisions::touches_over`: after i decisions the array holds whom the first i touch.
 use Prim.Native.Nat.{ℕ, _≤_, _<_, _-_, min}
 use mathlib.Core.Path.{_≡_, refl, sym, ap, ap₂, _∙_, subst}
 use native.Mathlib.Omega.{arith}
@@ -7,15 +7,16 @@ use mathlib.Core.List.{[]}
 use lib.ListN.{length, getD, length-map, length-set}
 use borrow.Author.Needs.{needs}
 use Rattle.records.specs.paper.Sets.{union, below, numbers}
+use Rattle.records.specs.paper.Plan.{Plan}
 use Rattle.records.specs.code.Decoded.{edgeOf}
 use Rattle.records.specs.declared.plan.Cut.{Cut}
 use Rattle.records.specs.declared.plan.Edge.{Edge}
 use Rattle.records.proofs.plan.Cut.{the-type as cut-type}
 use Rattle.records.proofs.plan.Edge.{the-type as edge-type}
-use Rattle.expressions.specs.paper.Influence.{Open}
+use Rattle.expressions.specs.paper.Influence.{Open, openTouch}
 use Rattle.expressions.specs.code.Coded.{Holds, EndsFit, cutsOf, edgesOf}
 use Rattle.expressions.specs.code.Listed.{endsOf}
-use Rattle.expressions.specs.code.Undecided.{openAt, opensOf, openTouch}
+use Rattle.expressions.specs.code.Undecided.{openAt, opensOf}
 use Rattle.expressions.proofs.ListLaws.{holds-none, fill-next, below-map, made-each}
 use Rattle.expressions.proofs.DecisionLaws.{cut-in, edge-in, touch-at}
 use Rattle.expressions.proofs.decisions.touches_over.Statement.{statement}
@@ -23,7 +24,7 @@ use Rattle.expressions.proofs.decisions.touches_over.Tie as tie
 
 abbrev Inv-loop : tie.InvT-loop
 Inv-loop cuts edges found n out₀ i₀ out i =
-    (length out ≡ 16) × (i ≤ n) × Holds 0 out (below i (λ k. openTouch (cutsOf cuts) (edgesOf edges) (openAt (found .cuts) (found .edges) k)))
+    (length out ≡ 16) × (i ≤ n) × ((P : Plan) → P .cuts ≡ cutsOf cuts → P .edges ≡ edgesOf edges → Holds 0 out (below i (λ k. openTouch P (openAt (found .cuts) (found .edges) k))))
 
 abbrev μ-loop : tie.MeasureT-loop
 μ-loop cuts edges found n out₀ i₀ out i = n - i
@@ -47,36 +48,15 @@ long c = sym (length-map (c .args .t1 .items) (cut-type .to)) ∙ c .good .0 .1 
 deep : (c : tie.Start Inv-loop μ-loop) → length (c .args .t2 .items) ≡ 64
 deep c = sym (length-map (c .args .t2 .items) (edge-type .to)) ∙ c .good .1 .0 .1 .1 .1 .0 .1 .0 .1
 
-upto-requires : tie.Need-upto-requires Inv-loop μ-loop
-upto-requires c κs = search needs
-
 loop-holds : tie.Need-loop-holds Inv-loop μ-loop
 unfolding below numbers
-loop-holds c = (refl, search needs, holds-none 16 0)
-
-element-copy-out-wide : tie.Need-element-copy-out-wide Inv-loop μ-loop
-element-copy-out-wide c = search needs
-
-wide-requires : tie.Need-wide-requires Inv-loop μ-loop
-wide-requires c κs = search needs
-
-mul-cut : tie.Need-mul-cut Inv-loop μ-loop
-mul-cut c = search needs
+loop-holds c = (refl, search needs, λ P x y. holds-none 16 0)
 
 element-copy-out-cut : tie.Need-element-copy-out-cut Inv-loop μ-loop
 element-copy-out-cut c =
     let s = c .before .before .before .before .before in
     let h : c .before .before .before .loop .i < s .args .t3 .count = omega (arith, c .before .before .before .before .upto .ensures .0, c .before .before .loop-test .taken) in
     omega (arith, c .wide .ensures .0, cut-in (s .args .t1) (s .args .t2) (s .args .t3) (c .before .before .before .loop .i) h (s .pre .1) (long s))
-
-element-copy-out-wide-2 : tie.Need-element-copy-out-wide-2 Inv-loop μ-loop
-element-copy-out-wide-2 c = search needs
-
-wide-requires-2 : tie.Need-wide-requires-2 Inv-loop μ-loop
-wide-requires-2 c κs = search needs
-
-mul-edge : tie.Need-mul-edge Inv-loop μ-loop
-mul-edge c = search needs
 
 element-copy-out-edge : tie.Need-element-copy-out-edge Inv-loop μ-loop
 element-copy-out-edge c =
@@ -92,21 +72,6 @@ ends-requires c κs =
     let k = edge-in (s .args .t1) (s .args .t2) (s .args .t3) (c .before .before .before .before .before .before .before .loop .i) h (s .pre .1) (deep s) in
     made-each edgeOf (s .args .t2 .items) (s .args .t2 .count) 64 (min (s .args .t2 .count) 64) (deep s) refl EndsFit (c .before .wide2 .result) _ (omega (arith, c .before .wide2 .ensures .0, k)) (s .pre .2)
 
-union-requires : tie.Need-union-requires Inv-loop μ-loop
-union-requires c κs = search needs
-
-mul-out : tie.Need-mul-out Inv-loop μ-loop
-mul-out c = search needs
-
-array-write-out : tie.Need-array-write-out Inv-loop μ-loop
-array-write-out c = search needs
-
-add-i : tie.Need-add-i Inv-loop μ-loop
-add-i c = search needs
-
-loop-less : tie.Need-loop-less Inv-loop μ-loop
-loop-less c = search needs
-
 loop-again : tie.Need-loop-again Inv-loop μ-loop
 loop-again c =
     let l = c .before .before .before .before .before .before .before .before .before in
@@ -114,10 +79,11 @@ loop-again c =
     let o = s .args .t3 in
     let i = l .loop .i in
     let h : i < o .count = omega (arith, c .before .before .before .before .before .before .before .before .before .before .upto .ensures .0, c .before .before .before .before .before .before .before .before .loop-test .taken) in
-    let new = c .union .ensures
+    let new : (P : Plan) → P .cuts ≡ cutsOf (s .args .t1) → P .edges ≡ edgesOf (s .args .t2) → c .union .result ≡ openTouch P (openAt (o .cuts) (o .edges) i) = λ P x y.
+    c .union .ensures
     ∙ ap₂ union (ap (λ (k : ℕ). getD (s .args .t1 .items) k noCut .members) (c .before .before .before .before .before .before .wide .ensures .0)) (c .before .ends .ensures ∙ ap (λ (k : ℕ). endsOf (edgeOf (getD (s .args .t2 .items) k noEdge))) (c .before .before .before .wide2 .ensures .0))
-    ∙ touch-at (s .args .t1) (s .args .t2) o i h (s .pre .1) (long s) (deep s) noCut noEdge in
-    (simp length-set (l .loop .inv .0), omega (arith, c .before .before .before .before .before .before .before .before .loop-test .taken), fill-next 0 (λ k. openTouch (cutsOf (s .args .t1)) (edgesOf (s .args .t2)) (openAt (o .cuts) (o .edges) k)) (l .loop .out) i (c .union .result) (omega (arith, l .loop .inv .0, c .before .before .before .before .before .before .before .before .loop-test .taken, c .before .before .before .before .before .before .before .before .before .before .upto .ensures .1)) (l .loop .inv .2) new)
+    ∙ touch-at (s .args .t1) (s .args .t2) o i h (s .pre .1) (long s) (deep s) noCut noEdge P x y in
+    (simp length-set (l .loop .inv .0), omega (arith, c .before .before .before .before .before .before .before .before .loop-test .taken), λ P x y. fill-next 0 (λ k. openTouch P (openAt (o .cuts) (o .edges) k)) (l .loop .out) i (c .union .result) (omega (arith, l .loop .inv .0, c .before .before .before .before .before .before .before .before .loop-test .taken, c .before .before .before .before .before .before .before .before .before .before .upto .ensures .1)) (l .loop .inv .2 P x y) (new P x y))
 
 returns : tie.Need-returns Inv-loop μ-loop
 unfolding opensOf
@@ -126,8 +92,9 @@ returns c =
     let s = c .before .before .before in
     let o = s .args .t3 in
     let e : l .loop .i ≡ o .count = omega (arith, c .before .before .upto .ensures .0, s .pre .0) in
-    let g : Open → ℕ = openTouch (cutsOf (s .args .t1)) (edgesOf (s .args .t2)) in
-    subst (Holds 0 (l .loop .out)) (ap (λ (n : ℕ). below n (λ k. g (openAt (o .cuts) (o .edges) k))) e ∙ sym (below-map g (o .count) (openAt (o .cuts) (o .edges)))) (l .loop .inv .2)
+    λ P x y.
+    let g : Open → ℕ = openTouch P in
+    subst (Holds 0 (l .loop .out)) (ap (λ (n : ℕ). below n (λ k. g (openAt (o .cuts) (o .edges) k))) e ∙ sym (below-map g (o .count) (openAt (o .cuts) (o .edges)))) (l .loop .inv .2 P x y)
 
 pub touches-over-spec : {M : Type 1} → statement M
 touches-over-spec =
@@ -135,21 +102,21 @@ touches-over-spec =
     (tie.spec
     Inv-loop
     μ-loop
-    upto-requires
+    (λ c κs. search needs)
     loop-holds
-    element-copy-out-wide
-    wide-requires
-    mul-cut
+    (λ c. search needs)
+    (λ c κs. search needs)
+    (λ c. search needs)
     element-copy-out-cut
-    element-copy-out-wide-2
-    wide-requires-2
-    mul-edge
+    (λ c. search needs)
+    (λ c κs. search needs)
+    (λ c. search needs)
     element-copy-out-edge
     ends-requires
-    union-requires
-    mul-out
-    array-write-out
-    add-i
-    loop-less
+    (λ c κs. search needs)
+    (λ c. search needs)
+    (λ c. search needs)
+    (λ c. search needs)
+    (λ c. search needs)
     loop-again
     returns)

@@ -1,4 +1,4 @@
--- `expressions::evidence::mark_all` meets its contract: what is marked, with what is left of the list, gives the whole. Assumes nothing.
+-- `expressions::evidence::mark_all` meets its contract: what is marked, with what is left of the list, gives the whole.
 use Prim.Native.Nat.{_≤_, _-_}
 use mathlib.Core.Path.{_≡_, refl, sym, ap, _∙_}
 use lib.ListN.{drop}
@@ -20,19 +20,10 @@ abbrev μ-loop : tie.MeasureT-loop
 loop-holds : tie.Need-loop-holds Inv-loop μ-loop
 loop-holds c = (search needs, refl)
 
-entry-requires : tie.Need-entry-requires Inv-loop μ-loop
-entry-requires c κs = search needs
-
 mark-requires : tie.Need-mark-requires Inv-loop μ-loop
 mark-requires c κs =
     let s = c .before .before .before .before in
     rw (c .entry .ensures) (evident-at (s .args .o) (c .before .before .before .loop .i) (s .pre) (search needs))
-
-add-i : tie.Need-add-i Inv-loop μ-loop
-add-i c = search needs
-
-loop-less : tie.Need-loop-less Inv-loop μ-loop
-loop-less c = search needs
 
 loop-again : tie.Need-loop-again Inv-loop μ-loop
 loop-again c =
@@ -52,9 +43,9 @@ mark-all-spec =
     Inv-loop
     μ-loop
     loop-holds
-    entry-requires
+    (λ c κs. search needs)
     mark-requires
-    add-i
-    loop-less
+    (λ c. search needs)
+    (λ c. search needs)
     loop-again
     returns)

@@ -1,4 +1,4 @@
--- `influence::close_each`: after i sets the list has their closings behind what was there. Assumes nothing.
+-- `influence::close_each`: after i sets the list has their closings behind what was there.
 use Prim.Native.Nat.{ℕ, _+_, _≤_, _<_, _-_}
 use mathlib.Core.Path.{_≡_, sym, ap, _∙_}
 use mathlib.Core.Bool.{Bool}
@@ -32,21 +32,6 @@ loop-holds c =
     let a = c .before .before .before .before .args in
     (search needs, c .whole .ensures, ap (λ (k : ℕ). take k (a .known .now)) (add-zero (a .at)) ∙ sym (append-nil (take (a .at) (a .known .now))))
 
-cast-contains : tie.Need-cast-contains Inv-loop μ-loop
-cast-contains c = search needs
-
-contains-requires : tie.Need-contains-requires Inv-loop μ-loop
-contains-requires c κs = search needs
-
-mul-close : tie.Need-mul-close Inv-loop μ-loop
-mul-close c = search needs
-
-shared-slice-read-close : tie.Need-shared-slice-read-close Inv-loop μ-loop
-shared-slice-read-close c = search needs
-
-close-requires : tie.Need-close-requires Inv-loop μ-loop
-close-requires c κs = search needs
-
 add-known : tie.Need-add-known Inv-loop μ-loop
 add-known c = omega (arith, c .before .before .loop-test .taken, c .before .before .before .before .before .before .before .before .pre)
 
@@ -55,12 +40,6 @@ mul-known c = omega (arith, c .before .before .loop-test .taken, c .before .befo
 
 element-write-known : tie.Need-element-write-known Inv-loop μ-loop
 element-write-known c = omega (arith, c .before .before .loop-test .taken, c .before .before .before .before .before .before .before .before .pre)
-
-add-i : tie.Need-add-i Inv-loop μ-loop
-add-i c = search needs
-
-loop-less : tie.Need-loop-less Inv-loop μ-loop
-loop-less c = search needs
 
 loop-again : tie.Need-loop-again Inv-loop μ-loop
 unfolding closed closedIf
@@ -95,15 +74,15 @@ close-each-spec =
     μ-loop
     whole-requires
     loop-holds
-    cast-contains
-    contains-requires
-    mul-close
-    shared-slice-read-close
-    close-requires
+    (λ c. search needs)
+    (λ c κs. search needs)
+    (λ c. search needs)
+    (λ c. search needs)
+    (λ c κs. search needs)
     add-known
     mul-known
     element-write-known
-    add-i
-    loop-less
+    (λ c. search needs)
+    (λ c. search needs)
     loop-again
     returns)

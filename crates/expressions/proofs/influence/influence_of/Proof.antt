@@ -1,4 +1,4 @@
--- `influence::influence_of`: facts, then decisions. Assumes nothing.
+-- `influence::influence_of`: facts, then decisions.
 use mathlib.Core.Path.{_≡_, sym, _∙_}
 use native.Mathlib.Omega.{arith}
 use lib.ListN.{length, length-map}
@@ -17,9 +17,6 @@ wide c = sym (length-map (c .args .reach .facts) (λ v. v)) ∙ c .good .0 .1 .1
 
 deep : (c : tie.Start) → length (c .args .reach .decisions) ≡ 16
 deep c = sym (length-map (c .args .reach .decisions) (λ v. v)) ∙ c .good .0 .1 .1 .1 .1 .1 .1 .1 .0 .1 .0 .1
-
-upto-requires : tie.Need-upto-requires
-upto-requires c κs = search needs
 
 array-share-prefix-sets : tie.Need-array-share-prefix-sets
 array-share-prefix-sets c = omega (arith, long (c .before .before .before .before .before .before .before), c .before .upto .ensures .1)
@@ -51,9 +48,6 @@ slice-aggregate-close-each-4 c = sym (length-take-le _ _ (omega (arith, deep (c 
 close-each-requires-2 : tie.Need-close-each-requires-2
 close-each-requires-2 c κs = omega (arith, length-take-le (c .before .before .before .before .before .before .before .before .before .before .before .before .before .args .reach .undecided .count) (c .before .before .before .before .before .before .before .before .before .before .before .before .before .args .reach .decisions) (omega (arith, deep (c .before .before .before .before .before .before .before .before .before .before .before .before .before), c .before .before .before .before .before .before .before .before .before .before .before .before .before .pre .1)), c .before .before .before .before .before .before .before .before .before .before .before .before .before .pre .0, c .before .before .before .before .before .before .before .before .before .before .before .before .before .pre .1)
 
-add-t21 : tie.Need-add-t21
-add-t21 c = search needs
-
 returns : tie.Need-returns
 unfolding setsOf
 returns c =
@@ -64,7 +58,7 @@ pub influence-of-spec : {M : Type 1} → statement M
 influence-of-spec =
     tie.close
     (tie.spec
-    upto-requires
+    (λ c κs. search needs)
     array-share-prefix-sets
     slice-aggregate-close-each
     array-share-prefix-facts
@@ -75,5 +69,5 @@ influence-of-spec =
     array-share-prefix-decisions
     slice-aggregate-close-each-4
     close-each-requires-2
-    add-t21
+    (λ c. search needs)
     returns)

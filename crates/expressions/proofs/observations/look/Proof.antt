@@ -1,6 +1,6 @@
--- `expressions::observations::look` meets its contract: a case for each test. Assumes nothing.
+-- `expressions::observations::look` meets its contract: a case for each test.
 use borrow.Author.Tests.{eq-eqb, ne-eqb}
-use Rattle.expressions.specs.code.Seen.{lookAt}
+use Rattle.expressions.specs.code.Sight.{lookAt}
 use Rattle.expressions.proofs.observations.look.Statement.{statement}
 use Rattle.expressions.proofs.observations.look.Tie as tie
 

@@ -1,10 +1,10 @@
--- `expressions::observations::look_all` meets its contract: what is left of the list from entry i on, seen after what was seen, gives the whole. Assumes nothing.
+-- `expressions::observations::look_all` meets its contract: what is left of the list from entry i on, seen after what was seen, gives the whole.
 use Prim.Native.Nat.{_≤_, _-_}
 use mathlib.Core.Path.{_≡_, refl, sym, _∙_}
 use lib.ListN.{drop}
 use borrow.Author.Needs.{needs}
 use Rattle.expressions.proofs.SeenLaws.{pairs, pairs-next, pairs-none}
-use Rattle.expressions.specs.code.Seen.{lookAll}
+use Rattle.expressions.specs.code.Sight.{lookAll}
 use Rattle.records.specs.code.Decoded.{observationsOf}
 use Rattle.expressions.proofs.observations.look_all.Statement.{statement}
 use Rattle.expressions.proofs.observations.look_all.Tie as tie
@@ -17,21 +17,6 @@ abbrev μ-loop : tie.MeasureT-loop
 
 loop-holds : tie.Need-loop-holds Inv-loop μ-loop
 loop-holds c = (search needs, refl)
-
-entry-requires : tie.Need-entry-requires Inv-loop μ-loop
-entry-requires c κs = search needs
-
-entry-requires-2 : tie.Need-entry-requires-2 Inv-loop μ-loop
-entry-requires-2 c κs = search needs
-
-look-requires : tie.Need-look-requires Inv-loop μ-loop
-look-requires c κs = search needs
-
-add-i : tie.Need-add-i Inv-loop μ-loop
-add-i c = search needs
-
-loop-less : tie.Need-loop-less Inv-loop μ-loop
-loop-less c = search needs
 
 loop-again : tie.Need-loop-again Inv-loop μ-loop
 loop-again c =
@@ -53,10 +38,10 @@ look-all-spec =
     Inv-loop
     μ-loop
     loop-holds
-    entry-requires
-    entry-requires-2
-    look-requires
-    add-i
-    loop-less
+    (λ c κs. search needs)
+    (λ c κs. search needs)
+    (λ c κs. search needs)
+    (λ c. search needs)
+    (λ c. search needs)
     loop-again
     returns)

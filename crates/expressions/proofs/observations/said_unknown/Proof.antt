@@ -1,4 +1,4 @@
--- `observations::said_unknown`: a fact was said to be unknown, or is by one of the records left. Assumes nothing.
+-- `observations::said_unknown`: a fact was said to be unknown, or is by one of the records left.
 use Prim.Native.Nat.{ℕ, _≤_, _<_, _-_}
 use mathlib.Core.Path.{_≡_, sym, ap, _∙_}
 use mathlib.Core.Bool.{Bool, _||_, or-false}
@@ -18,32 +18,14 @@ Inv-loop booleans n m₀ i₀ m i = (length (booleans .items) ≡ 64) × (i ≤ 
 abbrev μ-loop : tie.MeasureT-loop
 μ-loop booleans n m₀ i₀ m i = n - i
 
-upto-requires : tie.Need-upto-requires Inv-loop μ-loop
-upto-requires c κs = search needs
-
 loop-holds : tie.Need-loop-holds Inv-loop μ-loop
 loop-holds c = (simp length-map at (c .before .good .0 .1 .1 .1 .0 .1 .0 .1), search needs, λ f h. ap (λ (b : Bool). b || said (map booleanOf (take (c .before .args .t1 .count) (c .before .args .t1 .items))) f) (has-none f))
-
-mul-b : tie.Need-mul-b Inv-loop μ-loop
-mul-b c = search needs
-
-element-copy-out-b : tie.Need-element-copy-out-b Inv-loop μ-loop
-element-copy-out-b c = search needs
-
-with-fact-requires : tie.Need-with-fact-requires Inv-loop μ-loop
-with-fact-requires c κs = search needs
-
-add-i : tie.Need-add-i Inv-loop μ-loop
-add-i c = search needs
-
-loop-less : tie.Need-loop-less Inv-loop μ-loop
-loop-less c = search needs
 
 loop-again : tie.Need-loop-again Inv-loop μ-loop
 loop-again c =
     let l = c .before .before .before in
     let a = c .before .before .before .before .before .args in
-    (l .loop .inv .0, search needs, λ f h. said-next (a .t1 .items) (a .t1 .count) f (l .loop .i) _ (has (l .loop .m) f) (has (c .with-fact .result) f) (search needs) (c .with-fact .ensures f h) ∙ l .loop .inv .2 f h)
+    (l .loop .inv .0, search needs, λ f h. said-next (a .t1 .items) (a .t1 .count) f (l .loop .i) _ (has (l .loop .m) f) (has (c .with-number .result) f) (search needs) (c .with-number .ensures f h) ∙ l .loop .inv .2 f h)
 
 returns : tie.Need-returns Inv-loop μ-loop
 returns c = λ f h.
@@ -57,12 +39,12 @@ said-unknown-spec =
     (tie.spec
     Inv-loop
     μ-loop
-    upto-requires
+    (λ c κs. search needs)
     loop-holds
-    mul-b
-    element-copy-out-b
-    with-fact-requires
-    add-i
-    loop-less
+    (λ c. search needs)
+    (λ c. search needs)
+    (λ c κs. search needs)
+    (λ c. search needs)
+    (λ c. search needs)
     loop-again
     returns)

@@ -1,4 +1,4 @@
--- `reach::fact_count`: the facts in use. Assumes nothing.
+-- `reach::fact_count`: the facts in use.
 use mathlib.Core.Path.{_≡_, sym, _∙_}
 use lib.ListN.{length, length-map}
 use borrow.Author.Needs.{needs}
@@ -9,9 +9,6 @@ use Rattle.expressions.proofs.ListLaws.{made-length}
 use Rattle.expressions.proofs.reach.fact_count.Statement.{statement}
 use Rattle.expressions.proofs.reach.fact_count.Tie as tie
 
-upto-requires : tie.Need-upto-requires
-upto-requires c κs = search needs
-
 returns : tie.Need-returns
 unfolding factsOf
 returns c =
@@ -20,4 +17,4 @@ returns c =
     (sym (made-length factOf (s .args .facts .items) (s .args .facts .count) 64 (c .upto .result) long (c .upto .ensures .0)), c .upto .ensures .1)
 
 pub fact-count-spec : {M : Type 1} → statement M
-fact-count-spec = tie.close (tie.spec upto-requires returns)
+fact-count-spec = tie.close (tie.spec (λ c κs. search needs) returns)

@@ -1,4 +1,4 @@
--- `reach::reach_of`: the parts, by what each ensures. Assumes nothing.
+-- `reach::reach_of`: the parts, by what each ensures.
 use Prim.Native.Nat.{ℕ, _≤_}
 use mathlib.Core.Path.{_≡_, sym, ap, ap₂, _∙_, subst, fun-ext}
 use mathlib.Core.List.{List}
@@ -36,9 +36,6 @@ groups-of-requires c κs = subst (λ (k : ℕ). k ≤ 144) (sym (length-take-le 
 all-rules-requires : tie.Need-all-rules-requires
 all-rules-requires c κs = (c .before .before .before .before .before .before .before .before .before .before .before .pre, c .before .before .before .before .before .joining .ensures)
 
-constraint-uses-requires : tie.Need-constraint-uses-requires
-constraint-uses-requires c κs = search needs
-
 array-share-prefix-uses : tie.Need-array-share-prefix-uses
 array-share-prefix-uses c = omega (arith, c .before .before .all-rules .ensures .few, c .before .before .all-rules .ensures .room .0)
 
@@ -47,9 +44,6 @@ slice-aggregate-bound-facts c = sym (length-take-le _ _ (omega (arith, c .before
 
 bound-facts-requires : tie.Need-bound-facts-requires
 bound-facts-requires c κs = tt
-
-fact-count-requires : tie.Need-fact-count-requires
-fact-count-requires c κs = search needs
 
 array-share-prefix-uses-2 : tie.Need-array-share-prefix-uses-2
 array-share-prefix-uses-2 c = omega (arith, c .before .before .before .before .before .before .all-rules .ensures .few, c .before .before .before .before .before .before .all-rules .ensures .room .0)
@@ -110,11 +104,11 @@ reach-of-spec =
     slice-aggregate-groups-of
     groups-of-requires
     all-rules-requires
-    constraint-uses-requires
+    (λ c κs. search needs)
     array-share-prefix-uses
     slice-aggregate-bound-facts
     bound-facts-requires
-    fact-count-requires
+    (λ c κs. search needs)
     array-share-prefix-uses-2
     slice-aggregate-touches
     array-share-prefix-persons-2

@@ -1,54 +1,25 @@
--- `rules::add_cuts`: after i cuts the lists have them behind the rules that were there. Assumes nothing.
-use Prim.Native.Nat.{ℕ, _+_, _≤_, _-_}
-use mathlib.Core.Path.{_≡_, refl, sym, ap, _∙_, subst}
-use mathlib.Core.List.{List, [], map}
+-- `rules::add_cuts`: after i cuts the lists have them behind the rules that were there.
+use Prim.Native.Nat.{_-_}
+use mathlib.Core.Path.{refl, ap}
 use native.Mathlib.Omega.{arith}
-use native.Mathlib.Nat.{add-zero}
-use lib.ListN.{length, take, length-map}
+use lib.ListN.{length-map}
 use borrow.Author.Needs.{needs}
-use Rattle.records.proofs.plan.Cut.{the-type}
-use Rattle.records.specs.paper.Plan.{Cut}
 use Rattle.records.specs.code.Decoded.{cutOf}
 use Rattle.expressions.specs.code.Coded.{cutsOf}
-use Rattle.expressions.specs.code.Listed.{lists, usedAt, cutHolds, cutUsed, Added}
-use Rattle.expressions.proofs.ListLaws.{made-next, made-all}
-use Rattle.expressions.proofs.RuleLaws.{added-none, added-next}
+use Rattle.expressions.specs.code.Listed.{usedAt, cutUsed, heldByCut}
+use Rattle.expressions.proofs.RuleLaws.{Adding, adding-none, adding-next, adding-end}
 use Rattle.expressions.proofs.rules.add_cuts.Statement.{statement}
 use Rattle.expressions.proofs.rules.add_cuts.Tie as tie
 
 abbrev Inv-loop : tie.InvT-loop
 Inv-loop uses₀ persons₀ at nodes cuts n i₀ uses persons i =
-    (i ≤ n) × Added (lists at uses₀ persons₀) (lists (at + i) uses persons) (map (cutUsed (usedAt nodes)) (take i (cutsOf cuts))) (map cutHolds (take i (cutsOf cuts)))
+    Adding cutOf (cutUsed (usedAt nodes)) heldByCut (cuts .items) (cuts .count) 16 at uses₀ persons₀ n i uses persons
 
 abbrev μ-loop : tie.MeasureT-loop
 μ-loop uses₀ persons₀ at nodes cuts n i₀ uses persons i = n - i
 
-long : (c : tie.Start Inv-loop μ-loop) → length (c .args .t4 .items) ≡ 16
-long c = sym (length-map (c .args .t4 .items) (the-type .to)) ∙ c .good .1 .1 .1 .0 .1 .1 .1 .0 .1 .0 .1
-
-upto-requires : tie.Need-upto-requires Inv-loop μ-loop
-upto-requires c κs = search needs
-
 loop-holds : tie.Need-loop-holds Inv-loop μ-loop
-unfolding cutsOf
-loop-holds c =
-    let a = c .before .args in
-    (search needs, subst (λ (k : ℕ). Added (lists (a .at) (a .uses .now) (a .persons .now)) (lists k (a .uses .now) (a .persons .now)) [] []) (sym (add-zero (a .at))) (added-none _))
-
-mul-x : tie.Need-mul-x Inv-loop μ-loop
-mul-x c = search needs
-
-element-copy-out-x : tie.Need-element-copy-out-x Inv-loop μ-loop
-element-copy-out-x c = search needs
-
-wide-requires : tie.Need-wide-requires Inv-loop μ-loop
-wide-requires c κs = search needs
-
-mul-used : tie.Need-mul-used Inv-loop μ-loop
-mul-used c = search needs
-
-element-copy-out-used : tie.Need-element-copy-out-used Inv-loop μ-loop
-element-copy-out-used c = search needs
+loop-holds c = adding-none (simp length-map at (c .before .good .1 .1 .1 .0 .1 .1 .1 .0 .1 .0 .1)) (c .upto .ensures .0)
 
 add-push : tie.Need-add-push Inv-loop μ-loop
 add-push c = omega (arith, c .before .before .before .before .before .before .before .upto .ensures .1, c .before .before .before .before .before .before .before .before .pre)
@@ -56,42 +27,16 @@ add-push c = omega (arith, c .before .before .before .before .before .before .be
 push-requires : tie.Need-push-requires Inv-loop μ-loop
 push-requires c κs = omega (arith, c .before .before .before .before .before .before .before .upto .ensures .1, c .before .before .before .before .before .before .before .before .pre)
 
-add-i : tie.Need-add-i Inv-loop μ-loop
-add-i c = search needs
-
-loop-less : tie.Need-loop-less Inv-loop μ-loop
-loop-less c = search needs
-
 loop-again : tie.Need-loop-again Inv-loop μ-loop
-unfolding cutsOf cutOf
-loop-again c =
-    let l = c .before .before .before .before .before .before .before in
-    let a = c .before .before .before .before .before .before .before .before in
-    let s = c .before .before .before .before .before .before .before .before .before in
-    let i = l .loop .i in
-    let xs = cutsOf (s .args .t4) in
-    let more : i + 1 ≤ a .upto .result = omega (arith, c .before .before .before .before .before .before .loop-test .taken) in (
-      more,
-      added-next (cutUsed (usedAt (s .args .nodes .now))) cutHolds (s .args .at) i (take i xs) (take (i + 1) xs) _ (l .loop .inv .1) (c .push .ensures) (ap (usedAt (s .args .nodes .now)) (c .before .before .before .before .wide .ensures .0)) refl
-          (made-next cutOf (s .args .t4 .items) (s .args .t4 .count) 16 (a .upto .result) (long s) (a .upto .ensures .0) i _ (omega (arith, more))),
-    )
+unfolding cutOf
+loop-again c = adding-next (c .before .before .before .before .before .before .before .loop .inv) _ (c .before .before .before .before .before .before .loop-test .taken) (c .push .ensures) (ap (usedAt (c .before .before .before .before .before .before .before .before .before .args .nodes .now)) (c .before .before .before .before .wide .ensures .0)) refl
 
 add-result : tie.Need-add-result Inv-loop μ-loop
 add-result c = omega (arith, c .before .before .upto .ensures .1, c .before .before .before .pre)
 
 returns : tie.Need-returns Inv-loop μ-loop
 unfolding cutsOf
-returns c =
-    let l = c .before in
-    let a = c .before .before in
-    let s = c .before .before .before in
-    let xs = cutsOf (s .args .t4) in
-    let e : l .loop .i ≡ a .upto .result = omega arith in
-    let all = made-all cutOf (s .args .t4 .items) (s .args .t4 .count) 16 (a .upto .result) (long s) (a .upto .ensures .0) (l .loop .i) (search needs) in (
-      subst (λ (k : ℕ). Added (lists (s .args .at) (s .args .uses .now) (s .args .persons .now)) (lists (s .args .at + k) (l .loop .uses) (l .loop .persons)) (map (cutUsed (usedAt (s .args .nodes .now))) xs) (map cutHolds xs)) e
-          (subst (λ (ys : List Cut). Added (lists (s .args .at) (s .args .uses .now) (s .args .persons .now)) (lists (s .args .at + l .loop .i) (l .loop .uses) (l .loop .persons)) (map (cutUsed (usedAt (s .args .nodes .now))) ys) (map cutHolds ys)) all (l .loop .inv .1)),
-      omega (arith, a .upto .ensures .1),
-    )
+returns c = (adding-end (c .before .loop .inv) (c .loop-test .left), omega (arith, c .before .before .upto .ensures .1))
 
 pub add-cuts-spec : {M : Type 1} → statement M
 add-cuts-spec =
@@ -99,17 +44,17 @@ add-cuts-spec =
     (tie.spec
     Inv-loop
     μ-loop
-    upto-requires
+    (λ c κs. search needs)
     loop-holds
-    mul-x
-    element-copy-out-x
-    wide-requires
-    mul-used
-    element-copy-out-used
+    (λ c. search needs)
+    (λ c. search needs)
+    (λ c κs. search needs)
+    (λ c. search needs)
+    (λ c. search needs)
     add-push
     push-requires
-    add-i
-    loop-less
+    (λ c. search needs)
+    (λ c. search needs)
     loop-again
     add-result
     returns)

@@ -1,62 +1,29 @@
--- `rules::add_statuses`: after i statuses the lists have them behind the rules that were there. Assumes nothing.
-use Prim.Native.Nat.{ℕ, _+_, _≤_, _-_}
-use mathlib.Core.Path.{_≡_, sym, ap, _∙_, subst}
-use mathlib.Core.List.{List, [], map}
+-- `rules::add_statuses`: after i statuses the lists have them behind the rules that were there.
+use Prim.Native.Nat.{_-_}
+use mathlib.Core.Path.{ap}
 use native.Mathlib.Omega.{arith}
-use native.Mathlib.Nat.{add-zero}
-use lib.ListN.{length, take, length-map}
+use lib.ListN.{length-map}
 use borrow.Author.Needs.{needs}
-use Rattle.records.proofs.plan.Status.{the-type}
-use Rattle.records.specs.paper.Plan.{Status}
 use Rattle.records.specs.code.Decoded.{statusOf}
 use Rattle.expressions.specs.code.Coded.{statusesOf, PersonFits}
-use Rattle.expressions.specs.code.Listed.{lists, usedAt, statusHolds, statusUsed, Added}
-use Rattle.expressions.proofs.ListLaws.{made-next, made-each, made-all}
-use Rattle.expressions.proofs.RuleLaws.{added-none, added-next}
+use Rattle.expressions.specs.code.Listed.{usedAt, statusUsed, heldByStatus}
+use Rattle.expressions.proofs.RuleLaws.{Adding, adding-none, adding-each, adding-next, adding-end}
 use Rattle.expressions.proofs.rules.add_statuses.Statement.{statement}
 use Rattle.expressions.proofs.rules.add_statuses.Tie as tie
 
 abbrev Inv-loop : tie.InvT-loop
 Inv-loop uses₀ persons₀ at nodes statuses n i₀ uses persons i =
-    (i ≤ n) × Added (lists at uses₀ persons₀) (lists (at + i) uses persons) (map (statusUsed (usedAt nodes)) (take i (statusesOf statuses))) (map statusHolds (take i (statusesOf statuses)))
+    Adding statusOf (statusUsed (usedAt nodes)) heldByStatus (statuses .items) (statuses .count) 32 at uses₀ persons₀ n i uses persons
 
 abbrev μ-loop : tie.MeasureT-loop
 μ-loop uses₀ persons₀ at nodes statuses n i₀ uses persons i = n - i
 
-long : (c : tie.Start Inv-loop μ-loop) → length (c .args .t4 .items) ≡ 32
-long c = sym (length-map (c .args .t4 .items) (the-type .to)) ∙ c .good .1 .1 .1 .0 .1 .1 .1 .0 .1 .0 .1
-
-upto-requires : tie.Need-upto-requires Inv-loop μ-loop
-upto-requires c κs = search needs
-
 loop-holds : tie.Need-loop-holds Inv-loop μ-loop
-unfolding statusesOf
-loop-holds c =
-    let a = c .before .args in
-    (search needs, subst (λ (k : ℕ). Added (lists (a .at) (a .uses .now) (a .persons .now)) (lists k (a .uses .now) (a .persons .now)) [] []) (sym (add-zero (a .at))) (added-none _))
-
-mul-x : tie.Need-mul-x Inv-loop μ-loop
-mul-x c = search needs
-
-element-copy-out-x : tie.Need-element-copy-out-x Inv-loop μ-loop
-element-copy-out-x c = search needs
-
-wide-requires : tie.Need-wide-requires Inv-loop μ-loop
-wide-requires c κs = search needs
-
-mul-used : tie.Need-mul-used Inv-loop μ-loop
-mul-used c = search needs
-
-element-copy-out-used : tie.Need-element-copy-out-used Inv-loop μ-loop
-element-copy-out-used c = search needs
+loop-holds c = adding-none (simp length-map at (c .before .good .1 .1 .1 .0 .1 .1 .1 .0 .1 .0 .1)) (c .upto .ensures .0)
 
 bit-requires : tie.Need-bit-requires Inv-loop μ-loop
 unfolding statusesOf statusOf
-bit-requires c κs =
-    let l = c .before .before .before .before in
-    let a = c .before .before .before .before .before in
-    let s = c .before .before .before .before .before .before in
-    made-each statusOf (s .args .t4 .items) (s .args .t4 .count) 32 (a .upto .result) (long s) (a .upto .ensures .0) PersonFits (l .loop .i) _ (search needs) (s .pre .1)
+bit-requires c κs = adding-each (c .before .before .before .before .loop .inv) PersonFits _ (c .before .before .before .loop-test .taken) (c .before .before .before .before .before .before .pre .1)
 
 add-push : tie.Need-add-push Inv-loop μ-loop
 add-push c = omega (arith, c .before .before .before .before .before .before .before .before .upto .ensures .1, c .before .before .before .before .before .before .before .before .before .pre .0)
@@ -64,42 +31,16 @@ add-push c = omega (arith, c .before .before .before .before .before .before .be
 push-requires : tie.Need-push-requires Inv-loop μ-loop
 push-requires c κs = omega (arith, c .before .before .before .before .before .before .before .before .upto .ensures .1, c .before .before .before .before .before .before .before .before .before .pre .0)
 
-add-i : tie.Need-add-i Inv-loop μ-loop
-add-i c = search needs
-
-loop-less : tie.Need-loop-less Inv-loop μ-loop
-loop-less c = search needs
-
 loop-again : tie.Need-loop-again Inv-loop μ-loop
-unfolding statusesOf statusOf
-loop-again c =
-    let l = c .before .before .before .before .before .before .before .before in
-    let a = c .before .before .before .before .before .before .before .before .before in
-    let s = c .before .before .before .before .before .before .before .before .before .before in
-    let i = l .loop .i in
-    let xs = statusesOf (s .args .t4) in
-    let more : i + 1 ≤ a .upto .result = omega (arith, c .before .before .before .before .before .before .before .loop-test .taken) in (
-      more,
-      added-next (statusUsed (usedAt (s .args .nodes .now))) statusHolds (s .args .at) i (take i xs) (take (i + 1) xs) _ (l .loop .inv .1) (c .push .ensures) (ap (usedAt (s .args .nodes .now)) (c .before .before .before .before .before .wide .ensures .0)) (c .before .before .before .bit .ensures)
-          (made-next statusOf (s .args .t4 .items) (s .args .t4 .count) 32 (a .upto .result) (long s) (a .upto .ensures .0) i _ (omega (arith, more))),
-    )
+unfolding statusOf
+loop-again c = adding-next (c .before .before .before .before .before .before .before .before .loop .inv) _ (c .before .before .before .before .before .before .before .loop-test .taken) (c .push .ensures) (ap (usedAt (c .before .before .before .before .before .before .before .before .before .before .args .nodes .now)) (c .before .before .before .before .before .wide .ensures .0)) (c .before .before .before .bit .ensures)
 
 add-result : tie.Need-add-result Inv-loop μ-loop
 add-result c = omega (arith, c .before .before .upto .ensures .1, c .before .before .before .pre .0)
 
 returns : tie.Need-returns Inv-loop μ-loop
 unfolding statusesOf
-returns c =
-    let l = c .before in
-    let a = c .before .before in
-    let s = c .before .before .before in
-    let xs = statusesOf (s .args .t4) in
-    let e : l .loop .i ≡ a .upto .result = omega arith in
-    let all = made-all statusOf (s .args .t4 .items) (s .args .t4 .count) 32 (a .upto .result) (long s) (a .upto .ensures .0) (l .loop .i) (search needs) in (
-      subst (λ (k : ℕ). Added (lists (s .args .at) (s .args .uses .now) (s .args .persons .now)) (lists (s .args .at + k) (l .loop .uses) (l .loop .persons)) (map (statusUsed (usedAt (s .args .nodes .now))) xs) (map statusHolds xs)) e
-          (subst (λ (ys : List Status). Added (lists (s .args .at) (s .args .uses .now) (s .args .persons .now)) (lists (s .args .at + l .loop .i) (l .loop .uses) (l .loop .persons)) (map (statusUsed (usedAt (s .args .nodes .now))) ys) (map statusHolds ys)) all (l .loop .inv .1)),
-      omega (arith, a .upto .ensures .1),
-    )
+returns c = (adding-end (c .before .loop .inv) (c .loop-test .left), omega (arith, c .before .before .upto .ensures .1))
 
 pub add-statuses-spec : {M : Type 1} → statement M
 add-statuses-spec =
@@ -107,18 +48,18 @@ add-statuses-spec =
     (tie.spec
     Inv-loop
     μ-loop
-    upto-requires
+    (λ c κs. search needs)
     loop-holds
-    mul-x
-    element-copy-out-x
-    wide-requires
-    mul-used
-    element-copy-out-used
+    (λ c. search needs)
+    (λ c. search needs)
+    (λ c κs. search needs)
+    (λ c. search needs)
+    (λ c. search needs)
     bit-requires
     add-push
     push-requires
-    add-i
-    loop-less
+    (λ c. search needs)
+    (λ c. search needs)
     loop-again
     add-result
     returns)

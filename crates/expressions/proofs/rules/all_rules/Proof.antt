@@ -1,11 +1,11 @@
--- `rules::all_rules`: statuses behind the rules that a closing goes by. Assumes nothing.
+-- `rules::all_rules`: statuses behind the rules that a closing goes by.
 use Prim.Native.Nat.{ℕ}
 use mathlib.Core.Path.{ap, _∙_}
 use mathlib.Core.List.{List, _++_, map}
 use native.Mathlib.Omega.{arith}
 use Rattle.records.specs.code.Decoded.{planOf}
 use Rattle.expressions.specs.code.Coded.{statusesOf}
-use Rattle.expressions.specs.code.Listed.{usedAt, ruleUses, rulePersons, statusUsed, statusHolds}
+use Rattle.expressions.specs.code.Listed.{usedAt, ruleUses, personsByRule, statusUsed, heldByStatus}
 use Rattle.expressions.proofs.FitLaws.{statuses-fit}
 use Rattle.expressions.proofs.rules.all_rules.Statement.{statement}
 use Rattle.expressions.proofs.rules.all_rules.Tie as tie
@@ -21,14 +21,14 @@ whole-requires-2 : tie.Need-whole-requires-2
 whole-requires-2 c κs = tt
 
 returns : tie.Need-returns
-unfolding statusesOf planOf ruleUses rulePersons
+unfolding statusesOf planOf ruleUses personsByRule
 returns c =
     let s = c .before .before .before .before .before .before .before .before in
     let xs = planOf (s .args .plan) .statuses in
     let added = c .before .before .before .before .add-statuses .ensures .0 in
     record {
       uses = added .uses ∙ ap (λ (l : List ℕ). l ++ map (statusUsed (usedAt (s .args .nodes .now))) xs) (s .pre .1 .uses);
-      persons = added .persons ∙ ap (λ (l : List ℕ). l ++ map statusHolds xs) (s .pre .1 .persons);
+      persons = added .persons ∙ ap (λ (l : List ℕ). l ++ map heldByStatus xs) (s .pre .1 .persons);
       few = omega (arith, s .pre .1 .few, c .before .before .before .before .add-statuses .ensures .1);
       room = (c .before .before .whole .ensures, c .whole2 .ensures);
     }

@@ -1,4 +1,4 @@
--- `rules::edge_use`: the facts of the condition and of the defeaters. Assumes nothing.
+-- `rules::edge_use`: the facts of the condition and of the defeaters.
 use mathlib.Core.Path.{ap₂, ap, _∙_}
 use borrow.Author.Needs.{needs}
 use Rattle.records.specs.paper.Sets.{union}
@@ -6,21 +6,6 @@ use Rattle.records.specs.code.Decoded.{edgeOf}
 use Rattle.expressions.specs.code.Listed.{usedAt, edgeUsed}
 use Rattle.expressions.proofs.rules.edge_use.Statement.{statement}
 use Rattle.expressions.proofs.rules.edge_use.Tie as tie
-
-wide-requires : tie.Need-wide-requires
-wide-requires c κs = search needs
-
-mul-own : tie.Need-mul-own
-mul-own c = search needs
-
-element-copy-out-own : tie.Need-element-copy-out-own
-element-copy-out-own c = search needs
-
-used-by-requires : tie.Need-used-by-requires
-used-by-requires c κs = search needs
-
-union-requires : tie.Need-union-requires
-union-requires c κs = search needs
 
 returns : tie.Need-returns
 unfolding edgeOf edgeUsed
@@ -31,4 +16,4 @@ returns c =
 pub edge-use-spec : {M : Type 1} → statement M
 edge-use-spec =
     tie.close
-    (tie.spec wide-requires mul-own element-copy-out-own used-by-requires union-requires returns)
+    (tie.spec (λ c κs. search needs) (λ c. search needs) (λ c. search needs) (λ c κs. search needs) (λ c κs. search needs) returns)

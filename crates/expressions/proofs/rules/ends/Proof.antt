@@ -1,4 +1,4 @@
--- `rules::ends`: the union of two persons. Assumes nothing.
+-- `rules::ends`: the union of two persons.
 use mathlib.Core.Path.{ap₂, _∙_}
 use borrow.Author.Needs.{needs}
 use Rattle.records.specs.paper.Sets.{union}
@@ -15,12 +15,9 @@ bit-requires-2 : tie.Need-bit-requires-2
 unfolding edgeOf
 bit-requires-2 c κs = c .before .pre .1
 
-union-requires : tie.Need-union-requires
-union-requires c κs = search needs
-
 returns : tie.Need-returns
 unfolding edgeOf endsOf
 returns c = c .union .ensures ∙ ap₂ union (c .before .before .bit .ensures) (c .before .bit2 .ensures)
 
 pub ends-spec : {M : Type 1} → statement M
-ends-spec = tie.close (tie.spec bit-requires bit-requires-2 union-requires returns)
+ends-spec = tie.close (tie.spec bit-requires bit-requires-2 (λ c κs. search needs) returns)

@@ -1,4 +1,4 @@
--- `rules::joining`: edges, cuts, attachments and bars, one behind the other. Assumes nothing.
+-- `rules::joining`: edges, cuts, attachments and bars, one behind the other.
 use mathlib.Core.Path.{sym, _∙_}
 use native.Mathlib.Omega.{arith}
 use borrow.Author.Needs.{needs}

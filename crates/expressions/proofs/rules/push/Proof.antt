@@ -1,4 +1,4 @@
--- `rules::push`: the entries are stored at the end. Assumes nothing.
+-- `rules::push`: the entries are stored at the end.
 use Prim.Native.Nat.{ℕ, _<_}
 use mathlib.Core.Path.{refl, ap, _∙_}
 use native.Mathlib.Omega.{arith}
@@ -8,24 +8,6 @@ use lib.Seq.{take-suc-set}
 use borrow.Author.Needs.{needs}
 use Rattle.expressions.proofs.rules.push.Statement.{statement}
 use Rattle.expressions.proofs.rules.push.Tie as tie
-
-whole-requires : tie.Need-whole-requires
-whole-requires c κs = search needs
-
-whole-requires-2 : tie.Need-whole-requires-2
-whole-requires-2 c κs = search needs
-
-mul-uses : tie.Need-mul-uses
-mul-uses c = search needs
-
-element-write-uses : tie.Need-element-write-uses
-element-write-uses c = search needs
-
-mul-persons : tie.Need-mul-persons
-mul-persons c = search needs
-
-element-write-persons : tie.Need-element-write-persons
-element-write-persons c = search needs
 
 returns : tie.Need-returns
 returns c =
@@ -45,10 +27,10 @@ pub push-spec : {M : Type 1} → statement M
 push-spec =
     tie.close
     (tie.spec
-    whole-requires
-    whole-requires-2
-    mul-uses
-    element-write-uses
-    mul-persons
-    element-write-persons
+    (λ c κs. search needs)
+    (λ c κs. search needs)
+    (λ c. search needs)
+    (λ c. search needs)
+    (λ c. search needs)
+    (λ c. search needs)
     returns)

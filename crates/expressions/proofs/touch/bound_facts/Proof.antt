@@ -1,4 +1,4 @@
--- `touch::bound_facts`: what is joined so far, with what is left, is the whole union. Assumes nothing.
+-- `touch::bound_facts`: what is joined so far, with what is left, is the whole union.
 use Prim.Native.Nat.{ℕ, _+_, _≤_, _-_}
 use mathlib.Core.Path.{_≡_, refl, sym, _∙_}
 use lib.ListN.{length, drop, getD, drop-of-length-le}
@@ -17,21 +17,6 @@ abbrev μ-loop : tie.MeasureT-loop
 
 loop-holds : tie.Need-loop-holds Inv-loop μ-loop
 loop-holds c = (search needs, refl)
-
-mul-union : tie.Need-mul-union Inv-loop μ-loop
-mul-union c = search needs
-
-shared-slice-read-union : tie.Need-shared-slice-read-union Inv-loop μ-loop
-shared-slice-read-union c = search needs
-
-union-requires : tie.Need-union-requires Inv-loop μ-loop
-union-requires c κs = search needs
-
-add-i : tie.Need-add-i Inv-loop μ-loop
-add-i c = search needs
-
-loop-less : tie.Need-loop-less Inv-loop μ-loop
-loop-less c = search needs
 
 loop-again : tie.Need-loop-again Inv-loop μ-loop
 loop-again c =
@@ -53,10 +38,10 @@ bound-facts-spec =
     Inv-loop
     μ-loop
     loop-holds
-    mul-union
-    shared-slice-read-union
-    union-requires
-    add-i
-    loop-less
+    (λ c. search needs)
+    (λ c. search needs)
+    (λ c κs. search needs)
+    (λ c. search needs)
+    (λ c. search needs)
     loop-again
     returns)

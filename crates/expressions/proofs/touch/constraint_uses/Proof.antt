@@ -1,4 +1,4 @@
--- `touch::constraint_uses`: the constraints in use, as a list of numbers. Assumes nothing.
+-- `touch::constraint_uses`: the constraints in use, as a list of numbers.
 use mathlib.Core.Path.{_≡_, sym, ap, _∙_}
 use lib.ListN.{length, length-map}
 use borrow.Author.Needs.{needs}
@@ -9,15 +9,6 @@ use Rattle.expressions.proofs.ListLaws.{used-take}
 use Rattle.expressions.proofs.touch.constraint_uses.Statement.{statement}
 use Rattle.expressions.proofs.touch.constraint_uses.Tie as tie
 
-upto-requires : tie.Need-upto-requires
-upto-requires c κs = search needs
-
-cast-t5 : tie.Need-cast-t5
-cast-t5 c = search needs
-
-used-by-requires : tie.Need-used-by-requires
-used-by-requires c κs = search needs
-
 returns : tie.Need-returns
 unfolding numbersOf
 returns c =
@@ -27,4 +18,4 @@ returns c =
     c .used-by .ensures ∙ ap (unionOf (usedAt (s .args .nodes .now))) (used-take xs (s .args .constraints .count) 16 (c .before .upto .result) long (c .before .upto .ensures .0))
 
 pub constraint-uses-spec : {M : Type 1} → statement M
-constraint-uses-spec = tie.close (tie.spec upto-requires cast-t5 used-by-requires returns)
+constraint-uses-spec = tie.close (tie.spec (λ c κs. search needs) (λ c. search needs) (λ c κs. search needs) returns)

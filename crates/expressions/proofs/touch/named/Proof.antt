@@ -1,4 +1,4 @@
--- `touch::named`: what is joined so far, with what is left, is the set of the tuple. Assumes nothing.
+-- `touch::named`: what is joined so far, with what is left, is the set of the tuple.
 use Prim.Native.Nat.{ℕ, _+_, _≤_, _<_, _-_, min}
 use mathlib.Core.Path.{_≡_, refl, sym, ap, _∙_}
 use mathlib.Core.List.{List}
@@ -23,18 +23,9 @@ long c = sym (length-map (c .args .t1 .tuple) (λ v. v)) ∙ c .good .0 .1 .1 .1
 some : (c : tie.After-upto Inv-loop μ-loop) → c .upto .result ≡ min (c .before .before .args .t1 .count) 4
 some c = c .upto .ensures .0 ∙ ap (λ (x : ℕ). min x 4) (c .before .wide .ensures .0)
 
-wide-requires : tie.Need-wide-requires Inv-loop μ-loop
-wide-requires c κs = search needs
-
-upto-requires : tie.Need-upto-requires Inv-loop μ-loop
-upto-requires c κs = search needs
-
 loop-holds : tie.Need-loop-holds Inv-loop μ-loop
 unfolding factOf
 loop-holds c = (search needs, none-union _)
-
-element-copy-out-bit : tie.Need-element-copy-out-bit Inv-loop μ-loop
-element-copy-out-bit c = search needs
 
 bit-requires : tie.Need-bit-requires Inv-loop μ-loop
 unfolding factOf
@@ -43,15 +34,6 @@ bit-requires c κs =
     let a = l .before in
     let s = a .before .before in
     used-each (s .args .t1 .tuple) (s .args .t1 .count) 4 (a .upto .result) (long s) (some a) (λ p. p < 64) (l .loop .i) 0 (search needs) (s .pre)
-
-union-requires : tie.Need-union-requires Inv-loop μ-loop
-union-requires c κs = search needs
-
-add-i : tie.Need-add-i Inv-loop μ-loop
-add-i c = search needs
-
-loop-less : tie.Need-loop-less Inv-loop μ-loop
-loop-less c = search needs
 
 loop-again : tie.Need-loop-again Inv-loop μ-loop
 unfolding factOf
@@ -80,13 +62,13 @@ named-spec =
     (tie.spec
     Inv-loop
     μ-loop
-    wide-requires
-    upto-requires
+    (λ c κs. search needs)
+    (λ c κs. search needs)
     loop-holds
-    element-copy-out-bit
+    (λ c. search needs)
     bit-requires
-    union-requires
-    add-i
-    loop-less
+    (λ c κs. search needs)
+    (λ c. search needs)
+    (λ c. search needs)
     loop-again
     returns)

@@ -1,4 +1,4 @@
--- `touch::touched`: its three parts joined. Assumes nothing.
+-- `touch::touched`: its three parts joined.
 use mathlib.Core.Path.{_≡_, sym, ap, ap₂, _∙_}
 use mathlib.Core.Bool.{Bool}
 use mathlib.Core.Logic.{⊎-elim}
@@ -8,20 +8,11 @@ use Rattle.expressions.specs.code.Listed.{touchedBy}
 use Rattle.expressions.proofs.touch.touched.Statement.{statement}
 use Rattle.expressions.proofs.touch.touched.Tie as tie
 
-contains-requires : tie.Need-contains-requires
-contains-requires c κs = search needs
-
 named-requires : tie.Need-named-requires
 named-requires c κs = c .before .before .before .before .pre .0
 
 users-requires : tie.Need-users-requires
 users-requires c κs = c .before .before .before .before .before .pre .1
-
-union-requires : tie.Need-union-requires
-union-requires c κs = search needs
-
-union-requires-2 : tie.Need-union-requires-2
-union-requires-2 c κs = search needs
 
 returns : tie.Need-returns
 unfolding touchedBy
@@ -37,9 +28,9 @@ pub touched-spec : {M : Type 1} → statement M
 touched-spec =
     tie.close
     (tie.spec
-    contains-requires
+    (λ c κs. search needs)
     named-requires
     users-requires
-    union-requires
-    union-requires-2
+    (λ c κs. search needs)
+    (λ c κs. search needs)
     returns)

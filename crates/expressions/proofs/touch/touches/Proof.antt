@@ -1,4 +1,4 @@
--- `touch::touches`: after i facts the array holds whom the first i touch. Assumes nothing.
+-- `touch::touches`: after i facts the array holds whom the first i touch.
 use Prim.Native.Nat.{ℕ, _+_, _≤_, _-_}
 use mathlib.Core.Path.{_≡_, refl, sym, ap, _∙_, subst}
 use mathlib.Core.Bool.{Bool}
@@ -27,24 +27,9 @@ abbrev μ-loop : tie.MeasureT-loop
 long : (c : tie.Start Inv-loop μ-loop) → length (c .args .t1 .items) ≡ 64
 long c = sym (length-map (c .args .t1 .items) (the-type .to)) ∙ c .good .0 .1 .1 .1 .0 .1 .0 .1
 
-upto-requires : tie.Need-upto-requires Inv-loop μ-loop
-upto-requires c κs = search needs
-
 loop-holds : tie.Need-loop-holds Inv-loop μ-loop
 unfolding below numbers
 loop-holds c = (refl, search needs, holds-none 64 0)
-
-mul-fact : tie.Need-mul-fact Inv-loop μ-loop
-mul-fact c = search needs
-
-element-copy-out-fact : tie.Need-element-copy-out-fact Inv-loop μ-loop
-element-copy-out-fact c = search needs
-
-cast-f : tie.Need-cast-f Inv-loop μ-loop
-cast-f c = search needs
-
-contains-requires : tie.Need-contains-requires Inv-loop μ-loop
-contains-requires c κs = search needs
 
 touched-requires : tie.Need-touched-requires Inv-loop μ-loop
 unfolding factsOf
@@ -53,18 +38,6 @@ touched-requires c κs =
     let a = c .before .before .before .before .before in
     let s = c .before .before .before .before .before .before .before .before in
     (made-each factOf (s .args .t1 .items) (s .args .t1 .count) 64 (a .upto .result) (long s) (a .upto .ensures .0) TupleFits (l .loop .i) _ (search needs) (s .pre .0), s .pre .1)
-
-mul-out : tie.Need-mul-out Inv-loop μ-loop
-mul-out c = search needs
-
-array-write-out : tie.Need-array-write-out Inv-loop μ-loop
-array-write-out c = search needs
-
-add-i : tie.Need-add-i Inv-loop μ-loop
-add-i c = search needs
-
-loop-less : tie.Need-loop-less Inv-loop μ-loop
-loop-less c = search needs
 
 loop-again : tie.Need-loop-again Inv-loop μ-loop
 unfolding factsOf touchBy
@@ -100,16 +73,16 @@ touches-spec =
     (tie.spec
     Inv-loop
     μ-loop
-    upto-requires
+    (λ c κs. search needs)
     loop-holds
-    mul-fact
-    element-copy-out-fact
-    cast-f
-    contains-requires
+    (λ c. search needs)
+    (λ c. search needs)
+    (λ c. search needs)
+    (λ c κs. search needs)
     touched-requires
-    mul-out
-    array-write-out
-    add-i
-    loop-less
+    (λ c. search needs)
+    (λ c. search needs)
+    (λ c. search needs)
+    (λ c. search needs)
     loop-again
     returns)

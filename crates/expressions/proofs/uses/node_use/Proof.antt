@@ -1,4 +1,4 @@
--- `uses::node_use`: by the node's sort. Assumes nothing.
+-- `uses::node_use`: by the node's sort.
 use Prim.Native.Nat.{ℕ}
 use mathlib.Core.Path.{sym, ap, _∙_, subst}
 use lib.ListN.{getD}
@@ -15,21 +15,6 @@ unfolding nodeOf nodeBy
 bit-requires c κs =
     let s = c .before .before in
     subst (λ (k : ℕ). FactFits (nodeBy k (s .args .node .number) (numbersOf (s .args .node .children)))) (c .match .keys2) (s .pre)
-
-used-by-requires : tie.Need-used-by-requires
-used-by-requires c κs = search needs
-
-used-by-requires-2 : tie.Need-used-by-requires-2
-used-by-requires-2 c κs = search needs
-
-wide-requires : tie.Need-wide-requires
-wide-requires c κs = search needs
-
-mul-result : tie.Need-mul-result
-mul-result c = search needs
-
-element-copy-out-result : tie.Need-element-copy-out-result
-element-copy-out-result c = search needs
 
 returns : tie.Need-returns
 unfolding uses nodeOf nodeBy
@@ -68,11 +53,11 @@ node-use-spec =
     tie.close
     (tie.spec
     bit-requires
-    used-by-requires
-    used-by-requires-2
-    wide-requires
-    mul-result
-    element-copy-out-result
+    (λ c κs. search needs)
+    (λ c κs. search needs)
+    (λ c κs. search needs)
+    (λ c. search needs)
+    (λ c. search needs)
     returns
     returns-2
     returns-3

@@ -1,4 +1,4 @@
--- `uses::node_uses`: after i nodes the array holds the facts of the first i. Assumes nothing.
+-- `uses::node_uses`: after i nodes the array holds the facts of the first i.
 use Prim.Native.Nat.{_+_, _≤_, _-_}
 use mathlib.Core.Path.{_≡_, refl, sym, _∙_, subst}
 use mathlib.Core.List.{List, []}
@@ -24,18 +24,9 @@ abbrev μ-loop : tie.MeasureT-loop
 long : (c : tie.Start Inv-loop μ-loop) → length (c .args .t1 .items) ≡ 256
 long c = sym (length-map (c .args .t1 .items) (the-type .to)) ∙ c .good .0 .1 .1 .1 .0 .1 .0 .1
 
-upto-requires : tie.Need-upto-requires Inv-loop μ-loop
-upto-requires c κs = search needs
-
 loop-holds : tie.Need-loop-holds Inv-loop μ-loop
 unfolding nodesOf usesFrom
 loop-holds c = (refl, search needs, holds-none 256 0)
-
-mul-node : tie.Need-mul-node Inv-loop μ-loop
-mul-node c = search needs
-
-element-copy-out-node : tie.Need-element-copy-out-node Inv-loop μ-loop
-element-copy-out-node c = search needs
 
 node-use-requires : tie.Need-node-use-requires Inv-loop μ-loop
 unfolding nodesOf
@@ -44,18 +35,6 @@ node-use-requires c κs =
     let a = l .before in
     let s = a .before in
     made-each nodeOf (s .args .t1 .items) (s .args .t1 .count) 256 (a .upto .result) (long s) (a .upto .ensures .0) FactFits (l .loop .i) _ (search needs) (s .pre)
-
-mul-out : tie.Need-mul-out Inv-loop μ-loop
-mul-out c = search needs
-
-array-write-out : tie.Need-array-write-out Inv-loop μ-loop
-array-write-out c = search needs
-
-add-i : tie.Need-add-i Inv-loop μ-loop
-add-i c = search needs
-
-loop-less : tie.Need-loop-less Inv-loop μ-loop
-loop-less c = search needs
 
 loop-again : tie.Need-loop-again Inv-loop μ-loop
 unfolding nodesOf
@@ -84,14 +63,14 @@ node-uses-spec =
     (tie.spec
     Inv-loop
     μ-loop
-    upto-requires
+    (λ c κs. search needs)
     loop-holds
-    mul-node
-    element-copy-out-node
+    (λ c. search needs)
+    (λ c. search needs)
     node-use-requires
-    mul-out
-    array-write-out
-    add-i
-    loop-less
+    (λ c. search needs)
+    (λ c. search needs)
+    (λ c. search needs)
+    (λ c. search needs)
     loop-again
     returns)

@@ -1,4 +1,4 @@
--- `uses::used_by`: what is joined so far, with what is left, is the whole union. Assumes nothing.
+-- `uses::used_by`: what is joined so far, with what is left, is the whole union.
 use Prim.Native.Nat.{ℕ, _+_, _≤_, _-_, min}
 use mathlib.Core.Path.{_≡_, sym, ap, _∙_}
 use mathlib.Core.List.{List, _∷_}
@@ -24,35 +24,8 @@ long c = sym (length-map (c .args .t1 .items) (λ v. v)) ∙ c .good .0 .1 .1 .1
 some : (c : tie.After-upto Inv-loop μ-loop) → c .upto .result ≡ min (c .before .before .args .t1 .count) 16
 some c = c .upto .ensures .0 ∙ ap (λ (x : ℕ). min x 16) (c .before .wide .ensures .0)
 
-wide-requires : tie.Need-wide-requires Inv-loop μ-loop
-wide-requires c κs = search needs
-
-upto-requires : tie.Need-upto-requires Inv-loop μ-loop
-upto-requires c κs = search needs
-
 loop-holds : tie.Need-loop-holds Inv-loop μ-loop
 loop-holds c = (search needs, none-union _)
-
-element-copy-out-wide : tie.Need-element-copy-out-wide Inv-loop μ-loop
-element-copy-out-wide c = search needs
-
-wide-requires-2 : tie.Need-wide-requires-2 Inv-loop μ-loop
-wide-requires-2 c κs = search needs
-
-mul-union : tie.Need-mul-union Inv-loop μ-loop
-mul-union c = search needs
-
-element-copy-out-union : tie.Need-element-copy-out-union Inv-loop μ-loop
-element-copy-out-union c = search needs
-
-union-requires : tie.Need-union-requires Inv-loop μ-loop
-union-requires c κs = search needs
-
-add-i : tie.Need-add-i Inv-loop μ-loop
-add-i c = search needs
-
-loop-less : tie.Need-loop-less Inv-loop μ-loop
-loop-less c = search needs
 
 loop-again : tie.Need-loop-again Inv-loop μ-loop
 unfolding numbersOf
@@ -80,15 +53,15 @@ used-by-spec =
     (tie.spec
     Inv-loop
     μ-loop
-    wide-requires
-    upto-requires
+    (λ c κs. search needs)
+    (λ c κs. search needs)
     loop-holds
-    element-copy-out-wide
-    wide-requires-2
-    mul-union
-    element-copy-out-union
-    union-requires
-    add-i
-    loop-less
+    (λ c. search needs)
+    (λ c κs. search needs)
+    (λ c. search needs)
+    (λ c. search needs)
+    (λ c κs. search needs)
+    (λ c. search needs)
+    (λ c. search needs)
     loop-again
     returns)

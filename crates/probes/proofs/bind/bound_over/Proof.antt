@@ -8,7 +8,7 @@ use Rattle.expressions.specs.paper.Bindings.{bindings, bindingAt}
 use Rattle.expressions.specs.code.Codes.{boundOf}
 use Rattle.expressions.specs.declared.variables.Count.{Count}
 use Rattle.probes.specs.Entries.{refusalBy}
-use Rattle.probes.specs.Binds.{Tells}
+use Rattle.probes.specs.Binds.{TellsVerdict}
 use Rattle.probes.proofs.Entering.{bound-code, booleans-fit, in-order, listed-sets, worlds-counted}
 use Rattle.probes.proofs.bind.bound_over.Statement.{statement}
 use Rattle.probes.proofs.bind.bound_over.Tie as tie
@@ -66,7 +66,7 @@ returns c =
       order = v .variable-order .ensures
           ∙ in-order (s .args .plan) (s .args .case) (s .pre .0) (s .pre .1) (r .result) (r .ensures) (n .boolean-count .result) (n .boolean-count .ensures .0);
       count = count;
-      refusal = subst (λ (k : Count). Tells (refusalBy (caseOf (s .args .case)) (k .refused)) (c .refusal-of .result)) count (c .refusal-of .ensures);
+      refusal = subst (λ (k : Count). TellsVerdict (refusalBy (caseOf (s .args .case)) (k .refused)) (c .refusal-of .result)) count (c .refusal-of .ensures);
     }
 
 pub bound-over-spec : {M : Type 1} → statement M

@@ -2,7 +2,7 @@
 use mathlib.Core.Path.{_∙_}
 use borrow.Author.Needs.{needs}
 use Rattle.expressions.specs.code.Slots.{slotsOf}
-use Rattle.probes.specs.Entries.{given, variables}
+use Rattle.probes.specs.Entries.{bothRead, variables}
 use Rattle.probes.proofs.VariableLaws.{variables-in}
 use Rattle.probes.proofs.variables.list_variables.Statement.{statement}
 use Rattle.probes.proofs.variables.list_variables.Tie as tie
@@ -20,7 +20,7 @@ returns c =
     let a = b .before .before .before .args in (
       c .among .ensures .0,
       c .among .ensures .1
-          ∙ variables-in (given (a .plan .now) (a .case .now)) (b .bind .result .codes) (slotsOf (b .bind .result .order)) (b .bind .ensures .codes) (b .bind .ensures .order),
+          ∙ variables-in (bothRead (a .plan .now) (a .case .now)) (b .bind .result .codes) (slotsOf (b .bind .result .order)) (b .bind .ensures .codes) (b .bind .ensures .order),
     )
 
 pub list-variables-spec : {M : Type 1} → statement M

@@ -13,7 +13,7 @@ use Rattle.records.proofs.plan.Cut.{the-type}
 use Rattle.expressions.specs.code.Influences.{setsOf}
 use Rattle.expressions.specs.paper.Rules.{cutCount}
 use Rattle.expressions.proofs.ListLaws.{made-length}
-use Rattle.report.specs.code.EventsWritten.{countOf}
+use Rattle.report.specs.code.EventsWritten.{eventCount}
 use Rattle.report.proofs.FinishLaws.{none, over, told, rule-events}
 use Rattle.report.proofs.finish.finish.Statement.{statement}
 use Rattle.report.proofs.finish.finish.Tie as tie
@@ -41,8 +41,8 @@ cuts-counted c =
     sym (made-length cutOf (p .cuts .items) (p .cuts .count) 16 (c .upto .result) (cuts-long s) (c .upto .ensures .0))
 
 counted : (c : tie.After-count-events) → let s = start c in
-    c .count-events .result ≡ countOf (s .args .sums .now) (s .args .noted .now) (s .args .opens .defaults) (cutCount (planOf (s .args .plan)))
-counted c = let s = start c in c .count-events .ensures .0 ∙ ap (countOf (s .args .sums .now) (s .args .noted .now) (s .args .opens .defaults)) (cuts-counted (c .before))
+    c .count-events .result ≡ eventCount (s .args .sums .now) (s .args .noted .now) (s .args .opens .defaults) (cutCount (planOf (s .args .plan)))
+counted c = let s = start c in c .count-events .ensures .0 ∙ ap (eventCount (s .args .sums .now) (s .args .noted .now) (s .args .opens .defaults)) (cuts-counted (c .before))
 
 index-1-if1 : tie.Need-index-1-if1
 index-1-if1 c = search needs

@@ -4,7 +4,7 @@ use Prim.Native.Nat.{ℕ, _≤_}
 use native.Mathlib.Omega.{arith}
 use Rattle.records.specs.paper.Sets.{size}
 use Rattle.records.proofs.SetLaws.{size-le}
-use Rattle.report.specs.code.EventsWritten.{countOf}
+use Rattle.report.specs.code.EventsWritten.{eventCount}
 use borrow.Author.Needs.{needs}
 use Rattle.report.proofs.happened.count_events.Statement.{statement}
 use Rattle.report.proofs.happened.count_events.Tie as tie
@@ -118,7 +118,7 @@ add-result-2 : tie.Need-add-result-2
 add-result-2 c = search needs
 
 returns : tie.Need-returns
-unfolding countOf
+unfolding eventCount
 returns c =
     let u = few _ _ (c .before .before .before .before .before .before .before .before .before .before .before .before .before .size .ensures) in
     let v = few _ _ (c .before .before .before .before .before .before .before .before .before .before .before .size2 .ensures) in

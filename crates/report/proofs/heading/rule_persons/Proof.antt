@@ -4,7 +4,7 @@ use native.Mathlib.Omega.{arith}
 use lib.ListN.{length, length-map}
 use lib.Seq.{length-take-le}
 use Rattle.records.specs.paper.Sets.{union, unionOf}
-use Rattle.expressions.specs.code.Listed.{statusHolds}
+use Rattle.expressions.specs.code.Listed.{heldByStatus}
 use Rattle.expressions.proofs.ListLaws.{used-take}
 use Rattle.report.specs.code.Opening.{itself}
 use Rattle.report.proofs.HeadingLaws.{persons-are}
@@ -39,7 +39,7 @@ returns c =
     record {
       at = λ P e k.
           ap₂ union (c .before .united .ensures ∙ ap (unionOf itself) (used-take (g .sets) (g .count) 144 (n .result) (long s) (n .ensures .0) ∙ e))
-          (c .status-persons .ensures ∙ ap (unionOf statusHolds) (sym k))
+          (c .status-persons .ensures ∙ ap (unionOf heldByStatus) (sym k))
           ∙ persons-are P;
     }
 

@@ -7,7 +7,7 @@ use Rattle.records.proofs.plan.Status.{the-type}
 use Rattle.records.specs.paper.Sets.{union, unionOf}
 use Rattle.records.specs.code.Decoded.{statusOf}
 use Rattle.expressions.specs.code.Coded.{statusesOf, PersonFits}
-use Rattle.expressions.specs.code.Listed.{statusHolds}
+use Rattle.expressions.specs.code.Listed.{heldByStatus}
 use Rattle.expressions.proofs.ListLaws.{made-each}
 use Rattle.expressions.proofs.UnionLaws.{none-union, union-first, union-end}
 use Rattle.report.proofs.HeadingLaws.{made-rest, made-end}
@@ -15,7 +15,7 @@ use Rattle.report.proofs.heading.status_persons.Statement.{statement}
 use Rattle.report.proofs.heading.status_persons.Tie as tie
 
 abbrev Inv-loop : tie.InvT-loop
-Inv-loop statuses n all₀ i₀ all i = (i ≤ n) × (union all (unionOf statusHolds (drop i (statusesOf statuses))) ≡ unionOf statusHolds (statusesOf statuses))
+Inv-loop statuses n all₀ i₀ all i = (i ≤ n) × (union all (unionOf heldByStatus (drop i (statusesOf statuses))) ≡ unionOf heldByStatus (statusesOf statuses))
 
 abbrev μ-loop : tie.MeasureT-loop
 μ-loop statuses n all₀ i₀ all i = n - i
@@ -56,7 +56,7 @@ loop-again c =
     let a = l .before in
     let s = a .before in (
       search needs,
-      union-first statusHolds (l .loop .all) _ (c .bit .result) _ _ _
+      union-first heldByStatus (l .loop .all) _ (c .bit .result) _ _ _
           (made-rest statusOf (s .args .t1 .items) (s .args .t1 .count) 32 (a .upto .result) (long s) (a .upto .ensures .0) (l .loop .i) _ (search needs)) refl
           (c .bit .ensures)
           ∙ l .loop .inv .1,
@@ -68,7 +68,7 @@ returns c =
     let l = c .before in
     let a = l .before in
     let s = a .before in
-    sym (union-end statusHolds (l .loop .all) _
+    sym (union-end heldByStatus (l .loop .all) _
     (made-end statusOf (s .args .t1 .items) (s .args .t1 .count) 32 (a .upto .result) (long s) (a .upto .ensures .0) (l .loop .i) (search needs)))
     ∙ l .loop .inv .1
 

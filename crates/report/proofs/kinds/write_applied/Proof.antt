@@ -5,7 +5,9 @@ use native.Mathlib.Omega.{arith}
 use lib.ListN.{length-take, length-drop}
 use borrow.Author.Needs.{needs}
 use Rattle.records.specs.paper.Plan.{Plan, Cut}
-use Rattle.records.specs.code.Decoded.{caseOf, cutOf}
+use Rattle.records.specs.paper.Case.{Case}
+use Rattle.records.specs.code.Decoded.{cutOf}
+use Rattle.expressions.specs.code.Evident.{EvidenceBy}
 use Rattle.expressions.specs.code.Coded.{cutsOf}
 use Rattle.expressions.specs.paper.Rules.{cutCount, cut}
 use Rattle.report.specs.code.EventBytes.{Below}
@@ -16,11 +18,11 @@ use Rattle.report.proofs.kinds.write_applied.Statement.{statement}
 use Rattle.report.proofs.kinds.write_applied.Tie as tie
 
 abbrev Inv-loop : tie.InvT-loop
-Inv-loop events₀ at case applied cuts place₀ m₀ events place m =
-    Writing (λ (x : (P : Plan) × (P .cuts ≡ cutsOf cuts) × Below applied (cutCount P)) i. event 2 i (electionActor (cut (x .0) i .election)) 0 (electionEvidence (caseOf case) (cut (x .0) i .election))) at applied events₀ m place events
+Inv-loop events₀ at evidence applied cuts place₀ m₀ events place m =
+    Writing (λ (x : (P : Plan) × (C : Case) × (P .cuts ≡ cutsOf cuts) × EvidenceBy C evidence × Below applied (cutCount P)) i. event 2 i (electionActor (cut (x .0) i .election)) 0 (electionEvidence (x .1) (cut (x .0) i .election))) at applied events₀ m place events
 
 abbrev μ-loop : tie.MeasureT-loop
-μ-loop events₀ at case applied cuts place₀ m₀ events place m = m
+μ-loop events₀ at evidence applied cuts place₀ m₀ events place m = m
 
 loop-holds : tie.Need-loop-holds Inv-loop μ-loop
 loop-holds c = writing-none _ _ _ _ (c .before .fits .applied .fits)
@@ -41,7 +43,7 @@ actor-of-requires : tie.Need-actor-of-requires Inv-loop μ-loop
 actor-of-requires c κs = search needs
 
 election-evidence-requires : tie.Need-election-evidence-requires Inv-loop μ-loop
-election-evidence-requires c κs = c .before .before .before .before .before .before .before .pre .2
+election-evidence-requires c κs = search needs
 
 sub-write-event : tie.Need-sub-write-event Inv-loop μ-loop
 sub-write-event c =
@@ -79,15 +81,15 @@ loop-again c =
     let t = c .before .before .before .before .before .before .before .before .before .low .result in
     let r = writing-room _ _ _ _ _ _ _ (l .inv) (c .before .before .before .before .before .before .before .before .before .before .loop-test .taken) (c .before .before .before .before .before .before .before .before .before .before .before .before .before .pre .0) in
     writing-next _ _ _ _ _ _ _ (l .inv) _ _ _ _ _ _ _ _ (c .before .before .before .before .before .before .before .before .before .low .ensures) (c .others .ensures) r (c .before .before .before .write-event .ensures)
-    (λ x. ap₂ (λ (y z : ℕ). event 2 t y 0 z) (c .before .before .before .before .before .before .actor-of .ensures) (c .before .before .before .before .before .election-evidence .ensures)
-    ∙ ap (λ (k : Cut). event 2 t (electionActor (k .election)) 0 (electionEvidence (caseOf (c .before .before .before .before .before .before .before .before .before .before .before .before .before .args .case)) (k .election))) (cut-read (x .0) t _ _ (x .1) (x .2 t (writing-has _ _ _ _ _ _ _ (l .inv) t (c .before .before .before .before .before .before .before .before .before .before .loop-test .taken) (c .before .before .before .before .before .before .before .before .before .low .ensures)))))
+    (λ x. ap₂ (λ (y z : ℕ). event 2 t y 0 z) (c .before .before .before .before .before .before .actor-of .ensures) (c .before .before .before .before .before .election-evidence .ensures (x .1) (x .3))
+    ∙ ap (λ (k : Cut). event 2 t (electionActor (k .election)) 0 (electionEvidence (x .1) (k .election))) (cut-read (x .0) t _ _ (x .2) (x .4 t (writing-has _ _ _ _ _ _ _ (l .inv) t (c .before .before .before .before .before .before .before .before .before .before .loop-test .taken) (c .before .before .before .before .before .before .before .before .before .low .ensures)))))
 
 same-length : tie.Need-same-length Inv-loop μ-loop
 same-length c = c .before .loop .inv .long
 
 returns : tie.Need-returns Inv-loop μ-loop
 unfolding appliedOver
-returns c = λ P e b. writes-listed _ _ _ _ (c .before .before .before .fits .applied .fits) b (writing-end _ _ _ _ _ _ _ (c .before .loop .inv) (c .loop-test .left) (P, e, b))
+returns c = λ P C e v b. writes-listed _ _ _ _ (c .before .before .before .fits .applied .fits) b (writing-end _ _ _ _ _ _ _ (c .before .loop .inv) (c .loop-test .left) (P, C, e, v, b))
 
 pub write-applied-spec : {M : Type 1} → statement M
 write-applied-spec =

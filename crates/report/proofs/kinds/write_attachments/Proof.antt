@@ -4,7 +4,9 @@ use native.Mathlib.Omega.{arith}
 use lib.ListN.{length-take, length-drop}
 use borrow.Author.Needs.{needs}
 use Rattle.records.specs.paper.Plan.{Plan, Attachment}
-use Rattle.records.specs.code.Decoded.{caseOf, attachmentOf}
+use Rattle.records.specs.paper.Case.{Case}
+use Rattle.records.specs.code.Decoded.{attachmentOf}
+use Rattle.expressions.specs.code.Evident.{EvidenceBy}
 use Rattle.expressions.specs.code.Coded.{attachmentsOf}
 use Rattle.expressions.specs.paper.Rules.{attachmentCount, attachment}
 use Rattle.report.specs.code.EventBytes.{Below}
@@ -15,11 +17,11 @@ use Rattle.report.proofs.kinds.write_attachments.Statement.{statement}
 use Rattle.report.proofs.kinds.write_attachments.Tie as tie
 
 abbrev Inv-loop : tie.InvT-loop
-Inv-loop events₀ at case moved attachments place₀ m₀ events place m =
-    Writing (λ (x : (P : Plan) × (P .attachments ≡ attachmentsOf attachments) × Below moved (attachmentCount P)) i. event 5 i (attachment (x .0) i .anchor) (attachment (x .0) i .actor) (electionEvidence (caseOf case) (attachment (x .0) i .election))) at moved events₀ m place events
+Inv-loop events₀ at evidence moved attachments place₀ m₀ events place m =
+    Writing (λ (x : (P : Plan) × (C : Case) × (P .attachments ≡ attachmentsOf attachments) × EvidenceBy C evidence × Below moved (attachmentCount P)) i. event 5 i (attachment (x .0) i .anchor) (attachment (x .0) i .actor) (electionEvidence (x .1) (attachment (x .0) i .election))) at moved events₀ m place events
 
 abbrev μ-loop : tie.MeasureT-loop
-μ-loop events₀ at case moved attachments place₀ m₀ events place m = m
+μ-loop events₀ at evidence moved attachments place₀ m₀ events place m = m
 
 loop-holds : tie.Need-loop-holds Inv-loop μ-loop
 loop-holds c = writing-none _ _ _ _ (c .before .fits .moved .fits)
@@ -37,7 +39,7 @@ cast-t18 : tie.Need-cast-t18 Inv-loop μ-loop
 cast-t18 c = omega (arith, c .before .before .low .ensures .1)
 
 election-evidence-requires : tie.Need-election-evidence-requires Inv-loop μ-loop
-election-evidence-requires c κs = c .before .before .before .before .before .before .pre .2
+election-evidence-requires c κs = search needs
 
 sub-write-event : tie.Need-sub-write-event Inv-loop μ-loop
 sub-write-event c =
@@ -75,15 +77,15 @@ loop-again c =
     let t = c .before .before .before .before .before .before .before .before .low .result in
     let r = writing-room _ _ _ _ _ _ _ (l .inv) (c .before .before .before .before .before .before .before .before .before .loop-test .taken) (c .before .before .before .before .before .before .before .before .before .before .before .before .pre .0) in
     writing-next _ _ _ _ _ _ _ (l .inv) _ _ _ _ _ _ _ _ (c .before .before .before .before .before .before .before .before .low .ensures) (c .others .ensures) r (c .before .before .before .write-event .ensures)
-    (λ x. ap (event 5 t _ _) (c .before .before .before .before .before .election-evidence .ensures)
-    ∙ ap (λ (a : Attachment). event 5 t (a .anchor) (a .actor) (electionEvidence (caseOf (c .before .before .before .before .before .before .before .before .before .before .before .before .args .case)) (a .election))) (attachment-read (x .0) t _ _ (x .1) (x .2 t (writing-has _ _ _ _ _ _ _ (l .inv) t (c .before .before .before .before .before .before .before .before .before .loop-test .taken) (c .before .before .before .before .before .before .before .before .low .ensures)))))
+    (λ x. ap (event 5 t _ _) (c .before .before .before .before .before .election-evidence .ensures (x .1) (x .3))
+    ∙ ap (λ (a : Attachment). event 5 t (a .anchor) (a .actor) (electionEvidence (x .1) (a .election))) (attachment-read (x .0) t _ _ (x .2) (x .4 t (writing-has _ _ _ _ _ _ _ (l .inv) t (c .before .before .before .before .before .before .before .before .before .loop-test .taken) (c .before .before .before .before .before .before .before .before .low .ensures)))))
 
 same-length : tie.Need-same-length Inv-loop μ-loop
 same-length c = c .before .loop .inv .long
 
 returns : tie.Need-returns Inv-loop μ-loop
 unfolding attachmentOver
-returns c = λ P e b. writes-listed _ _ _ _ (c .before .before .before .fits .moved .fits) b (writing-end _ _ _ _ _ _ _ (c .before .loop .inv) (c .loop-test .left) (P, e, b))
+returns c = λ P C e v b. writes-listed _ _ _ _ (c .before .before .before .fits .moved .fits) b (writing-end _ _ _ _ _ _ _ (c .before .loop .inv) (c .loop-test .left) (P, C, e, v, b))
 
 pub write-attachments-spec : {M : Type 1} → statement M
 write-attachments-spec =

@@ -1,10 +1,13 @@
 -- `kinds::write_defaults`: the events of the numbers left, put behind those written, make the whole.
+use Prim.Native.Nat.{ℕ}
+use mathlib.Core.List.{List}
 use native.Mathlib.Omega.{arith}
 use lib.ListN.{length-take, length-drop}
 use borrow.Author.Needs.{needs}
-use Rattle.records.specs.code.Decoded.{planOf}
+use Rattle.records.specs.paper.Plan.{Plan}
 use Rattle.expressions.specs.paper.Rules.{factCount}
 use Rattle.expressions.specs.paper.Bindings.{elections, defaultOf}
+use Rattle.expressions.specs.code.Told.{ElectedBy}
 use Rattle.report.specs.paper.EventList.{numberOf, electionCitation}
 use Rattle.report.specs.code.EventBytes.{Below}
 use Rattle.worlds.specs.paper.Events.{event, electionActor}
@@ -13,24 +16,29 @@ use Rattle.report.proofs.EventLaws.{Writing, writing-none, writing-room
 use Rattle.report.proofs.kinds.write_defaults.Statement.{statement}
 use Rattle.report.proofs.kinds.write_defaults.Tie as tie
 
+abbrev made : Plan → ℕ → List ℕ
+made P i = event 8 i (electionActor (elections P i)) (numberOf (defaultOf (elections P i))) (electionCitation (elections P i))
+
 abbrev Inv-loop : tie.InvT-loop
-Inv-loop events₀ at plan defaults place₀ m₀ events place m =
-    Writing (λ (x : Below defaults (factCount (planOf plan))) i. event 8 i (electionActor (elections (planOf plan) i)) (numberOf (defaultOf (elections (planOf plan) i))) (electionCitation (elections (planOf plan) i))) at defaults events₀ m place events
+Inv-loop events₀ at defaults elected place₀ m₀ events place m =
+    Writing (λ (x : (P : Plan) × ElectedBy P elected × Below defaults (factCount P)) i. made (x .0) i) at defaults events₀ m place events
 
 abbrev μ-loop : tie.MeasureT-loop
-μ-loop events₀ at plan defaults place₀ m₀ events place m = m
+μ-loop events₀ at defaults elected place₀ m₀ events place m = m
+
+returns : tie.Need-returns Inv-loop μ-loop
+unfolding defaultOver
+returns c = λ P e k b.
+    let a = c .before .args in
+    let fits = c .before .fits .defaults .fits in
+    writes-listed (made P) (factCount P) (a .at) (a .defaults) fits b
+    (writing-end (λ (Q : Plan). made Q) (a .at) (a .defaults) (a .events .now) (a .defaults) (a .at) (a .events .now) (writing-none (λ (Q : Plan). made Q) (a .at) (a .defaults) (a .events .now) fits) (c .if1 .taken) P)
 
 loop-holds : tie.Need-loop-holds Inv-loop μ-loop
-loop-holds c = writing-none _ _ _ _ (c .before .fits .defaults .fits)
+loop-holds c = writing-none _ _ _ _ (c .before .before .before .fits .defaults .fits)
 
 low-requires : tie.Need-low-requires Inv-loop μ-loop
 low-requires c κs = c .loop-test .taken
-
-cast-election-on : tie.Need-cast-election-on Inv-loop μ-loop
-cast-election-on c = omega (arith, c .low .ensures .1)
-
-election-on-requires : tie.Need-election-on-requires Inv-loop μ-loop
-election-on-requires c κs = search needs
 
 cast-t11 : tie.Need-cast-t11 Inv-loop μ-loop
 cast-t11 c = omega (arith, c .before .low .ensures .1)
@@ -46,12 +54,12 @@ citation-of-requires c κs = search needs
 
 sub-write-event : tie.Need-sub-write-event Inv-loop μ-loop
 sub-write-event c =
-    let r = writing-room _ _ _ _ _ _ _ (c .before .before .before .before .before .before .loop .inv) (c .before .before .before .before .before .loop-test .taken) (c .before .before .before .before .before .before .before .before .pre) in
+    let r = writing-room _ _ _ _ _ _ _ (c .before .before .before .before .before .before .loop .inv) (c .before .before .before .before .before .loop-test .taken) (c .before .before .before .before .before .before .before .before .before .before .pre) in
     omega arith
 
 part-write-event-start : tie.Need-part-write-event-start Inv-loop μ-loop
 part-write-event-start c =
-    let r = writing-room _ _ _ _ _ _ _ (c .before .before .before .before .before .before .loop .inv) (c .before .before .before .before .before .loop-test .taken) (c .before .before .before .before .before .before .before .before .pre) in
+    let r = writing-room _ _ _ _ _ _ _ (c .before .before .before .before .before .before .loop .inv) (c .before .before .before .before .before .loop-test .taken) (c .before .before .before .before .before .before .before .before .before .before .pre) in
     omega arith
 
 part-write-event-end : tie.Need-part-write-event-end Inv-loop μ-loop
@@ -59,12 +67,12 @@ part-write-event-end c = search needs
 
 write-event-requires : tie.Need-write-event-requires Inv-loop μ-loop
 write-event-requires c κs =
-    let r = writing-room _ _ _ _ _ _ _ (c .before .before .before .before .before .before .before .loop .inv) (c .before .before .before .before .before .before .loop-test .taken) (c .before .before .before .before .before .before .before .before .before .pre) in
+    let r = writing-room _ _ _ _ _ _ _ (c .before .before .before .before .before .before .before .loop .inv) (c .before .before .before .before .before .before .loop-test .taken) (c .before .before .before .before .before .before .before .before .before .before .before .pre) in
     simp (length-take, length-drop) (omega arith)
 
 add-place : tie.Need-add-place Inv-loop μ-loop
 add-place c =
-    let r = writing-room _ _ _ _ _ _ _ (c .before .before .before .before .before .before .before .before .before .before .loop .inv) (c .before .before .before .before .before .before .before .before .before .loop-test .taken) (c .before .before .before .before .before .before .before .before .before .before .before .before .pre) in
+    let r = writing-room _ _ _ _ _ _ _ (c .before .before .before .before .before .before .before .before .before .before .loop .inv) (c .before .before .before .before .before .before .before .before .before .loop-test .taken) (c .before .before .before .before .before .before .before .before .before .before .before .before .before .before .pre) in
     omega (arith, c .before .before .before .before .before .before .before .before .before .before .loop .inv .long)
 
 others-requires : tie.Need-others-requires Inv-loop μ-loop
@@ -77,16 +85,16 @@ loop-again : tie.Need-loop-again Inv-loop μ-loop
 loop-again c =
     let l = c .before .before .before .before .before .before .before .before .before .before .before .loop in
     let t = c .before .before .before .before .before .before .before .before .before .low .result in
-    let r = writing-room _ _ _ _ _ _ _ (l .inv) (c .before .before .before .before .before .before .before .before .before .before .loop-test .taken) (c .before .before .before .before .before .before .before .before .before .before .before .before .before .pre) in
+    let r = writing-room _ _ _ _ _ _ _ (l .inv) (c .before .before .before .before .before .before .before .before .before .before .loop-test .taken) (c .before .before .before .before .before .before .before .before .before .before .before .before .before .before .before .pre) in
     writing-next _ _ _ _ _ _ _ (l .inv) _ _ _ _ _ _ _ _ (c .before .before .before .before .before .before .before .before .before .low .ensures) (c .others .ensures) r (c .before .before .before .write-event .ensures)
-    (λ x. rw (c .before .before .before .before .before .before .before .actor-of .ensures, c .before .before .before .before .before .before .default-of .ensures, c .before .before .before .before .before .citation-of .ensures, c .before .before .before .before .before .before .before .before .election-on .ensures) (default-read t (elections (planOf (c .before .before .before .before .before .before .before .before .before .before .before .before .before .args .plan)) t)))
+    (λ x. rw (c .before .before .before .before .before .before .before .actor-of .ensures, c .before .before .before .before .before .before .default-of .ensures, c .before .before .before .before .before .citation-of .ensures, x .1 .at t (c .before .before .before .before .before .before .before .before .before .low .ensures .1)) (default-read t (elections (x .0) t)))
 
-same-length : tie.Need-same-length Inv-loop μ-loop
-same-length c = c .before .loop .inv .long
+same-length-2 : tie.Need-same-length-2 Inv-loop μ-loop
+same-length-2 c = c .before .loop .inv .long
 
-returns : tie.Need-returns Inv-loop μ-loop
+returns-2 : tie.Need-returns-2 Inv-loop μ-loop
 unfolding defaultOver
-returns c = λ b. writes-listed _ _ _ _ (c .before .before .before .fits .defaults .fits) b (writing-end _ _ _ _ _ _ _ (c .before .loop .inv) (c .loop-test .left) b)
+returns-2 c = λ P e k b. writes-listed _ _ _ _ (c .before .before .before .before .before .fits .defaults .fits) b (writing-end _ _ _ _ _ _ _ (c .before .loop .inv) (c .loop-test .left) (P, c .before .before .before .elect .ensures P e k, b))
 
 pub write-defaults-spec : {M : Type 1} → statement M
 write-defaults-spec =
@@ -94,10 +102,13 @@ write-defaults-spec =
     (tie.spec
     Inv-loop
     μ-loop
+    (λ c. search needs)
+    returns
+    (λ c κs. search needs)
     loop-holds
     low-requires
-    cast-election-on
-    election-on-requires
+    (λ c. search needs)
+    (λ c. search needs)
     cast-t11
     actor-of-requires
     default-of-requires
@@ -110,5 +121,5 @@ write-defaults-spec =
     others-requires
     loop-less
     loop-again
-    same-length
-    returns)
+    same-length-2
+    returns-2)

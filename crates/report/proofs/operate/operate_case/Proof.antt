@@ -126,7 +126,7 @@ answer-ready-requires c κs =
       reached = q .reach-of .ensures;
       bound = codes-bound (a .args .plan) (a .args .case) (a .pre .sound) (a .pre .sane) (q .reach-of .result) (q .reach-of .ensures)
           (b .bind-facts .result .codes) (b .bind-facts .ensures .codes);
-      defaulted = record { at = b .bind-facts .ensures .defaults };
+      defaulted = b .bind-facts .ensures .defaults;
       few = worlds-few (a .args .plan) (a .args .case) (a .pre .sound) (a .pre .sane) (q .reach-of .result) (q .reach-of .ensures)
           (b .bind-facts .result .codes) (b .bind-facts .ensures .codes) (k .count-worlds .result) (k .count-worlds .ensures) (t .if3 .left);
       room = lines-fit (a .args .plan) (a .args .case) (a .pre .sound) (a .pre .sane) (q .reach-of .result) (q .reach-of .ensures) (p .rule-persons .result)

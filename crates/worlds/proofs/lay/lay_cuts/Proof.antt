@@ -11,7 +11,7 @@ use Rattle.records.specs.code.Decoded.{cutOf}
 use Rattle.records.specs.declared.plan.Cut.{Cut as Coded}
 use Rattle.records.proofs.plan.Cut.{the-type}
 use Rattle.expressions.specs.code.Coded.{cutsOf}
-use Rattle.expressions.specs.code.Undecided.{decides}
+use Rattle.expressions.specs.paper.Influence.{hasVerdict}
 use Rattle.expressions.specs.paper.Rules.{cut}
 use Rattle.expressions.proofs.ListLaws.{made-length, made-at, made-each}
 use Rattle.worlds.specs.code.Laid.{Same, CutFits}
@@ -29,7 +29,7 @@ abbrev cites : Cut → ℕ → Type 0
 cites x v = v ≡ one (x .citation)
 
 abbrev said : Cut → ℕ → Type 0
-said x v = (e : ℕ) → has v e ≡ decides e 1 (x .decisions)
+said x v = (e : ℕ) → has v e ≡ hasVerdict e 1 (x .decisions)
 
 abbrev Inv-loop : tie.InvT-loop
 Inv-loop t₀ cuts n i₀ t i =
@@ -105,7 +105,7 @@ loop-again c =
       more,
       each-other members none xs laid3 refl (each-other members none xs laid2 refl (each-next members none xs laid1 (ap (λ (x : Cut). x .members) e) (inv .1))),
       each-other cites none xs laid3 refl (each-next cites none xs laid2 (c .before .before .before .before .bit .ensures ∙ ap (λ (x : Cut). one (x .citation)) e) (each-other cites none xs laid1 refl (inv .2))),
-      each-next said none xs laid3 (λ n. c .before .said-blocked .ensures n ∙ ap (λ (x : Cut). decides n 1 (x .decisions)) e) (each-other said none xs laid2 refl (each-other said none xs laid1 refl (inv .3))),
+      each-next said none xs laid3 (λ n. c .before .said-blocked .ensures n ∙ ap (λ (x : Cut). hasVerdict n 1 (x .decisions)) e) (each-other said none xs laid2 refl (each-other said none xs laid1 refl (inv .3))),
       same-next (1 ∷ 17 ∷ 8 ∷ []) refl laid3 (same-next (1 ∷ 17 ∷ 8 ∷ []) refl laid2 (same-next (1 ∷ 17 ∷ 8 ∷ []) refl laid1 (inv .4))),
     )
 

@@ -13,8 +13,8 @@ use Rattle.records.specs.paper.Plan.{Decision}
 use Rattle.records.specs.code.Decoded.{decisionsOf}
 use Rattle.records.specs.declared.plan.Decisions.{Decisions}
 use Rattle.records.proofs.SetLaws.{has-none, has-one, has-union, lt-or-le}
-use Rattle.expressions.proofs.DecisionLaws.{other-verdict}
-use Rattle.worlds.proofs.LayLaws.{any-more, any-past, below-each}
+use Rattle.expressions.proofs.DecisionLaws.{any-more, any-past, other-verdict}
+use Rattle.worlds.proofs.LayLaws.{below-each}
 use Rattle.worlds.proofs.lay.said_blocked.Statement.{statement}
 use Rattle.worlds.proofs.lay.said_blocked.Tie as tie
 

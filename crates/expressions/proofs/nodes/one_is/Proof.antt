@@ -1,6 +1,7 @@
--- `nodes::any_holds`: what is left of the children decides as all of them do. Assumes nothing.
+-- `nodes::one_is`: what is left of the children decides as all of them do.
 use Prim.Native.Nat.{ℕ, _+_, _≤_, _-_}
 use mathlib.Core.Path.{_≡_, refl, sym, ap, _∙_}
+use mathlib.Core.Bool.{Bool, Bool·beq}
 use mathlib.Core.List.{_∷_}
 use lib.ListN.{length, drop, length-map}
 use borrow.Author.Needs.{needs}
@@ -8,14 +9,14 @@ use Rattle.records.specs.paper.Sets.{anyOf}
 use Rattle.records.specs.code.Decoded.{numbersOf}
 use Rattle.expressions.specs.paper.Nodes.{on}
 use Rattle.expressions.proofs.ListLaws.{used-next, used-end, any-go, any-stop}
-use Rattle.expressions.proofs.nodes.any_holds.Statement.{statement}
-use Rattle.expressions.proofs.nodes.any_holds.Tie as tie
+use Rattle.expressions.proofs.nodes.one_is.Statement.{statement}
+use Rattle.expressions.proofs.nodes.one_is.Tie as tie
 
 abbrev Inv-loop : tie.InvT-loop
-Inv-loop lower children n i₀ i = (i ≤ n) × (anyOf (on lower) (drop i (numbersOf children)) ≡ anyOf (on lower) (numbersOf children))
+Inv-loop lower wanted children n i₀ i = (i ≤ n) × (anyOf (λ k. Bool·beq (on lower k) wanted) (drop i (numbersOf children)) ≡ anyOf (λ k. Bool·beq (on lower k) wanted) (numbersOf children))
 
 abbrev μ-loop : tie.MeasureT-loop
-μ-loop lower children n i₀ i = n - i
+μ-loop lower wanted children n i₀ i = n - i
 
 long : (c : tie.Start Inv-loop μ-loop) → length (c .args .t1 .items) ≡ 16
 long c = sym (length-map (c .args .t1 .items) (λ v. v)) ∙ c .good .0 .1 .1 .1 .0 .1 .0 .1
@@ -32,64 +33,46 @@ next c =
     used-next (a .before .before .args .t1 .items) (a .before .before .args .t1 .count) 16 (a .upto .result) (long (a .before .before)) (some a)
     (c .before .before .before .loop .i) 0 (c .wide2 .result) (search needs) (c .wide2 .ensures .0)
 
-wide-requires : tie.Need-wide-requires Inv-loop μ-loop
-wide-requires c κs = search needs
-
-upto-requires : tie.Need-upto-requires Inv-loop μ-loop
-upto-requires c κs = search needs
-
 loop-holds : tie.Need-loop-holds Inv-loop μ-loop
 loop-holds c = (search needs, refl)
-
-element-copy-out-wide : tie.Need-element-copy-out-wide Inv-loop μ-loop
-element-copy-out-wide c = search needs
-
-wide-requires-2 : tie.Need-wide-requires-2 Inv-loop μ-loop
-wide-requires-2 c κs = search needs
-
-element-copy-out-if1 : tie.Need-element-copy-out-if1 Inv-loop μ-loop
-element-copy-out-if1 c = search needs
 
 returns : tie.Need-returns Inv-loop μ-loop
 returns c =
     let w = c .before .before in
-    let f = on (w .before .before .before .before .before .before .args .lower .now) in
+    let a = w .before .before .before .before .before .before .args in
+    let f : ℕ → Bool = λ k. Bool·beq (on (a .lower .now) k) (a .wanted) in
     sym (any-stop f (w .wide2 .result) _ (c .if1 .taken)) ∙ ap (anyOf f) (sym (next w)) ∙ w .before .before .before .loop .inv .1
-
-add-i : tie.Need-add-i Inv-loop μ-loop
-add-i c = search needs
-
-loop-less : tie.Need-loop-less Inv-loop μ-loop
-loop-less c = search needs
 
 loop-again : tie.Need-loop-again Inv-loop μ-loop
 loop-again c =
     let w = c .before .before in
-    let f = on (w .before .before .before .before .before .before .args .lower .now) in
+    let a = w .before .before .before .before .before .before .args in
+    let f : ℕ → Bool = λ k. Bool·beq (on (a .lower .now) k) (a .wanted) in
     (search needs, sym (any-go f (w .wide2 .result) _ (c .if1 .left)) ∙ ap (anyOf f) (sym (next w)) ∙ w .before .before .before .loop .inv .1)
 
 returns-2 : tie.Need-returns-2 Inv-loop μ-loop
 unfolding numbersOf anyOf
 returns-2 c =
     let a = c .before .before in
-    let f = on (a .before .before .args .lower .now) in
+    let s = a .before .before .args in
+    let f : ℕ → Bool = λ k. Bool·beq (on (s .lower .now) k) (s .wanted) in
     ap (anyOf f) (sym (used-end (a .before .before .args .t1 .items) (a .before .before .args .t1 .count) 16 (a .upto .result) (long (a .before .before)) (some a) (c .before .loop .i) (search needs)))
     ∙ c .before .loop .inv .1
 
-pub any-holds-spec : {M : Type 1} → statement M
-any-holds-spec =
+pub one-is-spec : {M : Type 1} → statement M
+one-is-spec =
     tie.close
     (tie.spec
     Inv-loop
     μ-loop
-    wide-requires
-    upto-requires
+    (λ c κs. search needs)
+    (λ c κs. search needs)
     loop-holds
-    element-copy-out-wide
-    wide-requires-2
-    element-copy-out-if1
+    (λ c. search needs)
+    (λ c κs. search needs)
+    (λ c. search needs)
     returns
-    add-i
-    loop-less
+    (λ c. search needs)
+    (λ c. search needs)
     loop-again
     returns-2)

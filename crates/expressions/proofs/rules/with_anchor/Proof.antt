@@ -1,0 +1,19 @@
+-- `rules::with_anchor`: the members, and the anchor as a person.
+use mathlib.Core.Path.{ap, _∙_}
+use borrow.Author.Needs.{needs}
+use Rattle.records.specs.paper.Sets.{union}
+use Rattle.records.specs.code.Decoded.{attachmentOf}
+use Rattle.expressions.specs.code.Listed.{withAnchorOf}
+use Rattle.expressions.proofs.rules.with_anchor.Statement.{statement}
+use Rattle.expressions.proofs.rules.with_anchor.Tie as tie
+
+bit-requires : tie.Need-bit-requires
+unfolding attachmentOf
+bit-requires c κs = c .pre
+
+returns : tie.Need-returns
+unfolding attachmentOf withAnchorOf
+returns c = c .union .ensures ∙ ap (union _) (c .before .bit .ensures)
+
+pub with-anchor-spec : {M : Type 1} → statement M
+with-anchor-spec = tie.close (tie.spec bit-requires (λ c κs. search needs) returns)
