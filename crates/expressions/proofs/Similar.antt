@@ -61,24 +61,24 @@ module _ {A B : Type 0} (R : List A → List B → Type 0)
 
 pub record Similar (F : Frame) (C : ℕ → Bool) (v w : Values) : Type 0 where
   pub facts : (f q : ℕ) → has (touch F f) q ≡ true → C q ≡ true → has (v .facts) f ≡ has (w .facts) f
-  pub decisions : v .decisions ≡ w .decisions
+  pub decisions : (d q : ℕ) → has (decisionTouch (F .plan) d) q ≡ true → C q ≡ true → has (v .decisions) d ≡ has (w .decisions) d
 
 pub similar-start : (F : Frame) (C : ℕ → Bool) (v : Values) → Similar F C v v
-similar-start F C v = record { facts = λ f q h e. refl; decisions = refl }
+similar-start F C v = record { facts = λ f q h e. refl; decisions = λ d q h e. refl }
 
--- a fact that touches nobody of C is not the one that does
-other : (F : Frame) (C : ℕ → Bool) (f g q : ℕ) (b : Bool) → Outside C (touch F f) → has (touch F g) q ≡ true → C q ≡ true → has (only b (one f)) g ≡ false
-other F C f g q false o h e = has-none g
-other F C f g q true o h e = has-one f g ∙ go (which (eqb f g))
+-- a variable that touches nobody of C is not the one that does
+other : (C : ℕ → Bool) (touch : ℕ → ℕ) (f g q : ℕ) (b : Bool) → Outside C (touch f) → has (touch g) q ≡ true → C q ≡ true → has (only b (one f)) g ≡ false
+other C touch f g q false o h e = has-none g
+other C touch f g q true o h e = has-one f g ∙ go (which (eqb f g))
   where
     go : (eqb f g ≡ true) ⊎ (eqb f g ≡ false) → eqb f g ≡ false
     go (inr x) = x
-    go (inl x) = clash (subst (λ (k : ℕ). has (touch F k) q ≡ true) (sym (eqb-true f g x)) h) (out-not C q o e)
+    go (inl x) = clash (subst (λ (k : ℕ). has (touch k) q ≡ true) (sym (eqb-true f g x)) h) (out-not C q o e)
 
 union-at : (a b x y g : ℕ) → has a g ≡ has b g → has x g ≡ has y g → has (union a x) g ≡ has (union b y) g
 union-at a b x y g h k = has-union a x g ∙ ap₂ _||_ h k ∙ sym (has-union b y g)
 
-set-alike : (F : Frame) (C : ℕ → Bool) (s : Slot) (b : Bool) (v w : Values) → Similar F C v w → Similar F C (set s b v) (set s b w)
+pub set-alike : (F : Frame) (C : ℕ → Bool) (s : Slot) (b : Bool) (v w : Values) → Similar F C v w → Similar F C (set s b v) (set s b w)
 unfolding set
 set-alike F C (fact f) b v w S = record {
   facts = λ g q x y. union-at (v .facts) (w .facts) (only b (one f)) (only b (one f)) g (S .facts g q x y) refl;
@@ -86,16 +86,36 @@ set-alike F C (fact f) b v w S = record {
 }
 set-alike F C (decision d) b v w S = record {
   facts = S .facts;
-  decisions = ap (λ (x : ℕ). union x (only b (one d))) (S .decisions);
+  decisions = λ g q x y. union-at (v .decisions) (w .decisions) (only b (one d)) (only b (one d)) g (S .decisions g q x y) refl;
 }
 
-set-far : (F : Frame) (C : ℕ → Bool) (f : ℕ) → Outside C (touch F f) → (a b : Bool) (v w : Values) → Similar F C v w → Similar F C (set (fact f) a v) (set (fact f) b w)
+-- whom a variable touches
+abbrev pub touchOf : Frame → Slot → ℕ
+touchOf F (fact f) = touch F f
+touchOf F (decision d) = decisionTouch (F .plan) d
+
+pub set-far : (F : Frame) (C : ℕ → Bool) (s : Slot) → Outside C (touchOf F s) → (a b : Bool) (v w : Values) → Similar F C v w → Similar F C (set s a v) (set s b w)
 unfolding set
-set-far F C f o a b v w S = record {
+set-far F C (fact f) o a b v w S = record {
   facts = λ g q x y.
-      union-at (v .facts) (w .facts) (only a (one f)) (only b (one f)) g (S .facts g q x y) (other F C f g q a o x y ∙ sym (other F C f g q b o x y));
+      union-at (v .facts) (w .facts) (only a (one f)) (only b (one f)) g (S .facts g q x y)
+      (other C (touch F) f g q a o x y ∙ sym (other C (touch F) f g q b o x y));
   decisions = S .decisions;
 }
+set-far F C (decision d) o a b v w S = record {
+  facts = S .facts;
+  decisions = λ g q x y.
+      union-at (v .decisions) (w .decisions) (only a (one d)) (only b (one d)) g (S .decisions g q x y)
+      (other C (decisionTouch (F .plan)) d g q a o x y ∙ sym (other C (decisionTouch (F .plan)) d g q b o x y));
+}
+
+-- the roster's persons are touched by what the constraints use
+pub admissible-near : (F : Frame) (C : ℕ → Bool) (p : ℕ) → C p ≡ true → has (F .roster) p ≡ true → (v w : Values) → Similar F C v w → admissible F v ≡ admissible F w
+unfolding admissible constraintUses
+admissible-near F C p e r v w S =
+    all-follows (v .facts) (w .facts) (usesAt (F .plan)) (on (values (F .plan) (v .facts))) (on (values (F .plan) (w .facts)))
+    (node-follows (v .facts) (w .facts) (F .plan)) (F .constraints)
+    (record { at = λ f u. S .facts f p (touch-roster F f u .at p r) e })
 
 -- ---- two bindings, seen from the circle of p
 
@@ -122,18 +142,14 @@ module _ (F : Frame) (p : ℕ) (bs cs : List Bound) (alike : BoundAlike F p bs c
 
       side : Side C (touch F k) → Here
       side (inside q h e i) = inl (ap choices (alike k (λ l. touching F p k q h e)), set-alike F C (fact k))
-      side (outside o) = inr (set-far F C k o)
+      side (outside o) = inr (set-far F C (fact k) o)
 
       go : (k < factCount P) ⊎ (factCount P ≤ k) → Here
       go (inl l) = side (fact-side F p k l)
       go (inr l) = inl (ap choices (alike k (λ m. absurd (native.Mathlib.Nat.lt-irrefl k (native.Mathlib.Nat.lt-of-lt-of-le m l)))), set-alike F C (fact k))
 
-  -- the roster's persons are touched by what the constraints use
   pub admissible-same : has (F .roster) p ≡ true → (v w : Values) → Similar F C v w → admissible F v ≡ admissible F w
-  unfolding admissible constraintUses
-  admissible-same r v w S =
-      all-follows (v .facts) (w .facts) (usesAt P) (on (values P (v .facts))) (on (values P (w .facts))) (node-follows (v .facts) (w .facts) P) (F .constraints)
-      (record { at = λ f u. S .facts f p (touch-roster F f u .at p r) (in-circle F p) })
+  admissible-same = admissible-near F C p (in-circle F p)
 
   -- influence: near, and of the same variables; or outside
   fact-twin : (f : ℕ) → f < factCount P → Twin C (factInfluence F bs f) (factInfluence F cs f)

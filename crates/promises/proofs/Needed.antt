@@ -11,17 +11,17 @@ use Rattle.records.specs.paper.Plan.{Plan}
 use Rattle.records.specs.promises.Sound.{All}
 use Rattle.records.proofs.BelowLaws.{any-false}
 use Rattle.records.proofs.LoopLaws.{getD-below, all-at}
-use Rattle.expressions.specs.paper.Rules.{factCount, span, ruleSets}
+use Rattle.expressions.specs.paper.Rules.{factCount, withAnchor, ruleSets}
 use Rattle.expressions.specs.paper.Influence.{Frame, edgeUses, touched, touch, touches, joins, circle, touchesCircle}
 use Rattle.expressions.specs.paper.Bindings.{frameOf, conflict, unknown, known, unbound, Bound, both, just, bindingOf}
 use Rattle.expressions.specs.paper.Variables.{choices}
 use Rattle.promises.specs.Private.{Private}
-use Rattle.promises.specs.Weaker.{none, edgeUsesBut, touchedBut, touchBut, spanBut, joinsBut, touchesBut}
+use Rattle.promises.specs.Weaker.{none, edgeUsesBut, touchedBut, touchBut, withAnchorBut, joinsBut, touchesBut}
 use Rattle.promises.proofs.Sanity.{Shown, table, oneCandidate, thePlan, first, second, Found, found, expected, number, sameBound, sameValues, computed}
 
 -- ---- with none left out they are document 01's
 whole : touchesBut none ≡ touchesCircle
-unfolding touchesBut joinsBut spanBut touchBut touchedBut edgeUsesBut touchesCircle circle joins touches touch touched ruleSets span edgeUses
+unfolding touchesBut joinsBut withAnchorBut touchBut touchedBut edgeUsesBut touchesCircle circle joins touches touch touched ruleSets withAnchor edgeUses
 whole = refl
 
 -- ---- bound alike, from the tests

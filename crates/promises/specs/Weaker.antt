@@ -5,7 +5,7 @@ use Prim.Native.Nat.{ℕ}
 use lib.Dec.{eqb}
 use Rattle.records.specs.paper.Sets.{has, one, union, meet, meets, setOf, only, closeOf, below, unionOf}
 use Rattle.records.specs.paper.Plan.{Plan, getFact}
-use Rattle.expressions.specs.paper.Rules.{edgeCount, cutCount, attachmentCount, barCount, statusCount, factCount, edge, cut, attachment, bar, status, pair, span}
+use Rattle.expressions.specs.paper.Rules.{edgeCount, cutCount, attachmentCount, barCount, statusCount, factCount, edge, cut, attachment, bar, status, pair, withAnchor}
 use Rattle.expressions.specs.paper.Influence.{Frame, usesAt, cutUses, attachmentUses, barUses, statusUses, usersOf, constraintUses, boundFacts, decisionTouches}
 
 -- ---- the clauses
@@ -87,21 +87,21 @@ module _ (out : ℕ) where
       (union (part rosters (only (has (constraintUses F) f) (F .roster)))
       (union (part edgeUsers (usersOf (edgeCount P) (edgeUsesBut P) (pair P) f))
       (union (part cutUsers (usersOf (cutCount P) (cutUses P) (λ i. cut P i .members) f))
-      (union (part attachmentUsers (usersOf (attachmentCount P) (attachmentUses P) (span P) f))
+      (union (part attachmentUsers (usersOf (attachmentCount P) (attachmentUses P) (withAnchor P) f))
       (union (part barUsers (usersOf (barCount P) (barUses P) (λ i. bar P i .members) f))
       (part statusUsers (usersOf (statusCount P) (statusUses P) (λ i. one (status P i .person)) f)))))))
 
   unfoldable pub touchBut : Frame → ℕ → ℕ
   touchBut F f = only (has (boundFacts F) f) (cond (eqb out strangers) (meet (touchedBut F f) (F .roster)) (touchedBut F f))
 
-  unfoldable pub spanBut : Plan → ℕ → ℕ
-  spanBut P i = union (attachment P i .members) (part anchors (one (attachment P i .anchor)))
+  unfoldable pub withAnchorBut : Plan → ℕ → ℕ
+  withAnchorBut P i = union (attachment P i .members) (part anchors (one (attachment P i .anchor)))
 
   unfoldable pub joinsBut : Frame → List ℕ
   joinsBut F =
       let P = F .plan in
       (parts edges (below (edgeCount P) (pair P)) ++ (parts cuts (below (cutCount P) (λ i. cut P i .members))
-      ++ (parts attachments (below (attachmentCount P) (spanBut P)) ++ parts bars (below (barCount P) (λ i. bar P i .members)))))
+      ++ (parts attachments (below (attachmentCount P) (withAnchorBut P)) ++ parts bars (below (barCount P) (λ i. bar P i .members)))))
       ++ (parts sharedFacts (below (factCount P) (touchBut F)) ++ parts decisions (decisionTouches F))
 
   unfoldable pub touchesBut : Frame → ℕ → ℕ → Bool

@@ -13,9 +13,7 @@ use Rattle.expressions.proofs.Similar.{Similar, similar-start, BoundAlike, sort
 use Rattle.worlds.specs.paper.Active.{active}
 use Rattle.worlds.specs.paper.World.{World, worldOf}
 use Rattle.worlds.specs.paper.View.{View, view}
-use Rattle.worlds.proofs.CutsSeen.{active-same}
-use Rattle.worlds.proofs.MarksSeen.{marks-agree}
-use Rattle.worlds.proofs.ViewSeen.{after-seen, view-same}
+use Rattle.worlds.proofs.ViewSeen.{world-seen, view-same}
 use Rattle.report.proofs.SameViews.{SameViews, same-refl, join, left, right, line-same, holding-same}
 use Rattle.report.proofs.Answered.{viewsOf, lineOf}
 
@@ -31,14 +29,8 @@ module _ (F : Frame) (p : ℕ) (person : has (F .roster) p ≡ true) (bs cs : Li
 
   -- one world
   views-same : (v w : Values) → Similar F C v w → seenBy bs v ≡ seenBy cs w
-  unfolding worldOf
   views-same v w S =
-      let A = active-same F C v w S in
-      view-same C P (uncrossed F p) _ _
-      (after-seen C P (F .roster) (uncrossed F p) (active P v) (active P w) A _ _
-      (marks-agree C P (uncrossed F p) (influence F bs) (influence F cs)
-      (influence-twins F p bs cs alike) (F .roster) (active P v) (active P w) A))
-      p (in-circle F p)
+      view-same C P (uncrossed F p) _ _ (world-seen F C (uncrossed F p) (influence F bs) (influence F cs) (influence-twins F p bs cs alike) v w S) p (in-circle F p)
 
   -- all worlds
   abbrev Views : List Values → List Values → Type 0

@@ -53,6 +53,8 @@ use Rattle.report.specs.code.Walked.{worldAt, wanted}
 use Rattle.report.specs.code.Free.{FreeList}
 use Rattle.report.specs.paper.Operations.{relationOf, mismatched, headingFault, influences, allWorlds, answerReady, showFrom}
 use Rattle.report.specs.paper.Line.{lineLength}
+use Rattle.report.specs.code.Parted.{spanOf}
+use Rattle.report.specs.code.Classes.{Spans}
 use Rattle.report.specs.code.Run.{Started, Runs}
 use Rattle.report.specs.code.Finish.{Ends, Placed, ended, Finishes}
 use Rattle.expressions.specs.code.Told.{Defaulted}
@@ -72,10 +74,6 @@ pub rows-clean : (m n i j : ℕ) → row (replicate m (replicate n 0)) i j ≡ 0
 rows-clean zero n i j = refl
 rows-clean (suc m) n zero j = filled-at n j 0
 rows-clean (suc m) n (suc i) j = rows-clean m n i j
-
-pub zeros-small : (n : ℕ) → All (λ v. v < 80) (replicate n 0)
-zeros-small zero = tt
-zeros-small (suc n) = (omega arith, zeros-small n)
 
 -- ---- refusal 9 keeps somebody on the roster
 
@@ -289,6 +287,12 @@ module _ {plan : Plan} {c : Case} {reach : Reach} {given : code-bound.Bound} {li
   unfolding influences influence
   decisions-long = length-below (decisionCount P) (decisionInfluence F) ∙ sym decisions-are
 
+  -- the spans of the free variables
+  pub spans-told : (i : Influence) → setsOf i ≡ influences P C bs .facts ++ influences P C bs .decisions → {free spans : List ℕ} {n : ℕ} → Spans (i .sets) (i .count) (reach .count) free n spans
+      → (k : ℕ) → k < n → getD spans k 0 ≡ spanOf (influences P C bs) (getD free k 0)
+  unfolding setsOf
+  spans-told i sets s = s .at (influences P C bs) (sym sets) facts-long
+
   -- ---- the worlds
 
   abbrev made : Values → World
@@ -311,20 +315,27 @@ module _ {plan : Plan} {c : Case} {reach : Reach} {given : code-bound.Bound} {li
 
   -- WHAT IS KEPT is that of the wanted worlds, and all of them are counted
   module _ {w : Wanted} {k : Common} {t : List (List ℕ)} (S : Stands P (influences P C bs) k t) (people : k .roster ≡ c .heading .roster)
-      {free : List ℕ} {n : ℕ} {order : List ℕ} (ordered : map slotOf order ≡ slots P) (listed : FreeList codes order n free)
-      {noted₀ noted₁ sums₀ sums₁ : List (List ℕ)} {events₁ : List ℕ} {r : Walked} (runs : Runs t k plan (c .constraints) codes free n w noted₀ noted₁ sums₀ sums₁ events events₁ r)
+      {free spans : List ℕ} {n : ℕ} {order : List ℕ} (ordered : map slotOf order ≡ slots P) (listed : FreeList codes order n free)
+      (spanned : (i : ℕ) → i < n → getD spans i 0 ≡ spanOf (influences P C bs) (getD free i 0))
+      {noted₀ noted₁ sums₀ sums₁ : List (List ℕ)} {events₁ : List ℕ} {r : Walked} (runs : Runs t k plan (c .constraints) codes free spans n w noted₀ noted₁ sums₀ sums₁ events events₁ r)
       (started : Started (c .heading .roster) sums₀) (clean : (i j : ℕ) → row noted₀ i j ≡ 0) where
     abbrev Gone : Frame → ℕ → Type 0
     Gone G roster = Kept P roster (map (worldAt G (influences P C bs)) (wanted (w .all) (w .number) 0 (worlds G bs))) sums₁ noted₁ (r .listing) events₁ × (r .worlds ≡ length (worlds G bs))
 
+    of-case : frameBy plan (k .roster) (c .constraints) ≡ F
+    of-case = ap (λ (x : ℕ). frameBy plan x (c .constraints)) people ∙ framed
+
+    influences-are : influences P C bs ≡ influence (frameBy plan (k .roster) (c .constraints)) bs
+    unfolding influences
+    influences-are = ap (λ (G : Frame). influence G bs) (sym of-case)
+
     gone : Gone (frameBy plan (k .roster) (c .constraints)) (k .roster)
     gone =
         runs .at (influences P C bs) bs order S known-named bindings-long (h .bound) ordered listed (le-trans (few-free bs codes (h .bound) P order ordered (h .few)) (omega arith))
-        (subst (λ (x : ℕ). Started x sums₀) (sym people) started) clean (h .none)
+        spanned influences-are (λ e. h .peopled (sym people ∙ e)) (subst (λ (x : ℕ). Started x sums₀) (sym people) started) clean (h .none)
 
     over-case : Gone F (k .roster)
-    over-case =
-        subst (λ (G : Frame). Gone G (k .roster)) (ap (λ (x : ℕ). frameBy plan x (c .constraints)) people ∙ framed) gone
+    over-case = subst (λ (G : Frame). Gone G (k .roster)) of-case gone
 
     pub seen-kept : Kept P (c .heading .roster) (map (worldAt (frameOf P C) (influences P C bs)) (wanted (w .all) (w .number) 0 (worlds (frameOf P C) bs))) sums₁ noted₁ (r .listing) events₁
     seen-kept = subst (λ (x : ℕ). Kept P x (map (worldAt F (influences P C bs)) (seen w)) sums₁ noted₁ (r .listing) events₁) people (over-case .0)

@@ -6,6 +6,8 @@ pub mod EventBytes
 pub mod Nine
 pub mod Kept
 pub mod Walked
+pub mod Parted
+pub mod Classes
 pub mod Free
 pub mod Known
 pub mod Opening

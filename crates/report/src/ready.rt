@@ -1,5 +1,6 @@
 // A case that is bound over its plan, with no more worlds than its heading allows: its worlds, then its answer.
 use crate::Answer;
+use crate::classes::spans_of;
 use crate::finish::Opens;
 use crate::finish::finish;
 use crate::free::free_variables;
@@ -73,6 +74,7 @@ pub fn answer_ready(
     let order = variable_order(boolean_count(facts), undecided.count, reach.count);
     let mut free = [0u8; 16];
     let n = free_variables(order, codes, &mut free);
+    let spans = spans_of(&influence.sets, influence.count, reach.count, &free, n);
     let mut sums = started(roster);
     let mut noted = [[0u64; 64]; 3];
     let walked = run(
@@ -82,6 +84,7 @@ pub fn answer_ready(
         constraints,
         codes,
         &free,
+        &spans,
         n,
         wanted,
         &mut noted,

@@ -26,11 +26,11 @@ close-alike ss ts f g m =
     antisym (closeOf ss m) (closeOf ts m) (close-least ss m (closeOf ts m) (close-within ts m) (g (closeOf ts m) (close-closed ts m)))
     (close-least ts m (closeOf ss m) (close-within ss m) (f (closeOf ss m) (close-closed ss m)))
 
-closed-more : (ss ts : List ℕ) (m : ℕ) → Closed ss m → Closed ts m → Closed (ss ++ ts) m
+pub closed-more : (ss ts : List ℕ) (m : ℕ) → Closed ss m → Closed ts m → Closed (ss ++ ts) m
 closed-more [] ts m a b = b
 closed-more (s ∷ ss) ts m a b = (a .0, closed-more ss ts m (a .1) b)
 
-closed-parts : (ss ts : List ℕ) (m : ℕ) → Closed (ss ++ ts) m → Closed ss m × Closed ts m
+pub closed-parts : (ss ts : List ℕ) (m : ℕ) → Closed (ss ++ ts) m → Closed ss m × Closed ts m
 closed-parts [] ts m c = (tt, c)
 closed-parts (s ∷ ss) ts m c =
     let r = closed-parts ss ts m (c .1) in
@@ -44,7 +44,7 @@ closed-inside (s ∷ ss) m e =
     let t = and-parts (subset s m) (allOf (λ s. subset s m) ss) e in
     (λ p x y. subset-true s m (t .0), closed-inside ss m (t .1))
 
-closed-none : (ss : List ℕ) → Closed ss 0
+pub closed-none : (ss : List ℕ) → Closed ss 0
 closed-none [] = tt
 closed-none (s ∷ ss) = (λ p x y. absurd (true≢false (sym y ∙ has-none p)), closed-none ss)
 

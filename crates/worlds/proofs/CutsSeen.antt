@@ -1,16 +1,17 @@
 -- What rules say, seen from a circle that none of them crosses: steps 1 and 3 to 5 of a world. Assumes nothing.
-use mathlib.Core.Path.{_≡_, sym, ap, ap₂, _∙_}
+use mathlib.Core.Path.{_≡_, refl, sym, ap, ap₂, _∙_, subst}
 use mathlib.Core.Bool.{Bool, true, false, _&&_, _||_, not, Bool·beq, and-false}
 use mathlib.Core.List.{List}
 use Prim.Native.Nat.{ℕ, _<_}
 use lib.Dec.{eqb}
-use Rattle.records.specs.paper.Sets.{has, one, meets, below, anyBelow, anyOf, unionOf}
+use borrow.Author.Tests.{eqb-true}
+use Rattle.records.specs.paper.Sets.{has, one, meets, below, anyOf, unionOf}
 use Rattle.records.specs.paper.Plan.{Plan}
-use Rattle.records.proofs.SetLaws.{Within}
+use Rattle.records.proofs.SetLaws.{Within, in-union-r}
 use Rattle.records.proofs.Local.{Inside, Side, inside, outside, Flag, ins, meets-out, any-same, any-none}
 use Rattle.expressions.specs.paper.Rules.{edgeCount, cutCount, attachmentCount, barCount, statusCount, edge, cut, attachment, bar, status, pair, withAnchor}
 use Rattle.expressions.specs.paper.Nodes.{on, values}
-use Rattle.expressions.specs.paper.Influence.{Frame, touch, usesAt, edgeUses, cutUses, attachmentUses, barUses, statusUses, says, decisionCount, openDecision}
+use Rattle.expressions.specs.paper.Influence.{Frame, touch, usesAt, edgeUses, cutUses, attachmentUses, barUses, statusUses, says, decisionCount, openDecision, decisionTouch}
 use Rattle.expressions.specs.paper.Variables.{Values}
 use Rattle.expressions.proofs.ListLaws.{below-at}
 use Rattle.expressions.proofs.Follow.{On, on-left, on-right, any-follows, node-follows}
@@ -26,7 +27,7 @@ pub record Same (C : ℕ → Bool) (P : Plan) (a b : Active) : Type 0 where
   pub attachments : Flag C (withAnchor P) (on (a .attachments)) (on (b .attachments))
   pub bars : Flag C (λ i. bar P i .members) (on (a .bars)) (on (b .bars))
   pub statuses : Flag C (λ i. one (status P i .person)) (on (a .statuses)) (on (b .statuses))
-  pub decisions : a .decisions ≡ b .decisions
+  pub decisions : (d q : ℕ) → has (decisionTouch P d) q ≡ true → C q ≡ true → has (a .decisions) d ≡ has (b .decisions) d
 
 -- answers for each rule of a kind
 pub flags-below : (C : ℕ → Bool) (persons : ℕ → ℕ) (n : ℕ) (f g : ℕ → Bool)
@@ -117,13 +118,26 @@ module _ (C : ℕ → Bool) (P : Plan) (K : Uncrossed C P) (a b : Active) (S : S
       (about-near C (cutCount P) members (members c) _ _ (cut-in c q h e) (cut-side C P K)
       (λ d r i j. ap (λ (x : Bool). x && not (sameMembers P c d)) (kept-same d r i j))))
 
-  by-edge : (d : ℕ) → Flag C (pair P) (blockedBy P a d) (blockedBy P b d)
+  -- an open decision on an edge of the circle touches it
+  open-same : (d e q : ℕ) → has (pair P e) q ≡ true → C q ≡ true → (k : ℕ)
+      → ((eqb (openDecision P k .cut) d && eqb (openDecision P k .edge) e) && not (has (a .decisions) k))
+      ≡ ((eqb (openDecision P k .cut) d && eqb (openDecision P k .edge) e) && not (has (b .decisions) k))
+  unfolding decisionTouch
+  open-same d e q h y k = go (eqb (openDecision P k .cut) d) (eqb (openDecision P k .edge) e) refl
+    where
+      go : (x z : Bool) → eqb (openDecision P k .edge) e ≡ z → ((x && z) && not (has (a .decisions) k)) ≡ ((x && z) && not (has (b .decisions) k))
+      go false z t = refl
+      go true false t = refl
+      go true true t =
+          ap not (S .decisions k q (in-union-r (members (openDecision P k .cut)) (pair P (openDecision P k .edge)) .at q
+          (subst (λ (i : ℕ). has (pair P i) q ≡ true) (sym (eqb-true (openDecision P k .edge) e t)) h)) y)
+
+  pub by-edge : (d : ℕ) → Flag C (pair P) (blockedBy P a d) (blockedBy P b d)
   unfolding blockedBy blocksEdge
   by-edge d e q h y =
-      ap₂ (λ (x : Bool) (z : ℕ). (x && edge P e .combination)
-      && (not (Bool·beq (has (members d) (edge P e .left)) (has (members d) (edge P e .right)))
-      && (says P d e 1 || anyBelow (decisionCount P) (λ k. (eqb (openDecision P k .cut) d && eqb (openDecision P k .edge) e) && not (has z k)))))
-      (S .frozen e q h y) (S .decisions)
+      ap₂ (λ (x z : Bool). (x && edge P e .combination)
+      && (not (Bool·beq (has (members d) (edge P e .left)) (has (members d) (edge P e .right))) && (says P d e 1 || z)))
+      (S .frozen e q h y) (any-same (decisionCount P) _ _ (λ k l. open-same d e q h y k))
 
   blocked-same : Flag C members (blockedCut P a (kept a)) (blockedCut P b (kept b))
   unfolding blockedCut

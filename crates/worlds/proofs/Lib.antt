@@ -8,9 +8,11 @@ pub mod CutsSeen
 pub mod MarksSeen
 pub mod StateSeen
 pub mod ViewSeen
+pub mod EventsSeen
 pub mod FirstBlocks
 pub mod Partition
 pub mod SpreadLaws
+pub mod SpreadClasses
 pub mod FindLaws
 pub mod CutLaws
 pub mod ApplyLaws

@@ -64,7 +64,7 @@ module _ (C : ℕ → Bool) (P : Plan) (roster : ℕ) (K : Uncrossed C P) (a b :
   unfolding baseSets baseSet
   base-weak u = below-all (Weak C) (edgeCount P) (baseSet P u) (λ i. weak-only C (on (u .frozen) i && not (edge P i .combination)) (weak C (edge-side C P K i)))
 
-  loose-twin : (p : ℕ) → Twin C (looseComponent P roster (baseSets P a) p) (looseComponent P roster (baseSets P b) p)
+  pub loose-twin : (p : ℕ) → Twin C (looseComponent P roster (baseSets P a) p) (looseComponent P roster (baseSets P b) p)
   unfolding looseComponent
   loose-twin p = go (which (C p))
     where

@@ -95,7 +95,7 @@ module _ (live : ℕ) (high : (p : ℕ) → 64 ≤ p → has live p ≡ false) (
 nobody : (m roster : ℕ) → m ≡ 0 → Within m roster
 nobody m roster z = record { at = λ q h. absurd (true≢false (sym h ∙ ap (λ (x : ℕ). has x q) z ∙ has-none q)) }
 
--- members of cuts and attachments are on the roster, if the rules' persons are
+-- the persons of each rule are on the roster, if those of all rules are
 module _ (P : Plan) (roster : ℕ) (on-roster : subset (rulePersons P) roster ≡ true) where
   edges : ℕ
   edges = unionBelow (edgeCount P) (pair P)
@@ -106,37 +106,64 @@ module _ (P : Plan) (roster : ℕ) (on-roster : subset (rulePersons P) roster �
   spans : ℕ
   spans = unionBelow (attachmentCount P) (withAnchor P)
 
+  bars : ℕ
+  bars = unionBelow (barCount P) (λ i. bar P i .members)
+
+  statuses : ℕ
+  statuses = unionBelow (statusCount P) (λ i. one (status P i .person))
+
   others : ℕ
-  others = union (unionBelow (barCount P) (λ i. bar P i .members)) (unionBelow (statusCount P) (λ i. one (status P i .person)))
+  others = union bars statuses
 
   persons : Within (union edges (union cuts (union spans others))) roster
-  unfolding rulePersons edges cuts spans others
+  unfolding rulePersons edges cuts spans bars statuses others
   persons = subset-true (rulePersons P) roster on-roster
+
+  after-edges : Within (union cuts (union spans others)) roster
+  after-edges = thru (in-union-r edges (union cuts (union spans others))) persons
+
+  after-cuts : Within (union spans others) roster
+  after-cuts = thru (in-union-r cuts (union spans others)) after-edges
+
+  after-spans : Within (union bars statuses) roster
+  unfolding others
+  after-spans = thru (in-union-r spans (union bars statuses)) after-cuts
+
+  pub edge-on : (i : ℕ) → i < edgeCount P → Within (pair P i) roster
+  unfolding edges
+  edge-on i l = thru (in-below (edgeCount P) (pair P) i l) (thru (in-union-l edges (union cuts (union spans others))) persons)
 
   pub cut-on : (c : ℕ) → Within (cut P c .members) roster
   unfolding cuts cut
   cut-on c = ⊎-elim named past (lt-or-le c (cutCount P))
     where
       named : c < cutCount P → Within (cut P c .members) roster
-      named l =
-          thru (in-below (cutCount P) (λ i. cut P i .members) c l)
-          (thru (in-union-l cuts (union spans others)) (thru (in-union-r edges (union cuts (union spans others))) persons))
+      named l = thru (in-below (cutCount P) (λ i. cut P i .members) c l) (thru (in-union-l cuts (union spans others)) after-edges)
 
       past : cutCount P ≤ c → Within (cut P c .members) roster
       past l = nobody (cut P c .members) roster (ap (λ (x : Cut). x .members) (List·getD-eq-default (P .cuts) _ l))
 
+  pub withAnchor-on : (i : ℕ) → i < attachmentCount P → Within (withAnchor P i) roster
+  unfolding spans
+  withAnchor-on i l = thru (in-below (attachmentCount P) (withAnchor P) i l) (thru (in-union-l spans others) after-cuts)
+
   pub attachment-on : (i : ℕ) → Within (attachment P i .members) roster
-  unfolding spans withAnchor attachment
+  unfolding withAnchor attachment
   attachment-on i = ⊎-elim named past (lt-or-le i (attachmentCount P))
     where
       named : i < attachmentCount P → Within (attachment P i .members) roster
-      named l =
-          thru (in-union-l (attachment P i .members) (one (attachment P i .anchor)))
-          (thru (in-below (attachmentCount P) (withAnchor P) i l)
-          (thru (in-union-l spans others) (thru (in-union-r cuts (union spans others)) (thru (in-union-r edges (union cuts (union spans others))) persons))))
+      named l = thru (in-union-l (attachment P i .members) (one (attachment P i .anchor))) (withAnchor-on i l)
 
       past : attachmentCount P ≤ i → Within (attachment P i .members) roster
       past l = nobody (attachment P i .members) roster (ap (λ (x : Attachment). x .members) (List·getD-eq-default (P .attachments) _ l))
+
+  pub bar-on : (i : ℕ) → i < barCount P → Within (bar P i .members) roster
+  unfolding bars
+  bar-on i l = thru (in-below (barCount P) (λ i. bar P i .members) i l) (thru (in-union-l bars statuses) after-spans)
+
+  pub status-on : (i : ℕ) → i < statusCount P → Within (one (status P i .person)) roster
+  unfolding statuses
+  status-on i l = thru (in-below (statusCount P) (λ i. one (status P i .person)) i l) (thru (in-union-r bars statuses) after-spans)
 
   module _ (fits : roster < 2 ^ 64) (a : Active) (m : Marks) where
     abbrev live : ℕ

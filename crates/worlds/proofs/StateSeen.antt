@@ -1,16 +1,16 @@
 -- Blocks, attachments, bars and statuses of two worlds, seen from a circle in which their rules and marks agree: steps 6 to 8. Assumes nothing.
 use mathlib.Core.Path.{_≡_, refl, sym, ap, ap₂, _∙_, subst}
-use mathlib.Core.Bool.{Bool, true, false, _&&_, not, cond, and-false}
+use mathlib.Core.Bool.{Bool, true, false, _&&_, _||_, not, cond, and-false, or-false}
 use mathlib.Core.List.{List}
 use mathlib.Core.Logic.{_⊎_, inl, inr}
 use Prim.Native.Nat.{ℕ, _<_, _≤_}
 use lib.ListN.{getD}
 use lib.Dec.{eqb}
-use borrow.Author.Tests.{not-true}
+use borrow.Author.Tests.{not-true, eqb-true}
 use Rattle.records.specs.paper.Sets.{has, one, union, minus, subset, only, below, closeOf}
 use Rattle.records.specs.paper.Plan.{Plan}
 use Rattle.records.specs.promises.Sound.{All}
-use Rattle.records.proofs.SetLaws.{lt-or-le}
+use Rattle.records.proofs.SetLaws.{lt-or-le, has-union, has-one}
 use Rattle.records.proofs.LoopLaws.{getD-below, getD-past}
 use Rattle.records.proofs.Local.{clash, Inside, Outside, outer, Agree, Twins, Side, inside, outside, Flag, Weak, weak, weak-only, ins, in-zero, in-only, in-union, in-less, in-cond, in-not, in-left, in-right, at-single, out-not, agree-refl, agree-sym, agree-union, agree-minus, agree-twin, agree-frame, minus-near, minus-far, subset-near, twin-only, twins-below, below-all, below-two, union-in, union-same, union-agree, fold-two, single-side}
 use Rattle.expressions.specs.paper.Rules.{edgeCount, cutCount, attachmentCount, barCount, statusCount, cut, attachment, status, pair, withAnchor}
@@ -230,6 +230,40 @@ module _ (C : ℕ → Bool) (P : Plan) (roster : ℕ) (K : Uncrossed C P) (a b :
   pub last-alike : Alike C (lastState P roster m a ka) (lastState P roster n b kb)
   unfolding lastState
   last-alike = fold-two (Alike C) _ _ (attachmentCount P) (λ i l. attach-alike i) _ _ first-alike
+
+  -- the attachments that were not skipped
+  abbrev taken : Active → State → ℕ → Bool
+  taken u s i = on (u .attachments) i && not (eqb (blockOf s (anchor i)) 0)
+
+  moved-at : (marks : ℕ) (u : Active) (i : ℕ) (s : State) (j : ℕ) → has (attach P marks u i s .moved) j ≡ (has (s .moved) j || (taken u s i && eqb i j))
+  unfolding attach move
+  moved-at marks u i s j = go (taken u s i)
+    where
+      go : (x : Bool) → has (cond x (move i (union (blockOf s (anchor i)) (movers marks i)) (movers marks i) s) s .moved) j ≡ (has (s .moved) j || (x && eqb i j))
+      go true = has-union (s .moved) (one i) j ∙ ap (λ (x : Bool). has (s .moved) j || x) (has-one i j)
+      go false = sym (or-false (has (s .moved) j))
+
+  abbrev Moved : State → State → Type 0
+  Moved s t = Flag C (span P) (has (s .moved)) (has (t .moved))
+
+  attach-moved : (i : ℕ) (s t : State) → Alike C s t → Moved s t → Moved (attach P m a i s) (attach P n b i t)
+  unfolding span
+  attach-moved i s t A M j q h e = moved-at m a i s j ∙ ap₂ _||_ (M j q h e) (go (eqb i j) refl) ∙ sym (moved-at n b i t j)
+    where
+      same : has (span P i) q ≡ true → taken a s i ≡ taken b t i
+      same k =
+          ap₂ (λ (x : Bool) (y : ℕ). x && not (eqb y 0)) (S .attachments i q k e)
+          (A .same (anchor i) (at-single C (anchor i) (in-right C (attachment P i .members) (one (anchor i)) (ins C (span-side C P K i) k e))))
+
+      go : (x : Bool) → eqb i j ≡ x → (taken a s i && x) ≡ (taken b t i && x)
+      go true z = ap (λ (y : Bool). y && true) (same (subst (λ (k : ℕ). has (span P k) q ≡ true) (sym (eqb-true i j z)) h))
+      go false z = and-false (taken a s i) ∙ sym (and-false (taken b t i))
+
+  pub last-moved : Flag C (span P) (has (lastState P roster m a ka .moved)) (has (lastState P roster n b kb .moved))
+  unfolding lastState firstState
+  last-moved =
+      fold-two (λ s t. Alike C s t × Moved s t) (attach P m a) (attach P n b) (attachmentCount P)
+      (λ i l s t r. (attach-alike i s t (r .0), attach-moved i s t (r .0) (r .1))) _ _ (first-alike, λ j q h e. refl) .1
 
 -- ---- step 8
 

@@ -2,20 +2,23 @@
 -- Assumes nothing.
 use mathlib.Core.Path.{_≡_, sym, ap, ap₂, _∙_}
 use mathlib.Core.Bool.{Bool, true, false, _&&_, _||_, cond, and-false}
-use mathlib.Core.List.{List}
+use mathlib.Core.List.{List, _++_}
 use mathlib.Core.Logic.{_⊎_, inl, inr}
 use Prim.Native.Nat.{ℕ}
 use Rattle.records.specs.paper.Sets.{has, one, union, meets, only}
 use Rattle.records.specs.paper.Plan.{Plan}
-use Rattle.records.proofs.Local.{which, Inside, Outside, Agree, Side, inside, outside, Flag, ins, in-not, in-left, in-right, at-single, out-not, agree-union, agree-minus, agree-meet, meets-near, meets-out, union-same}
+use Rattle.records.proofs.Local.{which, Inside, Outside, Agree, Twins, Side, inside, outside, Flag, ins, in-not, in-left, in-right, at-single, out-not, agree-union, agree-minus, agree-meet, meets-near, meets-out, union-same}
 use Rattle.expressions.specs.paper.Rules.{edgeCount, cutCount, barCount, statusCount, edge, cut, bar, status, pair}
 use Rattle.expressions.specs.paper.Nodes.{on}
+use Rattle.expressions.specs.paper.Influence.{Frame}
+use Rattle.expressions.specs.paper.Variables.{Values, Influence}
 use Rattle.expressions.proofs.Circles.{Uncrossed, edge-side, cut-side}
-use Rattle.worlds.specs.paper.Active.{Active}
-use Rattle.worlds.specs.paper.World.{World, Marks, marked, blockOf, about, afterMarks, keptCuts, overlappingCuts, appliedCuts, lastState}
+use Rattle.expressions.proofs.Similar.{Similar}
+use Rattle.worlds.specs.paper.Active.{Active, active}
+use Rattle.worlds.specs.paper.World.{World, worldOf, Marks, marked, blockOf, about, afterMarks, keptCuts, overlappingCuts, appliedCuts, lastState}
 use Rattle.worlds.specs.paper.View.{View, roleOf, edgeCitations, leads, cutCitations, attachmentCitations, barCitations, statusCitations, citations, view}
-use Rattle.worlds.proofs.CutsSeen.{Same, about-near, about-none, applied-same}
-use Rattle.worlds.proofs.MarksSeen.{MarksAgree}
+use Rattle.worlds.proofs.CutsSeen.{Same, about-near, about-none, active-same, applied-same}
+use Rattle.worlds.proofs.MarksSeen.{MarksAgree, marks-agree}
 use Rattle.worlds.proofs.StateSeen.{Alike, last-alike, barred-agree, excluded-agree}
 
 -- two worlds alike in the circle
@@ -49,6 +52,16 @@ after-seen C P roster K a b S m n h = record {
 
     last : Alike C (lastState P roster (marked m) a (applied a)) (lastState P roster (marked n) b (applied b))
     last = last-alike C P roster K a b S (applied a) (applied b) (applied-same C P K a b S) (marked m) (marked n) (marked-agree C m n h)
+
+-- the worlds of two valuations that agree on what touches the circle, with influence sets alike in it
+pub world-seen : (F : Frame) (C : ℕ → Bool) → Uncrossed C (F .plan) → (I J : Influence) → Twins C (I .facts ++ I .decisions) (J .facts ++ J .decisions)
+    → (v w : Values) → Similar F C v w
+    → Seen C (F .plan) (worldOf (F .plan) (F .roster) I (active (F .plan) v)) (worldOf (F .plan) (F .roster) J (active (F .plan) w))
+unfolding worldOf
+world-seen F C K I J twins v w S =
+    let P = F .plan in
+    let A = active-same F C v w S in
+    after-seen C P (F .roster) K (active P v) (active P w) A _ _ (marks-agree C P K I J twins (F .roster) (active P v) (active P w) A)
 
 -- ---- citations of a block inside, role, and the view
 

@@ -10,7 +10,8 @@ use Rattle.expressions.specs.code.Slots.{slotOf}
 use Rattle.expressions.specs.paper.Variables.{Influence, slots}
 use Rattle.worlds.specs.code.Tables.{Stands}
 use Rattle.report.specs.paper.Operations.{influences}
-use Rattle.report.proofs.ReadyLaws.{rows-clean, zeros-small, tables-ready, facts-few, decisions-few, booleans-fit, order-is, order-fits, sets-are, stands, ends, answers}
+use Rattle.report.proofs.FreeLaws.{zeros-small}
+use Rattle.report.proofs.ReadyLaws.{rows-clean, tables-ready, facts-few, decisions-few, booleans-fit, order-is, order-fits, sets-are, spans-told, stands, ends, answers}
 use Rattle.report.proofs.ready.answer_ready.Statement.{statement}
 use Rattle.report.proofs.ready.answer_ready.Tie as tie
 
@@ -39,12 +40,15 @@ free-variables-requires c κs =
     let v = c .before in
     (order-fits (c .before .before .before .before .before .before .before .before .before .before .before .before .before .before .before .before .pre) (v .before .boolean-count .ensures .0) (v .variable-order .result) (v .variable-order .ensures), zeros-small 16)
 
+spans-of-requires : tie.Need-spans-of-requires
+spans-of-requires c κs = let f = c .before .before .before in (facts-few (f .before .before .before .before .before .before .before .before .before .before .before .before .before .before .before .before .before .pre), f .free-variables .ensures .few)
+
 started-requires : tie.Need-started-requires
 started-requires c κs = search needs
 
 run-requires : tie.Need-run-requires
 run-requires c κs =
-    let f = c .before .before .before .before .before .before in
+    let f = c .before .before .before .before .before .before .before .before .before .before .before in
     (f .before .before .before .before .before .before .before .before .before .before .before .before .before .before .before .before .before .pre .sound, f .free-variables .ensures .few, f .free-variables .ensures .small)
 
 concerns-requires : tie.Need-concerns-requires
@@ -53,7 +57,7 @@ concerns-requires c κs = search needs
 -- ---- once the worlds are looked at
 
 abbrev free-at : tie.After-run → tie.After-free-variables
-free-at x = x .before .before .before .before .before .before .before
+free-at x = x .before .before .before .before .before .before .before .before .before .before .before .before
 
 abbrev order-at : tie.After-run → tie.After-variable-order
 order-at x = free-at x .before .before
@@ -90,7 +94,8 @@ ordered x = order-is (start x .pre) (order-at x .before .boolean-count .ensures 
 finish-requires : tie.Need-finish-requires
 finish-requires c κs =
     let x = c .before .before .before .before .before .before .before in
-    ends (start x .pre) (standing x) (common-at x .common-of .ensures .people) (ordered x) (free-at x .free-variables .ensures) (x .run .ensures) (x .before .before .before .before .before .before .started .ensures) (rows-clean 3 64)
+    ends (start x .pre) (standing x) (common-at x .common-of .ensures .people) (ordered x) (free-at x .free-variables .ensures)
+    (spans-told (start x .pre) (influence-at x .influence-of .result) (influenced x) (x .before .before .before .before .before .before .before .before .spans-of .ensures)) (x .run .ensures) (x .before .before .before .before .before .before .before .started .ensures) (rows-clean 3 64)
     (influenced x) (c .before .before .before .before .concerns .ensures)
 
 same-length : tie.Need-same-length
@@ -102,7 +107,8 @@ same-length-2 c = search needs
 returns : tie.Need-returns
 returns c =
     let x = c .before .before .before .before .before .before .before .before .before .before .before .before in
-    answers (start x .pre) (standing x) (common-at x .common-of .ensures .people) (ordered x) (free-at x .free-variables .ensures) (x .run .ensures) (x .before .before .before .before .before .before .started .ensures) (rows-clean 3 64)
+    answers (start x .pre) (standing x) (common-at x .common-of .ensures .people) (ordered x) (free-at x .free-variables .ensures)
+    (spans-told (start x .pre) (influence-at x .influence-of .result) (influenced x) (x .before .before .before .before .before .before .before .before .spans-of .ensures)) (x .run .ensures) (x .before .before .before .before .before .before .before .started .ensures) (rows-clean 3 64)
     (influenced x) (c .before .before .before .before .before .before .before .before .before .concerns .ensures) (c .before .before .before .before .finish .ensures)
 
 pub answer-ready-spec : {M : Type 1} → statement M
@@ -116,6 +122,7 @@ answer-ready-spec =
     boolean-count-requires
     variable-order-requires
     free-variables-requires
+    spans-of-requires
     started-requires
     run-requires
     concerns-requires
