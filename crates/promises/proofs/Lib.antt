@@ -1,7 +1,6 @@
 pub mod Starred
 pub mod Once
 pub mod LineBytes
-pub mod LineDecoded
 pub mod LineBlocks
 pub mod PartedLines
 pub mod Privacy

@@ -20,12 +20,12 @@ use Rattle.promises.specs.Partitioned.{personAt, kindAt, blockAt}
 
 -- ---- numbers as bytes
 
-pub length-little : (n m : ℕ) → length (littleBytes n m) ≡ n
+length-little : (n m : ℕ) → length (littleBytes n m) ≡ n
 unfolding littleBytes
 length-little zero m = refl
 length-little (suc n) m = ap suc (length-little n (m / 256))
 
-pub little-bytes : (n m : ℕ) → m < 256 ^ n → little (littleBytes n m) ≡ m
+little-bytes : (n m : ℕ) → m < 256 ^ n → little (littleBytes n m) ≡ m
 unfolding littleBytes little
 little-bytes zero m h = omega arith
 little-bytes (suc n) m h =
