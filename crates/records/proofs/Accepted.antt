@@ -15,20 +15,20 @@ use Rattle.records.specs.promises.Sound.{All, SoundEdge, SoundCut, Sound
 use Rattle.records.proofs.Every.{all-any, exactly-one, all-both, all-parts, all-tested}
 use Rattle.records.proofs.FieldLaws.{InFormat}
 use Rattle.records.proofs.PlanParts.{nodes-sound, edge-sound, cut-sound, attachment-sound, bar-sound, status-sound, fact-sound, heading-sound}
-use Rattle.records.proofs.ReadLaws.{fine-then, of-fine, past-faults, faultless, Judged, Kept, read-keeps, Kind, kind-none, kind-joined, each-sound}
+use Rattle.records.proofs.ReadLaws.{fine-then, of-fine, past-faults, faultless, Judged, Kept, read-keeps, OfKind, kind-none, kind-joined, each-sound}
 
 -- ---- what each record keeps
 
 -- the records of each kind come from such records, and are not too many
 record Kinds (P : Plan) : Type 0 where
-  headings : Kind planFormats 1 headingFrom (P .headings)
-  facts : Kind planFormats 2 factFrom (P .facts)
-  nodes : Kind planFormats 3 nodeFrom (P .nodes)
-  edges : Kind planFormats 4 edgeFrom (P .edges)
-  cuts : Kind planFormats 5 cutFrom (P .cuts)
-  attachments : Kind planFormats 6 attachmentFrom (P .attachments)
-  bars : Kind planFormats 7 barFrom (P .bars)
-  statuses : Kind planFormats 8 statusFrom (P .statuses)
+  headings : OfKind planFormats 1 headingFrom (P .headings)
+  facts : OfKind planFormats 2 factFrom (P .facts)
+  nodes : OfKind planFormats 3 nodeFrom (P .nodes)
+  edges : OfKind planFormats 4 edgeFrom (P .edges)
+  cuts : OfKind planFormats 5 cutFrom (P .cuts)
+  attachments : OfKind planFormats 6 attachmentFrom (P .attachments)
+  bars : OfKind planFormats 7 barFrom (P .bars)
+  statuses : OfKind planFormats 8 statusFrom (P .statuses)
 
 -- what 0 from the judge says
 record Passed (r : Raw) (P : Plan) : Type 0 where

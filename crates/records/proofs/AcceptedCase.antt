@@ -15,16 +15,16 @@ use Rattle.records.specs.paper.Case.{Case, Observation, caseFormats, obs
 use Rattle.records.specs.promises.Sound.{All, SoundCaseHeading, SoundFamily, SoundObservation, SoundBoolean, SoundRelation, SoundCase}
 use Rattle.records.proofs.Every.{all-any, exactly-one, all-less, all-parts, all-getD}
 use Rattle.records.proofs.FieldLaws.{InFormat, Held, Fitting, held, byte-top, byte-numbers, mask-below, most-top, pairs, list-pairs}
-use Rattle.records.proofs.ReadLaws.{fine-then, of-fine, past-faults, faultless, Judged, Kept, read-keeps, Kind, kind-none, kind-joined, each-sound}
+use Rattle.records.proofs.ReadLaws.{fine-then, of-fine, past-faults, faultless, Judged, Kept, read-keeps, OfKind, kind-none, kind-joined, each-sound}
 
 -- ---- what each record keeps
 
 record Kinds (C : Case) : Type 0 where
-  headings : Kind caseFormats 1 caseHeadingFrom (C .headings)
-  families : Kind caseFormats 2 familyFrom (C .families)
-  booleans : Kind caseFormats 3 booleanFrom (C .booleans)
-  relations : Kind caseFormats 4 relationFrom (C .relations)
-  constraints : Kind caseFormats 5 constraintFrom (C .constraints)
+  headings : OfKind caseFormats 1 caseHeadingFrom (C .headings)
+  families : OfKind caseFormats 2 familyFrom (C .families)
+  booleans : OfKind caseFormats 3 booleanFrom (C .booleans)
+  relations : OfKind caseFormats 4 relationFrom (C .relations)
+  constraints : OfKind caseFormats 5 constraintFrom (C .constraints)
 
 -- what 0 from the judge says
 record Passed (r : Raw) (C : Case) : Type 0 where

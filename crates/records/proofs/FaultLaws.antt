@@ -18,18 +18,18 @@ use Rattle.records.proofs.CheckLaws.{orElse, fault-then, refused-stands
 
 module _ {A : Type 0} (first : ℕ) (fs : List ℕ) (a : A) where
   -- what is still to be said is what the pass says from its start
-  abbrev pub Going : ℕ → Type 0
-  Going k = firstFault (first + k) (drop k fs) (fine a) ≡ firstFault first fs (fine a)
+  abbrev pub NoneYet : ℕ → Type 0
+  NoneYet k = firstFault (first + k) (drop k fs) (fine a) ≡ firstFault first fs (fine a)
 
-  pub going : Going 0
-  going = ap (λ (i : ℕ). firstFault i fs (fine a)) (omega arith)
+  pub none-yet : NoneYet 0
+  none-yet = ap (λ (i : ℕ). firstFault i fs (fine a)) (omega arith)
 
-  module _ (k : ℕ) (g : Going k) where
+  module _ (k : ℕ) (g : NoneYet k) where
     pub faulty : {b : Bool} → k < length fs → fault 4 b ≡ getD fs k 0 → b ≡ false → Refused 4 (first + k) ≡ checkedOf (firstFault first fs (fine a))
     unfolding checkedOf
     faulty h t e = ap checkedOf (fault-stops first fs k 3 (fine a) (firstFault first fs (fine a)) h (ap (fault 4) (sym e) ∙ t) g)
 
-    pub sound : {b : Bool} → k < length fs → fault 4 b ≡ getD fs k 0 → b ≡ true → Going (k + 1)
+    pub sound : {b : Bool} → k < length fs → fault 4 b ≡ getD fs k 0 → b ≡ true → NoneYet (k + 1)
     sound h t e = fault-goes first fs k (fine a) (firstFault first fs (fine a)) h (ap (fault 4) (sym e) ∙ t) g
 
     pub ends : length fs ≤ k → Accepted ≡ checkedOf (firstFault first fs (fine a))
@@ -38,7 +38,7 @@ module _ {A : Type 0} (first : ℕ) (fs : List ℕ) (a : A) where
 
 -- ---- the items of a list
 
-module _ {B C : Type 0} (ok : B → Bool) (ys : List B) (first : ℕ) (a : C) (k : ℕ) (g : Going first (paper.faults 4 ok ys) a k) where
+module _ {B C : Type 0} (ok : B → Bool) (ys : List B) (first : ℕ) (a : C) (k : ℕ) (g : NoneYet first (paper.faults 4 ok ys) a k) where
   long : length (paper.faults 4 ok ys) ≡ length ys
   long = length-map ys (λ x. fault 4 (ok x))
 
@@ -49,21 +49,21 @@ module _ {B C : Type 0} (ok : B → Bool) (ys : List B) (first : ℕ) (a : C) (k
     pub item-faulty : ok y ≡ false → Refused 4 (first + k) ≡ checkedOf (firstFault first (paper.faults 4 ok ys) (fine a))
     item-faulty z = faulty first (paper.faults 4 ok ys) a k g (omega (arith, long)) its z
 
-    pub item-sound : ok y ≡ true → Going first (paper.faults 4 ok ys) a (k + 1)
+    pub item-sound : ok y ≡ true → NoneYet first (paper.faults 4 ok ys) a (k + 1)
     item-sound z = sound first (paper.faults 4 ok ys) a k g (omega (arith, long)) its z
 
   pub items-end : length ys ≤ k → Accepted ≡ checkedOf (firstFault first (paper.faults 4 ok ys) (fine a))
   items-end l = ends first (paper.faults 4 ok ys) a k g (omega (arith, long))
 
 -- records that are made from the first n of an array
-module _ {A B C : Type 0} (ok : B → Bool) (f : A → B) (xs : List A) (n m : ℕ) (long : m ≡ length (map f (take n xs))) (first : ℕ) (a : C) (k : ℕ) (g : Going first (paper.faults 4 ok (map f (take n xs))) a k) where
+module _ {A B C : Type 0} (ok : B → Bool) (f : A → B) (xs : List A) (n m : ℕ) (long : m ≡ length (map f (take n xs))) (first : ℕ) (a : C) (k : ℕ) (g : NoneYet first (paper.faults 4 ok (map f (take n xs))) a k) where
   abbrev ys : List B
   ys = map f (take n xs)
 
   pub one-faulty : (d : A) → k < m → ok (f (getD xs k d)) ≡ false → Refused 4 (first + k) ≡ checkedOf (firstFault first (paper.faults 4 ok ys) (fine a))
   one-faulty d l e = let u : k < length ys = omega (arith, long) in item-faulty ok ys first a k g (f (getD xs k d)) (f d) (getD-front f xs n k d (f d) u) u e
 
-  pub one-sound : (d : A) → k < m → ok (f (getD xs k d)) ≡ true → Going first (paper.faults 4 ok ys) a (k + 1)
+  pub one-sound : (d : A) → k < m → ok (f (getD xs k d)) ≡ true → NoneYet first (paper.faults 4 ok ys) a (k + 1)
   one-sound d l e = let u : k < length ys = omega (arith, long) in item-sound ok ys first a k g (f (getD xs k d)) (f d) (getD-front f xs n k d (f d) u) u e
 
   pub none-left : m ≤ k → Accepted ≡ checkedOf (firstFault first (paper.faults 4 ok ys) (fine a))
@@ -78,7 +78,7 @@ module _ (P : paper.Plan) (xs : List Node) (n m : ℕ) (long : m ≡ length (map
   abbrev nodes : List ℕ
   nodes = paper.eachFrom test 0 (map nodeOf (take n xs))
 
-  module _ (g : Going first nodes P k) where
+  module _ (g : NoneYet first nodes P k) where
     all-nodes : length nodes ≡ m
     all-nodes = length-each test 0 (map nodeOf (take n xs)) ∙ sym long
 
@@ -91,7 +91,7 @@ module _ (P : paper.Plan) (xs : List Node) (n m : ℕ) (long : m ≡ length (map
     pub node-faulty : (d : Node) → k < m → paper.nodeSound P k (nodeOf (getD xs k d)) ≡ false → Refused 4 (first + k) ≡ checkedOf (firstFault first nodes (fine P))
     node-faulty d l e = faulty first nodes P k g (omega (arith, all-nodes)) (this d l) e
 
-    pub node-goes : (d : Node) → k < m → paper.nodeSound P k (nodeOf (getD xs k d)) ≡ true → Going first nodes P (k + 1)
+    pub node-goes : (d : Node) → k < m → paper.nodeSound P k (nodeOf (getD xs k d)) ≡ true → NoneYet first nodes P (k + 1)
     node-goes d l e = sound first nodes P k g (omega (arith, all-nodes)) (this d l) e
 
     pub no-node-left : m ≤ k → Accepted ≡ checkedOf (firstFault first nodes (fine P))

@@ -158,14 +158,14 @@ module _ {F : Type 0} {R : Reading F} {A : Type 0} (D : Kind R A) (s : List ℕ)
     Ends n = Passed R (D .put) (D .K) s headed start before n k at xs
 
     -- the kind is read, and no number refuses it
-    passes : {n : ℕ} → n ≡ 0 → (a : F) → readOn R s at (suc (D .K)) (D .put a xs) k ≡ after R s (suc (D .K)) n k at (D .put a xs)
-    passes {n} z a = sym (ap (λ (b : Bool). cond b (readOn R s at (suc (D .K)) (D .put a xs) k) (refused n k)) (eq-eqb n 0 z))
+    goes-by : {n : ℕ} → n ≡ 0 → (a : F) → readOn R s at (suc (D .K)) (D .put a xs) k ≡ after R s (suc (D .K)) n k at (D .put a xs)
+    goes-by {n} z a = sym (ap (λ (b : Bool). cond b (readOn R s at (suc (D .K)) (D .put a xs) k) (refused n k)) (eq-eqb n 0 z))
 
     pub ends-short : {n : ℕ} → n ≡ 0 → length s ≤ at → Ends n
-    ends-short z h a c = inv .same a c ∙ pass-short R s at (D .put a xs) k (D .K) h ∙ passes z a
+    ends-short z h a c = inv .same a c ∙ pass-short R s at (D .put a xs) k (D .K) h ∙ goes-by z a
 
     pub ends-other : {n : ℕ} → n ≡ 0 → (getD s at 0 ≡ D .K → ⊥) → Ends n
-    ends-other z o a c = inv .same a c ∙ pass-other R s at (D .put a xs) k (D .K) o ∙ passes z a
+    ends-other z o a c = inv .same a c ∙ pass-other R s at (D .put a xs) k (D .K) o ∙ goes-by z a
 
     module _ (le : k ≤ at) (h : at < length s) (e : getD s at 0 ≡ D .K) where
       here : recordAt (R .formats) s at ≡ rawOf (R .formats) (D .K) s (at + 1)

@@ -17,14 +17,14 @@ use Rattle.records.proofs.SetLaws.{and-parts, subset-true}
 use Rattle.records.proofs.FieldLaws.{Ranged, Standing, Held, Fitting, stands, held, byte-in-range, byte-top, byte-numbers, list-numbers, mask-below, pairs, list-pairs}
 use Rattle.records.proofs.ReadLaws.{not-faulty, Made}
 
-abbrev Verdict : Decision → Type 0
-Verdict d = (1 ≤ d .verdict) × (d .verdict < 4)
+abbrev VerdictFits : Decision → Type 0
+VerdictFits d = (1 ≤ d .verdict) × (d .verdict < 4)
 
-decisions-in : (v : List ℕ) → Held (list 64 (number ∷ record { low = 1; top = 3 } ∷ [])) v → (length (decisionsFrom v) ≤ 64) × All Verdict (decisionsFrom v)
+decisions-in : (v : List ℕ) → Held (list 64 (number ∷ record { low = 1; top = 3 } ∷ [])) v → (length (decisionsFrom v) ≤ 64) × All VerdictFits (decisionsFrom v)
 unfolding pairs decisionsFrom
 decisions-in v h =
-    subst (λ (ds : List Decision). (length ds ≤ 64) × All Verdict ds) (same v)
-    (list-pairs make Verdict 64 number (record { low = 1; top = 3 }) (λ x y _ l. (l .0, suc-le-suc (l .1))) v h)
+    subst (λ (ds : List Decision). (length ds ≤ 64) × All VerdictFits ds) (same v)
+    (list-pairs make VerdictFits 64 number (record { low = 1; top = 3 }) (λ x y _ l. (l .0, suc-le-suc (l .1))) v h)
   where
     make : ℕ → ℕ → Decision
     make e d = record { edge = e; verdict = d }
@@ -88,10 +88,10 @@ module _ (P : Plan) where
   one-election [] = zero-le
   one-election (f ∷ bs) = le-refl 1
 
-  decisions-sound : (ds : List Decision) → All Verdict ds → allOf (λ d. ltb (d .edge) (length (P .edges))) ds ≡ true → All (SoundDecision P) ds
+  decisions-sound : (ds : List Decision) → All VerdictFits ds → allOf (λ d. ltb (d .edge) (length (P .edges))) ds ≡ true → All (SoundDecision P) ds
   decisions-sound ds h e =
       let n = length (P .edges) in
-      all-both Verdict (λ d. ltb (d .edge) n ≡ true) (SoundDecision P) (λ d v k. record { edge = ltb-true (d .edge) n k; verdict = v })
+      all-both VerdictFits (λ d. ltb (d .edge) n ≡ true) (SoundDecision P) (λ d v k. record { edge = ltb-true (d .edge) n k; verdict = v })
       ds h (all-tested (λ d. ltb (d .edge) n) ds e)
 
   pub cut-sound : (r : Raw) → Fitting planFormats 5 r → (cutSound P (cutFrom r) ≡ true) × (decidedOnce (cutFrom r .decisions) ≡ true) × (crossingsDecided P (cutFrom r) ≡ true) → SoundCut P (cutFrom r)
@@ -122,7 +122,7 @@ module _ (P : Plan) where
           let z = and-parts edges cuts (y .1) in
           (x .0, y .0, z .0, z .1)
 
-      d : (length (decisionsFrom (field r 4)) ≤ 64) × All Verdict (decisionsFrom (field r 4))
+      d : (length (decisionsFrom (field r 4)) ≤ 64) × All VerdictFits (decisionsFrom (field r 4))
       d = decisions-in (field r 4) (held planFormats 5 r h 4)
 
   pub attachment-sound : (r : Raw) → Fitting planFormats 6 r → attachmentSound P (attachmentFrom r) ≡ true → SoundAttachment P (attachmentFrom r)

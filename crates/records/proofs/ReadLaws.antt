@@ -99,20 +99,20 @@ module _ (formats : List Format) {A : Type 0} (kind : ℕ) (make : Raw → A) wh
   abbrev pub Made : A → Type 0
   Made x = (r : Raw) × Fitting formats kind r × (make r ≡ x)
 
-  abbrev pub Kind : List A → Type 0
-  Kind xs = (length xs ≤ formatOf formats kind .limit) × All Made xs
+  abbrev pub OfKind : List A → Type 0
+  OfKind xs = (length xs ≤ formatOf formats kind .limit) × All Made xs
 
-  pub kind-none : Kind []
+  pub kind-none : OfKind []
   kind-none = (zero-le, tt)
 
   pub kind-joined : (r : Raw) (xs : List A) (counts : List ℕ) → Fitting formats (r .kind) r → getD counts (r .kind - 1) 0 ≤ formatOf formats (r .kind) .limit
-      → getD counts (kind - 1) 0 ≡ length (joined kind make r xs) → Kind xs → Kind (joined kind make r xs)
+      → getD counts (kind - 1) 0 ≡ length (joined kind make r xs) → OfKind xs → OfKind (joined kind make r xs)
   kind-joined r xs counts f l c h = pick (eqb (r .kind) kind) refl c
     where
       own : r .kind ≡ kind → getD counts (kind - 1) 0 ≤ formatOf formats kind .limit
       own e = subst (λ (k : ℕ). getD counts (k - 1) 0 ≤ formatOf formats k .limit) e l
 
-      pick : (b : Bool) → eqb (r .kind) kind ≡ b → getD counts (kind - 1) 0 ≡ length (cond b (xs ++ (make r ∷ [])) xs) → Kind (cond b (xs ++ (make r ∷ [])) xs)
+      pick : (b : Bool) → eqb (r .kind) kind ≡ b → getD counts (kind - 1) 0 ≡ length (cond b (xs ++ (make r ∷ [])) xs) → OfKind (cond b (xs ++ (make r ∷ [])) xs)
       pick true e c =
           let k = eqb-true (r .kind) kind e in (
             subst (λ (n : ℕ). n ≤ formatOf formats kind .limit) c (own k),
@@ -121,5 +121,5 @@ module _ (formats : List Format) {A : Type 0} (kind : ℕ) (make : Raw → A) wh
       pick false e c = h
 
   -- each of them is as it should, if its record and what was tested show it
-  pub each-sound : (R S : A → Type 0) → ((r : Raw) → Fitting formats kind r → R (make r) → S (make r)) → (xs : List A) → Kind xs → All R xs → All S xs
+  pub each-sound : (R S : A → Type 0) → ((r : Raw) → Fitting formats kind r → R (make r) → S (make r)) → (xs : List A) → OfKind xs → All R xs → All S xs
   each-sound R S f xs h t = all-both Made R S (λ x m k. subst S (m .2) (f (m .0) (m .1) (subst R (sym (m .2)) k))) xs (h .1) t

@@ -12,13 +12,13 @@ use Rattle.records.specs.code.Decoded.{booleanOf, factsOf}
 use Rattle.records.specs.paper.Case as case
 use Rattle.records.specs.code.CaseNamed.{booleanFaults}
 use Rattle.records.proofs.ListLaws.{length-front}
-use Rattle.records.proofs.FaultLaws.{Going, going, one-faulty, one-sound, none-left}
+use Rattle.records.proofs.FaultLaws.{NoneYet, none-yet, one-faulty, one-sound, none-left}
 use Rattle.records.proofs.case.naming.boolean_faults.Statement.{statement}
 use Rattle.records.proofs.case.naming.boolean_faults.Tie as tie
 
 abbrev Inv-loop : tie.InvT-loop
 Inv-loop facts first booleans count k₀ k =
-    (k ≤ count) × (count ≤ 64) × (count ≡ length (map booleanOf (take (booleans .count) (booleans .items)))) × ((P : paper.Plan) (C : case.Case) → factsOf facts ≡ P .facts → Going first (booleanFaults P booleans) C k)
+    (k ≤ count) × (count ≤ 64) × (count ≡ length (map booleanOf (take (booleans .count) (booleans .items)))) × ((P : paper.Plan) (C : case.Case) → factsOf facts ≡ P .facts → NoneYet first (booleanFaults P booleans) C k)
 
 abbrev μ-loop : tie.MeasureT-loop
 μ-loop facts first booleans count k₀ k = count - k
@@ -27,7 +27,7 @@ loop-holds : tie.Need-loop-holds Inv-loop μ-loop
 loop-holds c =
     let x = c .before .args .t2 in
     let long : length (x .items) ≡ 64 = simp length-map at (c .before .good .1 .0 .1 .1 .1 .0 .1 .0 .1) in
-    (omega arith, omega (arith, c .least .ensures, min-le-right (x .count) 64), c .least .ensures ∙ sym (length-front booleanOf (x .items) (x .count) 64 long), λ P C e. going (c .before .args .first) (booleanFaults P x) C)
+    (omega arith, omega (arith, c .least .ensures, min-le-right (x .count) 64), c .least .ensures ∙ sym (length-front booleanOf (x .items) (x .count) 64 long), λ P C e. none-yet (c .before .args .first) (booleanFaults P x) C)
 
 returns : tie.Need-returns Inv-loop μ-loop
 unfolding booleanOf

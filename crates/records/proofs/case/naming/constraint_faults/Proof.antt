@@ -11,14 +11,14 @@ use borrow.Author.Tests.{lt-ltb, le-ltb}
 use Rattle.records.specs.paper.Plan as paper
 use Rattle.records.specs.paper.Case as case
 use Rattle.records.specs.code.CaseNamed.{constraintFaults}
-use Rattle.records.proofs.FaultLaws.{Going, going, item-faulty, item-sound, items-end}
+use Rattle.records.proofs.FaultLaws.{NoneYet, none-yet, item-faulty, item-sound, items-end}
 use Rattle.records.proofs.case.naming.constraint_faults.Statement.{statement}
 use Rattle.records.proofs.case.naming.constraint_faults.Tie as tie
 
 abbrev Inv-loop : tie.InvT-loop
 Inv-loop nodes first constraints count k₀ k =
     (k ≤ count) × (count ≤ 16) × (count ≤ constraints .count) × (count ≡ length (take (constraints .count) (constraints .items)))
-    × ((P : paper.Plan) (C : case.Case) → nodes ≡ length (P .nodes) → Going first (constraintFaults P constraints) C k)
+    × ((P : paper.Plan) (C : case.Case) → nodes ≡ length (P .nodes) → NoneYet first (constraintFaults P constraints) C k)
 
 abbrev μ-loop : tie.MeasureT-loop
 μ-loop nodes first constraints count k₀ k = count - k
@@ -28,7 +28,7 @@ loop-holds c =
     let x = c .before .args .t2 in
     let long : length (x .items) ≡ 16 = sym (lib.ListN.length-map (x .items) (λ v. v)) ∙ c .before .good .1 .0 .1 .1 .1 .0 .1 .0 .1 in
     let e = c .least .ensures in
-    (omega arith, omega (arith, e, min-le-right (x .count) 16), omega (arith, e, min-le-left (x .count) 16), e ∙ sym (length-take (x .count) (x .items) ∙ rw long), λ P C h. going (c .before .args .first) (constraintFaults P x) C)
+    (omega arith, omega (arith, e, min-le-right (x .count) 16), omega (arith, e, min-le-left (x .count) 16), e ∙ sym (length-take (x .count) (x .items) ∙ rw long), λ P C h. none-yet (c .before .args .first) (constraintFaults P x) C)
 
 returns : tie.Need-returns Inv-loop μ-loop
 returns c =

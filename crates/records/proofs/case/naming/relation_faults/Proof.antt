@@ -12,13 +12,13 @@ use Rattle.records.specs.code.Decoded.{relationOf, factsOf, familiesOf}
 use Rattle.records.specs.paper.Case as case
 use Rattle.records.specs.code.CaseNamed.{relationFaults}
 use Rattle.records.proofs.ListLaws.{length-front}
-use Rattle.records.proofs.FaultLaws.{Going, going, one-faulty, one-sound, none-left}
+use Rattle.records.proofs.FaultLaws.{NoneYet, none-yet, one-faulty, one-sound, none-left}
 use Rattle.records.proofs.case.naming.relation_faults.Statement.{statement}
 use Rattle.records.proofs.case.naming.relation_faults.Tie as tie
 
 abbrev Inv-loop : tie.InvT-loop
 Inv-loop facts families first relations count k₀ k =
-    (k ≤ count) × (count ≤ 256) × (count ≡ length (map relationOf (take (relations .count) (relations .items)))) × ((P : paper.Plan) (C : case.Case) → factsOf facts ≡ P .facts → familiesOf families ≡ C .families → Going first (relationFaults P C relations) C k)
+    (k ≤ count) × (count ≤ 256) × (count ≡ length (map relationOf (take (relations .count) (relations .items)))) × ((P : paper.Plan) (C : case.Case) → factsOf facts ≡ P .facts → familiesOf families ≡ C .families → NoneYet first (relationFaults P C relations) C k)
 
 abbrev μ-loop : tie.MeasureT-loop
 μ-loop facts families first relations count k₀ k = count - k
@@ -27,7 +27,7 @@ loop-holds : tie.Need-loop-holds Inv-loop μ-loop
 loop-holds c =
     let x = c .before .args .t3 in
     let long : length (x .items) ≡ 256 = simp length-map at (c .before .good .1 .1 .0 .1 .1 .1 .0 .1 .0 .1) in
-    (omega arith, omega (arith, c .least .ensures, min-le-right (x .count) 256), c .least .ensures ∙ sym (length-front relationOf (x .items) (x .count) 256 long), λ P C e h. going (c .before .args .first) (relationFaults P C x) C)
+    (omega arith, omega (arith, c .least .ensures, min-le-right (x .count) 256), c .least .ensures ∙ sym (length-front relationOf (x .items) (x .count) 256 long), λ P C e h. none-yet (c .before .args .first) (relationFaults P C x) C)
 
 returns : tie.Need-returns Inv-loop μ-loop
 returns c =

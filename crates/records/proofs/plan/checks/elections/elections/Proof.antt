@@ -15,7 +15,7 @@ use Rattle.records.specs.code.Decoded.{planOf, electionOf, noElection}
 use Rattle.records.specs.code.Check.{checkedOf}
 use Rattle.records.specs.code.Elections.{agree, earlier, agreement}
 use Rattle.records.proofs.ListLaws.{fault-goes, fault-stops, fault-ends}
-use Rattle.records.proofs.FaultLaws.{Going, going}
+use Rattle.records.proofs.FaultLaws.{NoneYet, none-yet}
 use Rattle.records.proofs.ElectionLaws.{length-agreement, election-fault, Elects, cut-election, attachment-election, Kept, kept-none, kept-more}
 use Rattle.records.specs.declared.plan.Election.{Election}
 use Rattle.records.proofs.plan.checks.elections.elections.Statement.{statement}
@@ -34,7 +34,7 @@ beside ess k kept e g h q s = ap (λ z. agree z (earlier ess k)) (sym h) ∙ g e
 abbrev Inv-loop : tie.InvT-loop
 Inv-loop first cut-count total cuts attachments kept₀ k₀ kept k =
     (k ≤ total) × (length kept ≡ 256) × ((P : Plan) → Elects cuts attachments P → cut-count ≡ length (P .cuts) → total ≡ length (P .cuts) + length (P .attachments)
-    → Going first (agreement P) P k × Kept (electionRecords P) k kept)
+    → NoneYet first (agreement P) P k × Kept (electionRecords P) k kept)
 
 abbrev μ-loop : tie.MeasureT-loop
 μ-loop first cut-count total cuts attachments kept₀ k₀ kept k = total - k
@@ -52,7 +52,7 @@ add-total : tie.Need-add-total Inv-loop μ-loop
 add-total c = omega (arith, c .before .before .before .before .count-records .ensures .1)
 
 loop-holds : tie.Need-loop-holds Inv-loop μ-loop
-loop-holds c = (omega arith, refl, λ P b m n. (going _ (agreement P) P, subst (λ z. Kept (electionRecords P) 0 (replicate 256 z)) (sym (c .no-election .ensures)) (kept-none (electionRecords P) 256)))
+loop-holds c = (omega arith, refl, λ P b m n. (none-yet _ (agreement P) P, subst (λ z. Kept (electionRecords P) 0 (replicate 256 z)) (sym (c .no-election .ensures)) (kept-none (electionRecords P) 256)))
 
 mul-cut : tie.Need-mul-cut Inv-loop μ-loop
 mul-cut c = omega (arith, c .before .before .before .before .before .before .before .before .before .before .before .count-records .ensures .1)

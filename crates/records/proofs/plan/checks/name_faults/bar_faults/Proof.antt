@@ -13,7 +13,7 @@ use Rattle.records.specs.code.Decoded.{barOf}
 use Rattle.records.specs.code.Named.{barFaults}
 use Rattle.records.specs.declared.plan.Bar.{Bar}
 use Rattle.records.proofs.ListLaws.{length-front}
-use Rattle.records.proofs.FaultLaws.{Going, going, one-faulty, one-sound, none-left}
+use Rattle.records.proofs.FaultLaws.{NoneYet, none-yet, one-faulty, one-sound, none-left}
 use Rattle.records.proofs.plan.checks.name_faults.bar_faults.Statement.{statement}
 use Rattle.records.proofs.plan.checks.name_faults.bar_faults.Tie as tie
 
@@ -22,7 +22,7 @@ none = record { members = 0; condition = 0; citation = 0 }
 
 abbrev Inv-loop : tie.InvT-loop
 Inv-loop nodes first bars count k₀ k =
-    (k ≤ count) × (count ≤ 32) × (count ≡ length (map barOf (take (bars .count) (bars .items)))) × ((P : paper.Plan) → nodes ≡ length (P .nodes) → Going first (barFaults P bars) P k)
+    (k ≤ count) × (count ≤ 32) × (count ≡ length (map barOf (take (bars .count) (bars .items)))) × ((P : paper.Plan) → nodes ≡ length (P .nodes) → NoneYet first (barFaults P bars) P k)
 
 abbrev μ-loop : tie.MeasureT-loop
 μ-loop nodes first bars count k₀ k = count - k
@@ -31,7 +31,7 @@ loop-holds : tie.Need-loop-holds Inv-loop μ-loop
 loop-holds c =
     let x = c .before .args .t2 in
     let long : length (x .items) ≡ 32 = simp length-map at (c .before .good .1 .0 .1 .1 .1 .0 .1 .0 .1) in
-    (omega arith, omega (arith, c .least .ensures, min-le-right (x .count) 32), c .least .ensures ∙ sym (length-front barOf (x .items) (x .count) 32 long), λ P e. going (c .before .args .first) (barFaults P x) P)
+    (omega arith, omega (arith, c .least .ensures, min-le-right (x .count) 32), c .least .ensures ∙ sym (length-front barOf (x .items) (x .count) 32 long), λ P e. none-yet (c .before .args .first) (barFaults P x) P)
 
 returns : tie.Need-returns Inv-loop μ-loop
 unfolding barOf

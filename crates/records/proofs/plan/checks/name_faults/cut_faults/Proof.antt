@@ -11,13 +11,13 @@ use Rattle.records.specs.paper.Plan as paper
 use Rattle.records.specs.code.Decoded.{cutOf, factsOf}
 use Rattle.records.specs.code.Named.{cutFaults, CountsOf}
 use Rattle.records.proofs.ListLaws.{length-front}
-use Rattle.records.proofs.FaultLaws.{Going, going, one-faulty, one-sound, none-left}
+use Rattle.records.proofs.FaultLaws.{NoneYet, none-yet, one-faulty, one-sound, none-left}
 use Rattle.records.proofs.plan.checks.name_faults.cut_faults.Statement.{statement}
 use Rattle.records.proofs.plan.checks.name_faults.cut_faults.Tie as tie
 
 abbrev Inv-loop : tie.InvT-loop
 Inv-loop facts counts first cuts count k₀ k =
-    (k ≤ count) × (count ≤ 16) × (count ≡ length (map cutOf (take (cuts .count) (cuts .items)))) × ((P : paper.Plan) → factsOf facts ≡ P .facts → CountsOf P counts → Going first (cutFaults P cuts) P k)
+    (k ≤ count) × (count ≤ 16) × (count ≡ length (map cutOf (take (cuts .count) (cuts .items)))) × ((P : paper.Plan) → factsOf facts ≡ P .facts → CountsOf P counts → NoneYet first (cutFaults P cuts) P k)
 
 abbrev μ-loop : tie.MeasureT-loop
 μ-loop facts counts first cuts count k₀ k = count - k
@@ -26,7 +26,7 @@ loop-holds : tie.Need-loop-holds Inv-loop μ-loop
 loop-holds c =
     let x = c .before .args .t3 in
     let long : length (x .items) ≡ 16 = simp length-map at (c .before .good .1 .1 .0 .1 .1 .1 .0 .1 .0 .1) in
-    (omega arith, omega (arith, c .least .ensures, min-le-right (x .count) 16), c .least .ensures ∙ sym (length-front cutOf (x .items) (x .count) 16 long), λ P e h. going (c .before .args .first) (cutFaults P x) P)
+    (omega arith, omega (arith, c .least .ensures, min-le-right (x .count) 16), c .least .ensures ∙ sym (length-front cutOf (x .items) (x .count) 16 long), λ P e h. none-yet (c .before .args .first) (cutFaults P x) P)
 
 returns : tie.Need-returns Inv-loop μ-loop
 returns c =

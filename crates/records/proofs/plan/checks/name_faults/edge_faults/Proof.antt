@@ -11,13 +11,13 @@ use Rattle.records.specs.paper.Plan as paper
 use Rattle.records.specs.code.Decoded.{edgeOf}
 use Rattle.records.specs.code.Named.{edgeFaults}
 use Rattle.records.proofs.ListLaws.{length-front}
-use Rattle.records.proofs.FaultLaws.{Going, going, one-faulty, one-sound, none-left}
+use Rattle.records.proofs.FaultLaws.{NoneYet, none-yet, one-faulty, one-sound, none-left}
 use Rattle.records.proofs.plan.checks.name_faults.edge_faults.Statement.{statement}
 use Rattle.records.proofs.plan.checks.name_faults.edge_faults.Tie as tie
 
 abbrev Inv-loop : tie.InvT-loop
 Inv-loop nodes first edges count k₀ k =
-    (k ≤ count) × (count ≤ 64) × (count ≡ length (map edgeOf (take (edges .count) (edges .items)))) × ((P : paper.Plan) → nodes ≡ length (P .nodes) → Going first (edgeFaults P edges) P k)
+    (k ≤ count) × (count ≤ 64) × (count ≡ length (map edgeOf (take (edges .count) (edges .items)))) × ((P : paper.Plan) → nodes ≡ length (P .nodes) → NoneYet first (edgeFaults P edges) P k)
 
 abbrev μ-loop : tie.MeasureT-loop
 μ-loop nodes first edges count k₀ k = count - k
@@ -26,7 +26,7 @@ loop-holds : tie.Need-loop-holds Inv-loop μ-loop
 loop-holds c =
     let x = c .before .args .t2 in
     let long : length (x .items) ≡ 64 = simp length-map at (c .before .good .1 .0 .1 .1 .1 .0 .1 .0 .1) in
-    (omega arith, omega (arith, c .least .ensures, min-le-right (x .count) 64), c .least .ensures ∙ sym (length-front edgeOf (x .items) (x .count) 64 long), λ P e. going (c .before .args .first) (edgeFaults P x) P)
+    (omega arith, omega (arith, c .least .ensures, min-le-right (x .count) 64), c .least .ensures ∙ sym (length-front edgeOf (x .items) (x .count) 64 long), λ P e. none-yet (c .before .args .first) (edgeFaults P x) P)
 
 returns : tie.Need-returns Inv-loop μ-loop
 returns c =

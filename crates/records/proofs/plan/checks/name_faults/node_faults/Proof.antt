@@ -11,13 +11,13 @@ use Rattle.records.specs.paper.Plan as paper
 use Rattle.records.specs.code.Decoded.{nodeOf}
 use Rattle.records.specs.code.Named.{nodeFaults}
 use Rattle.records.proofs.ListLaws.{length-front}
-use Rattle.records.proofs.FaultLaws.{Going, going, node-faulty, node-goes, no-node-left}
+use Rattle.records.proofs.FaultLaws.{NoneYet, none-yet, node-faulty, node-goes, no-node-left}
 use Rattle.records.proofs.plan.checks.name_faults.node_faults.Statement.{statement}
 use Rattle.records.proofs.plan.checks.name_faults.node_faults.Tie as tie
 
 abbrev Inv-loop : tie.InvT-loop
 Inv-loop facts first nodes count k₀ k =
-    (k ≤ count) × (count ≤ 256) × (count ≡ length (map nodeOf (take (nodes .count) (nodes .items)))) × ((P : paper.Plan) → facts ≡ length (P .facts) → Going first (nodeFaults P nodes) P k)
+    (k ≤ count) × (count ≤ 256) × (count ≡ length (map nodeOf (take (nodes .count) (nodes .items)))) × ((P : paper.Plan) → facts ≡ length (P .facts) → NoneYet first (nodeFaults P nodes) P k)
 
 abbrev μ-loop : tie.MeasureT-loop
 μ-loop facts first nodes count k₀ k = count - k
@@ -26,7 +26,7 @@ loop-holds : tie.Need-loop-holds Inv-loop μ-loop
 loop-holds c =
     let x = c .before .args .t2 in
     let long : length (x .items) ≡ 256 = simp length-map at (c .before .good .1 .0 .1 .1 .1 .0 .1 .0 .1) in
-    (omega arith, omega (arith, c .least .ensures, min-le-right (x .count) 256), c .least .ensures ∙ sym (length-front nodeOf (x .items) (x .count) 256 long), λ P e. going (c .before .args .first) (nodeFaults P x) P)
+    (omega arith, omega (arith, c .least .ensures, min-le-right (x .count) 256), c .least .ensures ∙ sym (length-front nodeOf (x .items) (x .count) 256 long), λ P e. none-yet (c .before .args .first) (nodeFaults P x) P)
 
 returns : tie.Need-returns Inv-loop μ-loop
 returns c =

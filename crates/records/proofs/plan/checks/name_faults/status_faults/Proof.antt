@@ -13,7 +13,7 @@ use Rattle.records.specs.code.Decoded.{statusOf}
 use Rattle.records.specs.code.Named.{statusFaults}
 use Rattle.records.specs.declared.plan.Status.{Status}
 use Rattle.records.proofs.ListLaws.{length-front}
-use Rattle.records.proofs.FaultLaws.{Going, going, one-faulty, one-sound, none-left}
+use Rattle.records.proofs.FaultLaws.{NoneYet, none-yet, one-faulty, one-sound, none-left}
 use Rattle.records.proofs.plan.checks.name_faults.status_faults.Statement.{statement}
 use Rattle.records.proofs.plan.checks.name_faults.status_faults.Tie as tie
 
@@ -22,7 +22,7 @@ none = record { person = 0; condition = 0; citation = 0 }
 
 abbrev Inv-loop : tie.InvT-loop
 Inv-loop nodes first statuses count k₀ k =
-    (k ≤ count) × (count ≤ 32) × (count ≡ length (map statusOf (take (statuses .count) (statuses .items)))) × ((P : paper.Plan) → nodes ≡ length (P .nodes) → Going first (statusFaults P statuses) P k)
+    (k ≤ count) × (count ≤ 32) × (count ≡ length (map statusOf (take (statuses .count) (statuses .items)))) × ((P : paper.Plan) → nodes ≡ length (P .nodes) → NoneYet first (statusFaults P statuses) P k)
 
 abbrev μ-loop : tie.MeasureT-loop
 μ-loop nodes first statuses count k₀ k = count - k
@@ -31,7 +31,7 @@ loop-holds : tie.Need-loop-holds Inv-loop μ-loop
 loop-holds c =
     let x = c .before .args .t2 in
     let long : length (x .items) ≡ 32 = simp length-map at (c .before .good .1 .0 .1 .1 .1 .0 .1 .0 .1) in
-    (omega arith, omega (arith, c .least .ensures, min-le-right (x .count) 32), c .least .ensures ∙ sym (length-front statusOf (x .items) (x .count) 32 long), λ P e. going (c .before .args .first) (statusFaults P x) P)
+    (omega arith, omega (arith, c .least .ensures, min-le-right (x .count) 32), c .least .ensures ∙ sym (length-front statusOf (x .items) (x .count) 32 long), λ P e. none-yet (c .before .args .first) (statusFaults P x) P)
 
 returns : tie.Need-returns Inv-loop μ-loop
 unfolding statusOf
