@@ -15,14 +15,14 @@ use Rattle.records.specs.promises.Sound.{All}
 use Rattle.records.specs.paper.Plan as paper
 use Rattle.records.specs.paper.Plan.{Plan}
 use Rattle.records.specs.code.Decoded.{cutOf, edgeOf}
-use Rattle.expressions.specs.paper.Rules.{noCut, noEdge, cut, edge, pair}
+use Rattle.expressions.specs.paper.Rules.{noCut, noEdge, cut, edge, pair, endsOf}
 use Rattle.records.specs.declared.plan.Cut.{Cut}
 use Rattle.records.specs.declared.plan.Edge.{Edge}
 use Rattle.records.specs.declared.plan.Cuts.{Cuts}
 use Rattle.records.specs.declared.plan.Edges.{Edges}
 use Rattle.records.proofs.LoopLaws.{all-at, getD-below, length-below}
 use Rattle.expressions.specs.code.Coded.{cutsOf, edgesOf}
-use Rattle.expressions.specs.code.Listed.{endsOf, heldByCut}
+use Rattle.expressions.specs.code.Listed.{heldByCut}
 use Rattle.expressions.specs.declared.decisions.Undecided.{Undecided}
 use Rattle.expressions.specs.paper.Influence.{Open, openTouch}
 use Rattle.expressions.specs.code.Undecided.{pairOf, openAt, opensOf, Named}
@@ -74,7 +74,7 @@ module _ (cuts : Cuts) (edges : Edges) (o : Undecided) (i : ℕ) (h : i < o .cou
 
   pub touch-at : length (cuts .items) ≡ 16 → length (edges .items) ≡ 64 → (d : Cut) (e : Edge) (P : Plan) → P .cuts ≡ cutsOf cuts → P .edges ≡ edgesOf edges
       → union (getD (cuts .items) (getD (o .cuts) i 0) d .members) (endsOf (edgeOf (getD (edges .items) (getD (o .edges) i 0) e))) ≡ openTouch P (openAt (o .cuts) (o .edges) i)
-  unfolding cutsOf edgesOf cutOf cut pair edge endsOf
+  unfolding cutsOf edgesOf cutOf cut pair edge
   touch-at long wide d e P k l =
       ap₂ union
       (ap heldByCut (sym (ap (λ (xs : List paper.Cut). getD xs (getD (o .cuts) i 0) noCut) k ∙ made-at cutOf (cuts .items) (cuts .count) 16 (min (cuts .count) 16) long refl (getD (o .cuts) i 0) d _ (cut-in long))))

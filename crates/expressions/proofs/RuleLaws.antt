@@ -9,8 +9,8 @@ use lib.Seq.{take-length}
 use Rattle.records.specs.paper.Sets.{below}
 use Rattle.records.specs.paper.Plan.{Plan}
 use Rattle.records.specs.promises.Sound.{All}
-use Rattle.expressions.specs.paper.Rules.{ruleSets, pair, withAnchor, edge, cut, attachment, bar}
-use Rattle.expressions.specs.code.Listed.{Rules, lists, Added, usesOf, personsOf, endsOf, withAnchorOf, heldByCut, heldByBar}
+use Rattle.expressions.specs.paper.Rules.{ruleSets, pair, withAnchor, edge, cut, attachment, bar, endsOf, withAnchorOf}
+use Rattle.expressions.specs.code.Listed.{Rules, lists, Added, usesOf, personsOf, heldByCut, heldByBar}
 use Rattle.expressions.proofs.ListLaws.{below-map, front-below, made-next, made-all, made-each}
 
 added-none : (r : Rules) → Added r r [] []
@@ -84,7 +84,7 @@ below-list g d xs =
 
 -- "edges, cuts, attachments with anchor, and bars"
 pub rule-sets : (P : Plan) → ruleSets P ≡ map endsOf (P .edges) ++ (map heldByCut (P .cuts) ++ (map withAnchorOf (P .attachments) ++ map heldByBar (P .bars)))
-unfolding ruleSets pair edge cut attachment bar withAnchor endsOf withAnchorOf
+unfolding ruleSets pair edge cut attachment bar withAnchor
 rule-sets P =
     ap₂ _++_ (below-list endsOf _ (P .edges))
     (ap₂ _++_ (below-list heldByCut _ (P .cuts)) (ap₂ _++_ (below-list withAnchorOf _ (P .attachments)) (below-list heldByBar _ (P .bars))))

@@ -5,9 +5,9 @@ use mathlib.Core.List.{List, [], _∷_, _++_, map, append-assoc}
 use lib.ListN.{length, getD}
 use Rattle.records.specs.paper.Sets.{has, one, union, only, setOf, below, numbers, unionBelow, unionOf}
 use Rattle.records.specs.paper.Plan.{getFact}
-use Rattle.expressions.specs.paper.Rules.{edge, cut, attachment, bar, status, pair, withAnchor}
-use Rattle.expressions.specs.paper.Influence.{Frame, usesAt, edgeUses, cutUses, attachmentUses, barUses, statusUses, usersOf, constraintUses, boundFacts, touched, touch, touches}
-use Rattle.expressions.specs.code.Listed.{endsOf, withAnchorOf, edgeUsed, cutUsed, heldByCut, attachmentUsed, barUsed, heldByBar, statusUsed, heldByStatus, joiningUses, ruleUses, personsByRule, usersIn, touchedBy, touchBy, touchesBy}
+use Rattle.expressions.specs.paper.Rules.{edge, cut, attachment, bar, status, pair, withAnchor, endsOf, withAnchorOf}
+use Rattle.expressions.specs.paper.Influence.{Frame, usesAt, edgeUses, cutUses, attachmentUses, barUses, statusUses, usersOf, constraintUses, boundFacts, touched, touch, touches, edgeUsed}
+use Rattle.expressions.specs.code.Listed.{cutUsed, heldByCut, attachmentUsed, barUsed, heldByBar, statusUsed, heldByStatus, joiningUses, ruleUses, personsByRule, usersIn, touchedBy, touchBy, touchesBy}
 use Rattle.expressions.specs.code.Coded.{Holds}
 use Rattle.expressions.proofs.ListLaws.{below-last}
 use Rattle.expressions.proofs.UnionLaws.{union-assoc, union-none, none-union, union-append}
@@ -61,7 +61,7 @@ union-five a b c d e =
 module _ (F : Frame) where
   -- "Only facts that a condition, defeater or constraint uses are bound"
   pub bound-list : boundFacts F ≡ union (constraintUses F) (unionOf itself (ruleUses (usesAt (F .plan)) (F .plan)))
-  unfolding boundFacts ruleUses joiningUses edgeUses cutUses attachmentUses barUses statusUses edge cut attachment bar status edgeUsed
+  unfolding boundFacts ruleUses joiningUses edgeUses cutUses attachmentUses barUses statusUses edge cut attachment bar status
   bound-list =
       let P = F .plan in
       let at = usesAt P in
@@ -77,7 +77,7 @@ module _ (F : Frame) where
       (union (usersOf (length (F .plan .attachments)) (attachmentUses (F .plan)) (withAnchor (F .plan)) f)
       (union (usersOf (length (F .plan .bars)) (barUses (F .plan)) (λ i. bar (F .plan) i .members) f)
       (usersOf (length (F .plan .statuses)) (statusUses (F .plan)) (λ i. one (status (F .plan) i .person)) f))))
-  unfolding ruleUses joiningUses personsByRule edgeUses cutUses attachmentUses barUses statusUses edge cut attachment bar status edgeUsed pair withAnchor endsOf withAnchorOf
+  unfolding ruleUses joiningUses personsByRule edgeUses cutUses attachmentUses barUses statusUses edge cut attachment bar status pair withAnchor
   users-all f =
       let P = F .plan in
       let at = usesAt P in

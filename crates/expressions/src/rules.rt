@@ -20,7 +20,9 @@ ghost use Rattle.records.specs.paper.Sets.{one};
 ghost use Rattle.records.specs.promises.Sound.{All, Sound};
 ghost use Rattle.records.specs.code.Decoded.{edgeOf, attachmentOf, planOf};
 ghost use Rattle.expressions.specs.code.Coded.{edgesOf, cutsOf, attachmentsOf, barsOf, statusesOf, EndsFit, AnchorFits, PersonFits};
-ghost use Rattle.expressions.specs.code.Listed.{lists, Joining, Listed, usedAt, endsOf, withAnchorOf, edgeUsed, cutUsed, heldByCut, attachmentUsed, barUsed, heldByBar, statusUsed, heldByStatus, Added};
+ghost use Rattle.expressions.specs.paper.Rules.{endsOf, withAnchorOf};
+ghost use Rattle.expressions.specs.paper.Influence.{edgeUsed};
+ghost use Rattle.expressions.specs.code.Listed.{lists, Joining, Listed, usedAt, cutUsed, heldByCut, attachmentUsed, barUsed, heldByBar, statusUsed, heldByStatus, Added};
 
 // A list has its 176 entries, which a reference to it does not tell the proof. The compiler drops the call with its copy.
 fn whole(list: [u64; 176])

@@ -3,24 +3,16 @@ use mathlib.Core.Path.{_≡_}
 use mathlib.Core.List.{List, [], _∷_, _++_, map}
 use Prim.Native.Nat.{ℕ, _+_, _≤_}
 use lib.ListN.{length, getD, take}
-use Rattle.records.specs.paper.Sets.{one, union, unionOf, setOf, has, only, below}
+use Rattle.records.specs.paper.Sets.{one, union, unionOf, has, only, below}
 use Rattle.records.specs.paper.Plan.{Plan, Fact, Edge, Cut, Attachment, Bar, Status}
 use Rattle.expressions.specs.paper.Rules.{ruleSets}
+use Rattle.expressions.specs.paper.Influence.{edgeUsed, touchedWith}
 
 -- what a list of nodes' uses says of a node
 abbrev pub usedAt : List ℕ → ℕ → ℕ
 usedAt us i = getD us i 0
 
 -- ---- one rule
-
-unfoldable pub endsOf : Edge → ℕ
-endsOf e = union (one (e .left)) (one (e .right))
-
-unfoldable pub withAnchorOf : Attachment → ℕ
-withAnchorOf a = union (a .members) (one (a .anchor))
-
-unfoldable pub edgeUsed : (ℕ → ℕ) → Edge → ℕ
-edgeUsed at e = union (at (e .condition)) (unionOf at (e .defeaters))
 
 abbrev pub cutUsed : (ℕ → ℕ) → Cut → ℕ
 cutUsed at c = at (c .condition)
@@ -63,7 +55,7 @@ usersIn f (u ∷ us) (p ∷ ps) = union (only (has u f) p) (usersIn f us ps)
 
 -- whom the fact x of number f touches, where these facts are the constraints'
 unfoldable pub touchedBy : List ℕ → List ℕ → ℕ → ℕ → ℕ → Fact → ℕ
-touchedBy us ps constraints roster f x = union (setOf (x .tuple)) (union (only (has constraints f) roster) (usersIn f us ps))
+touchedBy us ps constraints roster f x = touchedWith constraints roster f x (usersIn f us ps)
 
 -- of each fact; nobody for one that is not among the bound
 unfoldable pub touchBy : List ℕ → List ℕ → ℕ → ℕ → ℕ → List Fact → ℕ → ℕ

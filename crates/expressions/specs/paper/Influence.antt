@@ -5,7 +5,7 @@ use Prim.Native.Nat.{ℕ, zero, suc}
 use lib.ListN.{length, getD}
 use lib.Dec.{eqb}
 use Rattle.records.specs.paper.Sets.{has, one, union, setOf, only, closeOf, below, unionBelow, anyOf, unionOf, meets}
-use Rattle.records.specs.paper.Plan.{Plan, Cut, Decision, getFact}
+use Rattle.records.specs.paper.Plan.{Plan, Fact, Edge, Cut, Decision, getFact}
 use Rattle.expressions.specs.paper.Rules.{noCut, edgeCount, cutCount, attachmentCount, barCount, statusCount, factCount, edge, cut, attachment, bar, status, pair, withAnchor, ruleSets}
 use Rattle.expressions.specs.paper.Nodes.{nodeUses}
 
@@ -33,6 +33,10 @@ unfoldable pub openBelow : List Cut → ℕ → ℕ → List Open
 openBelow cs edges zero = []
 openBelow cs edges (suc n) = openBelow cs edges n ++ openIn (getD cs n noCut .decisions) n edges
 
+-- the facts of an edge's condition and defeaters, where `at` has those of each node
+abbrev pub edgeUsed : (ℕ → ℕ) → Edge → ℕ
+edgeUsed at e = union (at (e .condition)) (unionOf at (e .defeaters))
+
 module _ (P : Plan) where
   abbrev pub says : ℕ → ℕ → ℕ → Bool
   says c e verdict = hasVerdict e verdict (cut P c .decisions)
@@ -58,7 +62,7 @@ module _ (P : Plan) where
   usesAt i = getD (nodeUses P) i 0
 
   unfoldable pub edgeUses : ℕ → ℕ
-  edgeUses i = union (usesAt (edge P i .condition)) (unionOf usesAt (edge P i .defeaters))
+  edgeUses i = edgeUsed usesAt (edge P i)
 
   unfoldable pub cutUses : ℕ → ℕ
   cutUses i = usesAt (cut P i .condition)
@@ -76,6 +80,11 @@ module _ (P : Plan) where
 unfoldable pub usersOf : ℕ → (ℕ → ℕ) → (ℕ → ℕ) → ℕ → ℕ
 usersOf n uses persons f = unionBelow n (λ i. only (has (uses i) f) (persons i))
 
+-- "persons its fact names; the whole roster if a constraint uses it; all persons of rules using it (defeaters too)": of the fact x of number f,
+-- by the facts that constraints use and the persons of its rules
+abbrev pub touchedWith : ℕ → ℕ → ℕ → Fact → ℕ → ℕ
+touchedWith constraints roster f x users = union (setOf (x .tuple)) (union (only (has constraints f) roster) users)
+
 module _ (F : Frame) where
   unfoldable pub constraintUses : ℕ
   constraintUses = unionOf (usesAt (F .plan)) (F .constraints)
@@ -90,17 +99,15 @@ module _ (F : Frame) where
       (union (unionBelow (attachmentCount P) (attachmentUses P))
       (union (unionBelow (barCount P) (barUses P)) (unionBelow (statusCount P) (statusUses P))))))
 
-  -- "persons its fact names; the whole roster if a constraint uses it; all persons of rules using it (defeaters too)"
   unfoldable pub touched : ℕ → ℕ
   touched f =
       let P = F .plan in
-      union (setOf (getFact P f .tuple))
-      (union (only (has constraintUses f) (F .roster))
+      touchedWith constraintUses (F .roster) f (getFact P f)
       (union (usersOf (edgeCount P) (edgeUses P) (pair P) f)
       (union (usersOf (cutCount P) (cutUses P) (λ i. cut P i .members) f)
       (union (usersOf (attachmentCount P) (attachmentUses P) (withAnchor P) f)
       (union (usersOf (barCount P) (barUses P) (λ i. bar P i .members) f)
-      (usersOf (statusCount P) (statusUses P) (λ i. one (status P i .person)) f))))))
+      (usersOf (statusCount P) (statusUses P) (λ i. one (status P i .person)) f)))))
 
   -- "Only bound facts count"
   unfoldable pub touch : ℕ → ℕ

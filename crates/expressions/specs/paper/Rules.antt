@@ -14,6 +14,14 @@ noEdge = record { left = 64; right = 64; condition = 256; citation = 0; defeater
 abbrev pub noCut : Cut
 noCut = record { members = 0; condition = 256; citation = 0; election = []; decisions = []; precedes = [] }
 
+-- the ends of an edge
+abbrev pub endsOf : Edge → ℕ
+endsOf e = union (one (e .left)) (one (e .right))
+
+-- "attachments with anchor"
+abbrev pub withAnchorOf : Attachment → ℕ
+withAnchorOf a = union (a .members) (one (a .anchor))
+
 module _ (P : Plan) where
   abbrev pub edgeCount : ℕ
   edgeCount = length (P .edges)
@@ -48,13 +56,11 @@ module _ (P : Plan) where
   unfoldable pub status : ℕ → Status
   status i = getD (P .statuses) i (record { person = 64; condition = 256; citation = 0 })
 
-  -- the ends of an edge
   unfoldable pub pair : ℕ → ℕ
-  pair i = union (one (edge i .left)) (one (edge i .right))
+  pair i = endsOf (edge i)
 
-  -- "attachments with anchor"
   unfoldable pub withAnchor : ℕ → ℕ
-  withAnchor i = union (attachment i .members) (one (attachment i .anchor))
+  withAnchor i = withAnchorOf (attachment i)
 
   -- "closed under edges, cuts, attachments with anchor, and bars"
   unfoldable pub ruleSets : List ℕ

@@ -15,7 +15,7 @@ use Rattle.records.proofs.plan.Cut.{the-type as cut-type}
 use Rattle.records.proofs.plan.Edge.{the-type as edge-type}
 use Rattle.expressions.specs.paper.Influence.{Open, openTouch}
 use Rattle.expressions.specs.code.Coded.{Holds, EndsFit, cutsOf, edgesOf}
-use Rattle.expressions.specs.code.Listed.{endsOf}
+use Rattle.expressions.specs.paper.Rules.{endsOf}
 use Rattle.expressions.specs.code.Undecided.{openAt, opensOf}
 use Rattle.expressions.proofs.ListLaws.{holds-none, fill-next, below-map, made-each}
 use Rattle.expressions.proofs.DecisionLaws.{cut-in, edge-in, touch-at}

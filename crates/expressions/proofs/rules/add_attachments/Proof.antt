@@ -6,7 +6,8 @@ use lib.ListN.{length-map}
 use borrow.Author.Needs.{needs}
 use Rattle.records.specs.code.Decoded.{attachmentOf}
 use Rattle.expressions.specs.code.Coded.{attachmentsOf, AnchorFits}
-use Rattle.expressions.specs.code.Listed.{usedAt, attachmentUsed, withAnchorOf}
+use Rattle.expressions.specs.paper.Rules.{withAnchorOf}
+use Rattle.expressions.specs.code.Listed.{usedAt, attachmentUsed}
 use Rattle.expressions.proofs.RuleLaws.{Adding, adding-none, adding-each, adding-next, adding-end}
 use Rattle.expressions.proofs.rules.add_attachments.Statement.{statement}
 use Rattle.expressions.proofs.rules.add_attachments.Tie as tie

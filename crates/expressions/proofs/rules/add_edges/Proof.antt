@@ -5,7 +5,9 @@ use lib.ListN.{length-map}
 use borrow.Author.Needs.{needs}
 use Rattle.records.specs.code.Decoded.{edgeOf}
 use Rattle.expressions.specs.code.Coded.{edgesOf, EndsFit}
-use Rattle.expressions.specs.code.Listed.{usedAt, edgeUsed, endsOf}
+use Rattle.expressions.specs.paper.Rules.{endsOf}
+use Rattle.expressions.specs.paper.Influence.{edgeUsed}
+use Rattle.expressions.specs.code.Listed.{usedAt}
 use Rattle.expressions.proofs.RuleLaws.{Adding, adding-none, adding-each, adding-next, adding-end}
 use Rattle.expressions.proofs.rules.add_edges.Statement.{statement}
 use Rattle.expressions.proofs.rules.add_edges.Tie as tie

@@ -3,12 +3,13 @@ use mathlib.Core.Path.{ap₂, ap, _∙_}
 use borrow.Author.Needs.{needs}
 use Rattle.records.specs.paper.Sets.{union}
 use Rattle.records.specs.code.Decoded.{edgeOf}
-use Rattle.expressions.specs.code.Listed.{usedAt, edgeUsed}
+use Rattle.expressions.specs.paper.Influence.{edgeUsed}
+use Rattle.expressions.specs.code.Listed.{usedAt}
 use Rattle.expressions.proofs.rules.edge_use.Statement.{statement}
 use Rattle.expressions.proofs.rules.edge_use.Tie as tie
 
 returns : tie.Need-returns
-unfolding edgeOf edgeUsed
+unfolding edgeOf
 returns c =
     let a = c .before .before .before .before .before .args in
     c .union .ensures ∙ ap₂ union (ap (usedAt (a .nodes .now)) (c .before .before .before .wide .ensures .0)) (c .before .used-by .ensures)

@@ -3,7 +3,7 @@ use mathlib.Core.Path.{ap₂, _∙_}
 use borrow.Author.Needs.{needs}
 use Rattle.records.specs.paper.Sets.{union}
 use Rattle.records.specs.code.Decoded.{edgeOf}
-use Rattle.expressions.specs.code.Listed.{endsOf}
+use Rattle.expressions.specs.paper.Rules.{endsOf}
 use Rattle.expressions.proofs.rules.ends.Statement.{statement}
 use Rattle.expressions.proofs.rules.ends.Tie as tie
 
@@ -16,7 +16,7 @@ unfolding edgeOf
 bit-requires-2 c κs = c .before .pre .1
 
 returns : tie.Need-returns
-unfolding edgeOf endsOf
+unfolding edgeOf
 returns c = c .union .ensures ∙ ap₂ union (c .before .before .bit .ensures) (c .before .bit2 .ensures)
 
 pub ends-spec : {M : Type 1} → statement M

@@ -3,7 +3,7 @@ use mathlib.Core.Path.{ap, _∙_}
 use borrow.Author.Needs.{needs}
 use Rattle.records.specs.paper.Sets.{union}
 use Rattle.records.specs.code.Decoded.{attachmentOf}
-use Rattle.expressions.specs.code.Listed.{withAnchorOf}
+use Rattle.expressions.specs.paper.Rules.{withAnchorOf}
 use Rattle.expressions.proofs.rules.with_anchor.Statement.{statement}
 use Rattle.expressions.proofs.rules.with_anchor.Tie as tie
 
@@ -12,7 +12,7 @@ unfolding attachmentOf
 bit-requires c κs = c .pre
 
 returns : tie.Need-returns
-unfolding attachmentOf withAnchorOf
+unfolding attachmentOf
 returns c = c .union .ensures ∙ ap (union _) (c .before .bit .ensures)
 
 pub with-anchor-spec : {M : Type 1} → statement M

@@ -14,20 +14,11 @@ abbrev μ-loop : tie.MeasureT-loop
 loop-holds : tie.Need-loop-holds Inv-loop μ-loop
 loop-holds c = shifting-none _ _ _
 
-sub-i : tie.Need-sub-i Inv-loop μ-loop
-sub-i c = search needs
-
 slice-read-b : tie.Need-slice-read-b Inv-loop μ-loop
 slice-read-b c = omega (arith, c .before .before .loop .inv .few, c .before .before .loop .inv .long)
 
-add-to : tie.Need-add-to Inv-loop μ-loop
-add-to c = search needs
-
 slice-write-events : tie.Need-slice-write-events Inv-loop μ-loop
 slice-write-events c = omega (arith, c .before .before .loop .inv .few, c .before .before .loop .inv .long)
-
-loop-less : tie.Need-loop-less Inv-loop μ-loop
-loop-less c = search needs
 
 loop-again : tie.Need-loop-again Inv-loop μ-loop
 loop-again c = shifting-next _ _ _ (c .before .before .before .pre) _ _ (c .before .loop-test .taken) (c .before .before .loop .inv)
@@ -45,11 +36,11 @@ shift-up-spec =
     Inv-loop
     μ-loop
     loop-holds
-    sub-i
+    (λ c. search needs)
     slice-read-b
-    add-to
+    (λ c. search needs)
     slice-write-events
-    loop-less
+    (λ c. search needs)
     loop-again
     same-length
     returns)

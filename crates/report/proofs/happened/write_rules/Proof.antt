@@ -5,7 +5,8 @@ use Prim.Native.Nat.{ℕ}
 use native.Mathlib.Omega.{arith}
 use lib.ListN.{length, length-map}
 use borrow.Author.Needs.{needs}
-use Rattle.records.specs.code.Decoded.{planOf, cutOf}
+use Rattle.records.specs.code.Decoded.{planOf, caseOf, cutOf}
+use Rattle.expressions.specs.code.Evident.{EvidenceBy}
 use Rattle.records.specs.declared.plan.Plan.{Plan}
 use Rattle.records.specs.declared.case.Case.{Case}
 use Rattle.records.proofs.plan.Cut.{the-type}
@@ -24,20 +25,20 @@ abbrev counted : tie.After-write-frozen → tie.After-upto
 counted c = c .before .before .before
 
 abbrev start : tie.After-write-frozen → tie.Start
-start c = c .before .before .before .before .before .before .before .before .before
+start c = c .before .before .before .before .before .before .before .before .before .before
 
 -- from later places back to the one after the first call
 abbrev from-applied : tie.After-write-applied → tie.After-write-frozen
-from-applied c = c .before .before .before .before .before
+from-applied c = c .before .before .before .before .before .before
 
 abbrev from-blocked : tie.After-write-blocked → tie.After-write-frozen
-from-blocked c = from-applied (c .before .before .before .before .before)
+from-blocked c = from-applied (c .before .before .before .before .before .before)
 
 abbrev from-clashes : tie.After-write-clashes → tie.After-write-frozen
 from-clashes c = from-blocked (c .before .before .before .before .before)
 
 abbrev from-attachments : tie.After-write-attachments → tie.After-write-frozen
-from-attachments c = from-clashes (c .before .before .before .before .before)
+from-attachments c = from-clashes (c .before .before .before .before .before .before)
 
 abbrev from-bars : tie.After-write-bars → tie.After-write-frozen
 from-bars c = from-attachments (c .before .before .before .before .before)
@@ -48,11 +49,14 @@ from-statuses c = from-bars (c .before .before .before .before .before)
 cuts-long : (c : tie.Start) → length (c .args .plan .cuts .items) ≡ 16
 cuts-long c = sym (length-map (c .args .plan .cuts .items) (the-type .to)) ∙ c .good .1 .0 .1 .1 .1 .1 .1 .1 .1 .1 .1 .0 .1 .1 .1 .0 .1 .0 .1
 
-cuts-counted : (c : tie.After-upto) → c .upto .result ≡ cutCount (planOf (c .before .before .before .before .before .before .args .plan))
+cuts-counted : (c : tie.After-upto) → c .upto .result ≡ cutCount (planOf (c .before .before .before .before .before .before .before .args .plan))
 unfolding planOf
 cuts-counted c =
-    let p = c .before .before .before .before .before .before .args .plan in
-    sym (made-length cutOf (p .cuts .items) (p .cuts .count) 16 (c .upto .result) (cuts-long (c .before .before .before .before .before .before)) (c .upto .ensures .0))
+    let p = c .before .before .before .before .before .before .before .args .plan in
+    sym (made-length cutOf (p .cuts .items) (p .cuts .count) 16 (c .upto .result) (cuts-long (c .before .before .before .before .before .before .before)) (c .upto .ensures .0))
+
+evident : (c : tie.After-write-frozen) → EvidenceBy (caseOf (start c .args .case)) (counted c .before .evidence-by-fact .result)
+evident c = counted c .before .evidence-by-fact .ensures
 
 frozen : (c : tie.After-write-frozen) → At Frozen (start c) (c .write-frozen .last .0) (c .write-frozen .result)
 unfolding planOf edgesOf
@@ -62,13 +66,13 @@ applied : (c : tie.After-write-applied) → At Applied (start (from-applied c)) 
 unfolding planOf cutsOf
 applied c =
     let r = start (from-applied c) .pre in
-    applied-next _ _ _ _ _ _ r (frozen (c .before .before .before .before .before)) (c .write-applied .ensures _ refl (r .cuts))
+    applied-next _ _ _ _ _ _ r (frozen (c .before .before .before .before .before .before)) (c .write-applied .ensures _ _ refl (evident (from-applied c)) (r .cuts))
 
 blocked : (c : tie.After-write-blocked) → At Blocked (start (from-blocked c)) (c .write-blocked .last .0) (c .write-blocked .result)
 unfolding planOf cutsOf
 blocked c =
     let r = start (from-blocked c) .pre in
-    blocked-next _ _ _ _ _ _ r (applied (c .before .before .before .before .before)) (c .write-blocked .ensures _ refl (cuts-counted (counted (from-blocked c))) (r .blocked))
+    blocked-next _ _ _ _ _ _ r (applied (c .before .before .before .before .before .before)) (c .write-blocked .ensures _ _ refl (evident (from-blocked c)) (cuts-counted (counted (from-blocked c))) (r .blocked))
 
 clashed : (c : tie.After-write-clashes) → At Clashed (start (from-clashes c)) (c .write-clashes .last .0) (c .write-clashes .result)
 clashed c =
@@ -79,7 +83,7 @@ attached : (c : tie.After-write-attachments) → At Attached (start (from-attach
 unfolding planOf attachmentsOf
 attached c =
     let r = start (from-attachments c) .pre in
-    attached-next _ _ _ _ _ _ r (clashed (c .before .before .before .before .before)) (c .write-attachments .ensures _ refl (r .attachments))
+    attached-next _ _ _ _ _ _ r (clashed (c .before .before .before .before .before .before)) (c .write-attachments .ensures _ _ refl (evident (from-attachments c)) (r .attachments))
 
 barred : (c : tie.After-write-bars) → At Barred (start (from-bars c)) (c .write-bars .last .0) (c .write-bars .result)
 barred c =
@@ -93,49 +97,32 @@ excluded c =
     excluded-next _ _ _ _ _ _ r (barred (c .before .before .before .before .before)) (c .write-statuses .ensures _ refl (r .statuses))
 
 defaulted : (c : tie.After-write-defaults) → At Defaulted (start (from-statuses (c .before .before .before .before))) (c .write-defaults .last .0) (c .write-defaults .result)
+unfolding planOf cutsOf attachmentsOf
 defaulted c =
     let r = start (from-statuses (c .before .before .before .before)) .pre in
-    defaulted-next _ _ _ _ _ _ r (excluded (c .before .before .before .before)) (c .write-defaults .ensures (r .facts))
+    defaulted-next _ _ _ _ _ _ r (excluded (c .before .before .before .before)) (c .write-defaults .ensures _ refl refl (r .facts))
 
-upto-requires : tie.Need-upto-requires
-upto-requires c κs = search needs
-
-index-1-write-frozen : tie.Need-index-1-write-frozen
-index-1-write-frozen c = search needs
-
-index-2-write-frozen : tie.Need-index-2-write-frozen
-index-2-write-frozen c = search needs
+evidence-by-fact-requires : tie.Need-evidence-by-fact-requires
+evidence-by-fact-requires c κs = c .before .before .before .before .before .pre .read
 
 write-frozen-requires : tie.Need-write-frozen-requires
 write-frozen-requires c κs =
-    let s = c .before .before .before .before .before .before .before .before in
+    let s = c .before .before .before .before .before .before .before .before .before in
     frozen-room (s .args .plan) (s .args .case) (s .args .sums .now) (s .args .noted .now) (s .args .defaults) (s .args .events .now) (s .pre)
-
-index-1-write-applied : tie.Need-index-1-write-applied
-index-1-write-applied c = search needs
-
-index-2-write-applied : tie.Need-index-2-write-applied
-index-2-write-applied c = search needs
 
 write-applied-requires : tie.Need-write-applied-requires
 write-applied-requires c κs =
-    let b = c .before .before .before .before in
+    let b = c .before .before .before .before .before in
     let r = start b .pre in
-    (applied-room _ _ _ _ _ _ r (frozen b), λ i h. let x = r .cuts i h in let y = r .sound .cutLimit in omega arith, r .read)
-
-index-1-write-blocked : tie.Need-index-1-write-blocked
-index-1-write-blocked c = search needs
+    (applied-room _ _ _ _ _ _ r (frozen b), λ i h. let x = r .cuts i h in let y = r .sound .cutLimit in omega arith)
 
 write-blocked-requires : tie.Need-write-blocked-requires
 write-blocked-requires c κs =
-    let b = c .before .before .before .before in
+    let b = c .before .before .before .before .before in
     let a = from-applied b in
     let n = counted a in
     let r = start a .pre in
-    (n .upto .ensures .1, blocked-room _ _ _ _ _ _ r (cuts-counted n) (applied b), r .read)
-
-index-1-write-clashes : tie.Need-index-1-write-clashes
-index-1-write-clashes c = search needs
+    (n .upto .ensures .1, blocked-room _ _ _ _ _ _ r (cuts-counted n) (applied b))
 
 write-clashes-requires : tie.Need-write-clashes-requires
 write-clashes-requires c κs =
@@ -145,35 +132,17 @@ write-clashes-requires c κs =
     let r = start a .pre in
     (n .upto .ensures .1, clashed-room _ _ _ _ _ _ r (cuts-counted n) (blocked b))
 
-index-1-write-attachments : tie.Need-index-1-write-attachments
-index-1-write-attachments c = search needs
-
-index-2-write-attachments : tie.Need-index-2-write-attachments
-index-2-write-attachments c = search needs
-
 write-attachments-requires : tie.Need-write-attachments-requires
 write-attachments-requires c κs =
-    let b = c .before .before .before .before in
+    let b = c .before .before .before .before .before in
     let r = start (from-clashes b) .pre in
-    (attached-room _ _ _ _ _ _ r (clashed b), λ i h. let x = r .attachments i h in let y = r .sound .attachmentLimit in omega arith, r .read)
-
-index-1-write-bars : tie.Need-index-1-write-bars
-index-1-write-bars c = search needs
-
-index-2-write-bars : tie.Need-index-2-write-bars
-index-2-write-bars c = search needs
+    (attached-room _ _ _ _ _ _ r (clashed b), λ i h. let x = r .attachments i h in let y = r .sound .attachmentLimit in omega arith)
 
 write-bars-requires : tie.Need-write-bars-requires
 write-bars-requires c κs =
     let b = c .before .before .before .before in
     let r = start (from-attachments b) .pre in
     barred-room _ _ _ _ _ _ r (attached b)
-
-index-1-write-statuses : tie.Need-index-1-write-statuses
-index-1-write-statuses c = search needs
-
-index-2-write-statuses : tie.Need-index-2-write-statuses
-index-2-write-statuses c = search needs
 
 write-statuses-requires : tie.Need-write-statuses-requires
 write-statuses-requires c κs =
@@ -197,25 +166,26 @@ pub write-rules-spec : {M : Type 1} → statement M
 write-rules-spec =
     tie.close
     (tie.spec
-    upto-requires
-    index-1-write-frozen
-    index-2-write-frozen
+    evidence-by-fact-requires
+    (λ c κs. search needs)
+    (λ c. search needs)
+    (λ c. search needs)
     write-frozen-requires
-    index-1-write-applied
-    index-2-write-applied
+    (λ c. search needs)
+    (λ c. search needs)
     write-applied-requires
-    index-1-write-blocked
+    (λ c. search needs)
     write-blocked-requires
-    index-1-write-clashes
+    (λ c. search needs)
     write-clashes-requires
-    index-1-write-attachments
-    index-2-write-attachments
+    (λ c. search needs)
+    (λ c. search needs)
     write-attachments-requires
-    index-1-write-bars
-    index-2-write-bars
+    (λ c. search needs)
+    (λ c. search needs)
     write-bars-requires
-    index-1-write-statuses
-    index-2-write-statuses
+    (λ c. search needs)
+    (λ c. search needs)
     write-statuses-requires
     write-defaults-requires
     same-length

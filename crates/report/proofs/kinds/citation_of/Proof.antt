@@ -4,9 +4,6 @@ use borrow.Author.Needs.{needs}
 use Rattle.report.proofs.kinds.citation_of.Statement.{statement}
 use Rattle.report.proofs.kinds.citation_of.Tie as tie
 
-cast-result : tie.Need-cast-result
-cast-result c = search needs
-
 returns : tie.Need-returns
 unfolding electionOf
 returns c = rw (c .before .if1 .taken)
@@ -16,4 +13,4 @@ unfolding electionOf
 returns-2 c = rw (c .if1 .left)
 
 pub citation-of-spec : {M : Type 1} → statement M
-citation-of-spec = tie.close (tie.spec cast-result returns returns-2)
+citation-of-spec = tie.close (tie.spec (λ c. search needs) returns returns-2)

@@ -39,12 +39,6 @@ element-copy-out-c c = c .before .before .before .before .pre .1 _ (writing-has 
 cast-t18 : tie.Need-cast-t18 Inv-loop μ-loop
 cast-t18 c = omega (arith, c .before .before .low .ensures .1)
 
-actor-of-requires : tie.Need-actor-of-requires Inv-loop μ-loop
-actor-of-requires c κs = search needs
-
-election-evidence-requires : tie.Need-election-evidence-requires Inv-loop μ-loop
-election-evidence-requires c κs = search needs
-
 sub-write-event : tie.Need-sub-write-event Inv-loop μ-loop
 sub-write-event c =
     let r = writing-room _ _ _ _ _ _ _ (c .before .before .before .before .before .before .loop .inv) (c .before .before .before .before .before .loop-test .taken) (c .before .before .before .before .before .before .before .before .pre .0) in
@@ -54,9 +48,6 @@ part-write-event-start : tie.Need-part-write-event-start Inv-loop μ-loop
 part-write-event-start c =
     let r = writing-room _ _ _ _ _ _ _ (c .before .before .before .before .before .before .loop .inv) (c .before .before .before .before .before .loop-test .taken) (c .before .before .before .before .before .before .before .before .pre .0) in
     omega arith
-
-part-write-event-end : tie.Need-part-write-event-end Inv-loop μ-loop
-part-write-event-end c = search needs
 
 write-event-requires : tie.Need-write-event-requires Inv-loop μ-loop
 write-event-requires c κs =
@@ -102,11 +93,11 @@ write-applied-spec =
     mul-c
     element-copy-out-c
     cast-t18
-    actor-of-requires
-    election-evidence-requires
+    (λ c κs. search needs)
+    (λ c κs. search needs)
     sub-write-event
     part-write-event-start
-    part-write-event-end
+    (λ c. search needs)
     write-event-requires
     add-place
     others-requires

@@ -38,9 +38,6 @@ element-copy-out-a c = c .before .before .before .before .pre .1 _ (writing-has 
 cast-t18 : tie.Need-cast-t18 Inv-loop μ-loop
 cast-t18 c = omega (arith, c .before .before .low .ensures .1)
 
-election-evidence-requires : tie.Need-election-evidence-requires Inv-loop μ-loop
-election-evidence-requires c κs = search needs
-
 sub-write-event : tie.Need-sub-write-event Inv-loop μ-loop
 sub-write-event c =
     let r = writing-room _ _ _ _ _ _ _ (c .before .before .before .before .before .loop .inv) (c .before .before .before .before .loop-test .taken) (c .before .before .before .before .before .before .before .pre .0) in
@@ -50,9 +47,6 @@ part-write-event-start : tie.Need-part-write-event-start Inv-loop μ-loop
 part-write-event-start c =
     let r = writing-room _ _ _ _ _ _ _ (c .before .before .before .before .before .loop .inv) (c .before .before .before .before .loop-test .taken) (c .before .before .before .before .before .before .before .pre .0) in
     omega arith
-
-part-write-event-end : tie.Need-part-write-event-end Inv-loop μ-loop
-part-write-event-end c = search needs
 
 write-event-requires : tie.Need-write-event-requires Inv-loop μ-loop
 write-event-requires c κs =
@@ -98,10 +92,10 @@ write-attachments-spec =
     mul-a
     element-copy-out-a
     cast-t18
-    election-evidence-requires
+    (λ c κs. search needs)
     sub-write-event
     part-write-event-start
-    part-write-event-end
+    (λ c. search needs)
     write-event-requires
     add-place
     others-requires

@@ -29,8 +29,8 @@ abbrev μ-loop : tie.MeasureT-loop
 returns : tie.Need-returns Inv-loop μ-loop
 unfolding defaultOver
 returns c = λ P e k b.
-    let a = c .before .args in
-    let fits = c .before .fits .defaults .fits in
+    let a = c .before .before .args in
+    let fits = c .before .before .fits .defaults .fits in
     writes-listed (made P) (factCount P) (a .at) (a .defaults) fits b
     (writing-end (λ (Q : Plan). made Q) (a .at) (a .defaults) (a .events .now) (a .defaults) (a .at) (a .events .now) (writing-none (λ (Q : Plan). made Q) (a .at) (a .defaults) (a .events .now) fits) (c .if1 .taken) P)
 
@@ -40,17 +40,8 @@ loop-holds c = writing-none _ _ _ _ (c .before .before .before .fits .defaults .
 low-requires : tie.Need-low-requires Inv-loop μ-loop
 low-requires c κs = c .loop-test .taken
 
-cast-t11 : tie.Need-cast-t11 Inv-loop μ-loop
-cast-t11 c = omega (arith, c .before .low .ensures .1)
-
-actor-of-requires : tie.Need-actor-of-requires Inv-loop μ-loop
-actor-of-requires c κs = search needs
-
-default-of-requires : tie.Need-default-of-requires Inv-loop μ-loop
-default-of-requires c κs = search needs
-
-citation-of-requires : tie.Need-citation-of-requires Inv-loop μ-loop
-citation-of-requires c κs = search needs
+cast-t19 : tie.Need-cast-t19 Inv-loop μ-loop
+cast-t19 c = omega (arith, c .before .low .ensures .1)
 
 sub-write-event : tie.Need-sub-write-event Inv-loop μ-loop
 sub-write-event c =
@@ -61,9 +52,6 @@ part-write-event-start : tie.Need-part-write-event-start Inv-loop μ-loop
 part-write-event-start c =
     let r = writing-room _ _ _ _ _ _ _ (c .before .before .before .before .before .before .loop .inv) (c .before .before .before .before .before .loop-test .taken) (c .before .before .before .before .before .before .before .before .before .before .pre) in
     omega arith
-
-part-write-event-end : tie.Need-part-write-event-end Inv-loop μ-loop
-part-write-event-end c = search needs
 
 write-event-requires : tie.Need-write-event-requires Inv-loop μ-loop
 write-event-requires c κs =
@@ -89,12 +77,12 @@ loop-again c =
     writing-next _ _ _ _ _ _ _ (l .inv) _ _ _ _ _ _ _ _ (c .before .before .before .before .before .before .before .before .before .low .ensures) (c .others .ensures) r (c .before .before .before .write-event .ensures)
     (λ x. rw (c .before .before .before .before .before .before .before .actor-of .ensures, c .before .before .before .before .before .before .default-of .ensures, c .before .before .before .before .before .citation-of .ensures, x .1 .at t (c .before .before .before .before .before .before .before .before .before .low .ensures .1)) (default-read t (elections (x .0) t)))
 
-same-length-2 : tie.Need-same-length-2 Inv-loop μ-loop
-same-length-2 c = c .before .loop .inv .long
+same-length : tie.Need-same-length Inv-loop μ-loop
+same-length c = c .before .loop .inv .long
 
 returns-2 : tie.Need-returns-2 Inv-loop μ-loop
 unfolding defaultOver
-returns-2 c = λ P e k b. writes-listed _ _ _ _ (c .before .before .before .before .before .fits .defaults .fits) b (writing-end _ _ _ _ _ _ _ (c .before .loop .inv) (c .loop-test .left) (P, c .before .before .before .elect .ensures P e k, b))
+returns-2 c = λ P e k b. writes-listed _ _ _ _ (c .before .before .before .before .before .fits .defaults .fits) b (writing-end _ _ _ _ _ _ _ (c .before .loop .inv) (c .loop-test .left) (P, c .before .before .elect .ensures P e k, b))
 
 pub write-defaults-spec : {M : Type 1} → statement M
 write-defaults-spec =
@@ -102,24 +90,23 @@ write-defaults-spec =
     (tie.spec
     Inv-loop
     μ-loop
-    (λ c. search needs)
     returns
     (λ c κs. search needs)
     loop-holds
     low-requires
-    (λ c. search needs)
-    (λ c. search needs)
-    cast-t11
-    actor-of-requires
-    default-of-requires
-    citation-of-requires
+    (λ c. omega (arith, c .low .ensures .1))
+    (λ c. omega (arith, c .low .ensures .1))
+    cast-t19
+    (λ c κs. search needs)
+    (λ c κs. search needs)
+    (λ c κs. search needs)
     sub-write-event
     part-write-event-start
-    part-write-event-end
+    (λ c. search needs)
     write-event-requires
     add-place
     others-requires
     loop-less
     loop-again
-    same-length-2
+    same-length
     returns-2)

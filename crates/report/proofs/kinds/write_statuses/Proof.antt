@@ -46,9 +46,6 @@ part-write-event-start c =
     let r = writing-room _ _ _ _ _ _ _ (c .before .before .before .loop .inv) (c .before .before .loop-test .taken) (c .before .before .before .before .before .pre .0) in
     omega arith
 
-part-write-event-end : tie.Need-part-write-event-end Inv-loop μ-loop
-part-write-event-end c = search needs
-
 write-event-requires : tie.Need-write-event-requires Inv-loop μ-loop
 write-event-requires c κs =
     let r = writing-room _ _ _ _ _ _ _ (c .before .before .before .before .loop .inv) (c .before .before .before .loop-test .taken) (c .before .before .before .before .before .before .pre .0) in
@@ -94,7 +91,7 @@ write-statuses-spec =
     cast-t16
     sub-write-event
     part-write-event-start
-    part-write-event-end
+    (λ c. search needs)
     write-event-requires
     add-place
     others-requires

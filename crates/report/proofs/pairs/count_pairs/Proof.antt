@@ -20,26 +20,11 @@ loop-holds : tie.Need-loop-holds Inv-loop μ-loop
 unfolding sizes
 loop-holds c = (omega arith, refl, omega arith)
 
-mul-size : tie.Need-mul-size Inv-loop μ-loop
-mul-size c = search needs
-
-element-copy-out-size : tie.Need-element-copy-out-size Inv-loop μ-loop
-element-copy-out-size c = search needs
-
-size-requires : tie.Need-size-requires Inv-loop μ-loop
-size-requires c κs = search needs
-
 cast-count : tie.Need-cast-count Inv-loop μ-loop
 cast-count c = omega (arith, c .size .ensures, size-le (entry (c .before .before .before .before .args .sets .now) (c .before .before .before .loop .i)))
 
 add-count : tie.Need-add-count Inv-loop μ-loop
 add-count c = omega (arith, c .size .ensures, size-le (entry (c .before .before .before .before .args .sets .now) (c .before .before .before .loop .i)))
-
-add-i : tie.Need-add-i Inv-loop μ-loop
-add-i c = search needs
-
-loop-less : tie.Need-loop-less Inv-loop μ-loop
-loop-less c = search needs
 
 loop-again : tie.Need-loop-again Inv-loop μ-loop
 loop-again c =
@@ -60,12 +45,12 @@ count-pairs-spec =
     Inv-loop
     μ-loop
     loop-holds
-    mul-size
-    element-copy-out-size
-    size-requires
+    (λ c. search needs)
+    (λ c. search needs)
+    (λ c κs. search needs)
     cast-count
     add-count
-    add-i
-    loop-less
+    (λ c. search needs)
+    (λ c. search needs)
     loop-again
     returns)

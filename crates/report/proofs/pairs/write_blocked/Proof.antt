@@ -29,41 +29,8 @@ abbrev μ-loop : tie.MeasureT-loop
 loop-holds : tie.Need-loop-holds Inv-loop μ-loop
 loop-holds c = (omega arith, pairing-none _ _ _ _)
 
-mul-c : tie.Need-mul-c Inv-loop μ-loop
-mul-c c = search needs
-
-element-copy-out-c : tie.Need-element-copy-out-c Inv-loop μ-loop
-element-copy-out-c c = search needs
-
-mul-if1 : tie.Need-mul-if1 Inv-loop μ-loop
-mul-if1 c = search needs
-
-element-copy-out-if1 : tie.Need-element-copy-out-if1 Inv-loop μ-loop
-element-copy-out-if1 c = search needs
-
-cast-t21 : tie.Need-cast-t21 Inv-loop μ-loop
-cast-t21 c = search needs
-
-actor-of-requires : tie.Need-actor-of-requires Inv-loop μ-loop
-actor-of-requires c κs = search needs
-
-election-evidence-requires : tie.Need-election-evidence-requires Inv-loop μ-loop
-election-evidence-requires c κs = search needs
-
-mul-write-pairs : tie.Need-mul-write-pairs Inv-loop μ-loop
-mul-write-pairs c = search needs
-
-element-copy-out-write-pairs : tie.Need-element-copy-out-write-pairs Inv-loop μ-loop
-element-copy-out-write-pairs c = search needs
-
 write-pairs-requires : tie.Need-write-pairs-requires Inv-loop μ-loop
 write-pairs-requires c κs = pairing-room _ _ _ _ _ _ _ (c .before .before .before .before .before .before .before .before .before .loop .inv .1) _ (c .before .before .before .before .before .before .before .before .loop-test .taken) (c .before .before .before .before .before .before .before .before .before .before .before .pre .1)
-
-add-i : tie.Need-add-i Inv-loop μ-loop
-add-i c = search needs
-
-loop-less : tie.Need-loop-less Inv-loop μ-loop
-loop-less c = search needs
 
 loop-again : tie.Need-loop-again Inv-loop μ-loop
 unfolding cutOf
@@ -98,18 +65,18 @@ write-blocked-spec =
     Inv-loop
     μ-loop
     loop-holds
-    mul-c
-    element-copy-out-c
-    mul-if1
-    element-copy-out-if1
-    cast-t21
-    actor-of-requires
-    election-evidence-requires
-    mul-write-pairs
-    element-copy-out-write-pairs
+    (λ c. search needs)
+    (λ c. search needs)
+    (λ c. search needs)
+    (λ c. search needs)
+    (λ c. search needs)
+    (λ c κs. search needs)
+    (λ c κs. search needs)
+    (λ c. search needs)
+    (λ c. search needs)
     write-pairs-requires
-    add-i
-    loop-less
+    (λ c. search needs)
+    (λ c. search needs)
     loop-again
     same-length
     returns)

@@ -19,23 +19,8 @@ abbrev μ-loop : tie.MeasureT-loop
 loop-holds : tie.Need-loop-holds Inv-loop μ-loop
 loop-holds c = (omega arith, pairing-none _ _ _ _)
 
-cast-t9 : tie.Need-cast-t9 Inv-loop μ-loop
-cast-t9 c = search needs
-
-mul-write-pairs : tie.Need-mul-write-pairs Inv-loop μ-loop
-mul-write-pairs c = search needs
-
-element-copy-out-write-pairs : tie.Need-element-copy-out-write-pairs Inv-loop μ-loop
-element-copy-out-write-pairs c = search needs
-
 write-pairs-requires : tie.Need-write-pairs-requires Inv-loop μ-loop
 write-pairs-requires c κs = pairing-room _ _ _ _ _ _ _ (c .before .before .before .loop .inv .1) _ (c .before .before .loop-test .taken) (c .before .before .before .before .before .pre .1)
-
-add-i : tie.Need-add-i Inv-loop μ-loop
-add-i c = search needs
-
-loop-less : tie.Need-loop-less Inv-loop μ-loop
-loop-less c = search needs
 
 loop-again : tie.Need-loop-again Inv-loop μ-loop
 loop-again c =
@@ -59,12 +44,12 @@ write-clashes-spec =
     Inv-loop
     μ-loop
     loop-holds
-    cast-t9
-    mul-write-pairs
-    element-copy-out-write-pairs
+    (λ c. search needs)
+    (λ c. search needs)
+    (λ c. search needs)
     write-pairs-requires
-    add-i
-    loop-less
+    (λ c. search needs)
+    (λ c. search needs)
     loop-again
     same-length
     returns)

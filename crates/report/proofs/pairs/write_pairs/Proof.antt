@@ -34,9 +34,6 @@ part-write-event-start c =
     let r = writing-room _ _ _ _ _ _ _ (c .before .before .loop .inv) (c .before .loop-test .taken) (c .before .before .before .before .pre) in
     omega arith
 
-part-write-event-end : tie.Need-part-write-event-end Inv-loop μ-loop
-part-write-event-end c = search needs
-
 write-event-requires : tie.Need-write-event-requires Inv-loop μ-loop
 write-event-requires c κs =
     let r = writing-room _ _ _ _ _ _ _ (c .before .before .before .loop .inv) (c .before .before .loop-test .taken) (c .before .before .before .before .before .pre) in
@@ -78,7 +75,7 @@ write-pairs-spec =
     cast-t10
     sub-write-event
     part-write-event-start
-    part-write-event-end
+    (λ c. search needs)
     write-event-requires
     add-place
     others-requires

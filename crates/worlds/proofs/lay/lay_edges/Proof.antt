@@ -12,7 +12,7 @@ use Rattle.records.specs.code.Decoded.{edgeOf}
 use Rattle.records.specs.declared.plan.Edge.{Edge as Coded}
 use Rattle.records.proofs.plan.Edge.{the-type}
 use Rattle.expressions.specs.code.Coded.{edgesOf}
-use Rattle.expressions.specs.code.Listed.{endsOf}
+use Rattle.expressions.specs.paper.Rules.{endsOf}
 use Rattle.expressions.specs.paper.Rules.{edge, pair}
 use Rattle.expressions.proofs.ListLaws.{made-length, made-at, made-each}
 use Rattle.worlds.specs.code.Laid.{Same, EdgeFits}
@@ -103,7 +103,7 @@ loop-again c =
     )
 
 returns : tie.Need-returns Inv-loop μ-loop
-unfolding edgesOf edge pair endsOf
+unfolding edgesOf edge pair
 returns c =
     let l = c .before in
     let a = l .before in
