@@ -14,6 +14,7 @@ abbrev pub All : {A : Type 0} → (A → Type 0) → List A → Type 0
 All Q [] = Unit {0}
 All Q (x ∷ xs) = Q x × All Q xs
 
+-- so many at most, each below a bound
 abbrev pub Numbers : ℕ → ℕ → List ℕ → Type 0
 Numbers most bound ns = (length ns ≤ most) × All (λ n. n < bound) ns
 
@@ -73,7 +74,7 @@ module _ (P : Plan) where
     pub decisions : All SoundDecision (c .decisions)
     pub once : decidedOnce (c .decisions) ≡ true
     pub precedes : Numbers 16 (length (P .cuts)) (c .precedes)
-    -- check 6
+    -- refusal 6 was not found
     pub crossings : crossingsDecided P c ≡ true
 
   pub record SoundAttachment (a : Attachment) : Type 0 where
@@ -115,7 +116,7 @@ pub record Sound (P : Plan) : Type 0 where
   pub bars : All (SoundBar P) (P .bars)
   pub statusLimit : length (P .statuses) ≤ 32
   pub statuses : All (SoundStatus P) (P .statuses)
-  -- check 7
+  -- refusal 7 was not found
   pub elections : All (λ n. n ≡ 0) (electionFaults [] (electionRecords P))
 
 -- ---- the records of a case

@@ -104,7 +104,7 @@ pub fn read_case_records(s: &[u8]) -> CaseRead
     }
 }
 
-// A case over its plan: refusals 1, 2 and 3 as records are read, then 4 over all of them.
+// A case over its plan: refusals 1, 2 and 3 as records are read, then 4 over all of them. In a refusal the case is free, in a success the record.
 pub fn read_case(plan: Plan, s: &[u8]) -> CaseRead
     ensures { λ r. ⌜ caseReadOf r ≡ readCase (planOf plan) (now (s .entry)) ⌝ }
 {

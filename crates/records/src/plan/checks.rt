@@ -33,7 +33,7 @@ pub fn plan_faults(plan: Plan) -> Checked
     elections(plan)
 }
 
-// The plan that comes out of its bytes, or its refusal: for the crates above.
+// The plan that comes out of its bytes, or its refusal: for the crates above. In a refusal the plan is free, in a success the record.
 pub fn decode_plan(s: &[u8]) -> PlanRead
     ensures { λ r. ⌜ planReadOf r ≡ checkedPlan (now (s .entry)) ⌝ }
 {
