@@ -1,6 +1,7 @@
 //! Classes of inputs for measuring, by size.
 
 use crate::build;
+use crate::families;
 use crate::generate::{self, Input, Size};
 use crate::random::Random;
 use crate::village::{self, Shape};
@@ -19,7 +20,7 @@ pub struct Class {
     any: fn(&mut Random) -> Input,
 }
 
-pub const ALL: [Class; 7] = [
+pub const ALL: [Class; 9] = [
     SMALL,
     Class { name: "small-fit", what: "the same, buffers that just fit", fit: true, ..SMALL },
     Class {
@@ -50,6 +51,13 @@ pub const ALL: [Class; 7] = [
         ..SMALL
     },
     Class {
+        name: "families",
+        what: "12 families of 5, an open fact each, 4,096 worlds",
+        any: families::apart,
+        ..CROWD
+    },
+    CROWD,
+    Class {
         name: "chain-10",
         what: "1 person, a chain of 10 nodes, as chain-12",
         any: |_| chain(10),
@@ -66,6 +74,16 @@ const SMALL: Class = Class {
     count: 20,
     fit: false,
     any: |random| generate::input(random, FEW),
+};
+
+const CROWD: Class = Class {
+    name: "crowd",
+    what: "the same families, joined into one crowd",
+    persons: (60, 60),
+    worlds: (4096, 4096),
+    count: 2,
+    fit: false,
+    any: families::crowd,
 };
 
 const CHAIN: Class = Class {

@@ -4,6 +4,7 @@
 pub mod build;
 pub mod calls;
 pub mod classes;
+pub mod families;
 pub mod generate;
 pub mod mutate;
 pub mod random;

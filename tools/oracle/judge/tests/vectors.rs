@@ -4,8 +4,10 @@ use inputs::vectors::Vector;
 use judge::sides::model_answers;
 use model::Citing;
 
-const LISTS: [&str; 2] =
-    [include_str!("../../../../crates/replay/data/vectors.txt"), include_str!("../../../../vectors/sample.txt")];
+const LISTS: [&str; 2] = [
+    include_str!("../../../../crates/replay/data/vectors.txt"),
+    include_str!("../../../../vectors/sample.txt"),
+];
 
 #[test]
 fn the_lists_agree_with_the_model() {
