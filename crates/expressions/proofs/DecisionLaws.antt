@@ -1,5 +1,5 @@
 -- Laws of the unresolved decisions: searched by number, listed one by one, and how many there are.
-use Prim.Native.Nat.{ℕ, suc, _+_, _≤_, _<_, min}
+use Prim.Native.Nat.{ℕ, _+_, _≤_, _<_, min}
 use mathlib.Core.Path.{_≡_, refl, sym, ap, ap₂, _∙_, subst}
 use mathlib.Core.Bool.{Bool, false, _&&_, _||_, or-false, and-false}
 use mathlib.Core.List.{List, [], _∷_, _++_}

@@ -1,8 +1,7 @@
 -- `evidence::evidence_by_fact`: booleans, then relations, from nothing.
 use Prim.Native.Nat.{ℕ}
-use mathlib.Core.Path.{_≡_, ap, _∙_}
+use mathlib.Core.Path.{ap, _∙_}
 use lib.Dec.{eqb}
-use borrow.Author.Needs.{needs}
 use Rattle.records.specs.paper.Sets.{union, only, unionOf}
 use Rattle.records.specs.code.Decoded.{caseOf}
 use Rattle.expressions.specs.code.Evident.{evidenceMark, booleanEvidence}

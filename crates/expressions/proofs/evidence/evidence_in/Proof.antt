@@ -1,6 +1,5 @@
 -- `evidence::evidence_in`: its observations, then explicit unknown.
 use mathlib.Core.Path.{_∙_}
-use borrow.Author.Needs.{needs}
 use Rattle.expressions.proofs.UnionLaws.{none-union}
 use Rattle.expressions.proofs.EvidenceLaws.{observations-evident, unknown-evident, given-unknown, given-seen}
 use Rattle.expressions.proofs.evidence.evidence_in.Statement.{statement}

@@ -3,7 +3,6 @@ use mathlib.Core.Path.{ap₂, ap, _∙_}
 use borrow.Author.Needs.{needs}
 use Rattle.records.specs.paper.Sets.{union}
 use Rattle.records.specs.code.Decoded.{edgeOf}
-use Rattle.expressions.specs.paper.Influence.{edgeUsed}
 use Rattle.expressions.specs.code.Listed.{usedAt}
 use Rattle.expressions.proofs.rules.edge_use.Statement.{statement}
 use Rattle.expressions.proofs.rules.edge_use.Tie as tie

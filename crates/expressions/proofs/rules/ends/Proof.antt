@@ -3,7 +3,6 @@ use mathlib.Core.Path.{ap₂, _∙_}
 use borrow.Author.Needs.{needs}
 use Rattle.records.specs.paper.Sets.{union}
 use Rattle.records.specs.code.Decoded.{edgeOf}
-use Rattle.expressions.specs.paper.Rules.{endsOf}
 use Rattle.expressions.proofs.rules.ends.Statement.{statement}
 use Rattle.expressions.proofs.rules.ends.Tie as tie
 

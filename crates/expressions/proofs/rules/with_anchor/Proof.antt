@@ -3,7 +3,6 @@ use mathlib.Core.Path.{ap, _∙_}
 use borrow.Author.Needs.{needs}
 use Rattle.records.specs.paper.Sets.{union}
 use Rattle.records.specs.code.Decoded.{attachmentOf}
-use Rattle.expressions.specs.paper.Rules.{withAnchorOf}
 use Rattle.expressions.proofs.rules.with_anchor.Statement.{statement}
 use Rattle.expressions.proofs.rules.with_anchor.Tie as tie
 
