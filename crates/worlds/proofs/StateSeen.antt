@@ -244,22 +244,22 @@ module _ (C : ℕ → Bool) (P : Plan) (roster : ℕ) (K : Uncrossed C P) (a b :
       go false = sym (or-false (has (s .moved) j))
 
   abbrev Moved : State → State → Type 0
-  Moved s t = Flag C (span P) (has (s .moved)) (has (t .moved))
+  Moved s t = Flag C (withAnchor P) (has (s .moved)) (has (t .moved))
 
   attach-moved : (i : ℕ) (s t : State) → Alike C s t → Moved s t → Moved (attach P m a i s) (attach P n b i t)
-  unfolding span
+  unfolding withAnchor
   attach-moved i s t A M j q h e = moved-at m a i s j ∙ ap₂ _||_ (M j q h e) (go (eqb i j) refl) ∙ sym (moved-at n b i t j)
     where
-      same : has (span P i) q ≡ true → taken a s i ≡ taken b t i
+      same : has (withAnchor P i) q ≡ true → taken a s i ≡ taken b t i
       same k =
           ap₂ (λ (x : Bool) (y : ℕ). x && not (eqb y 0)) (S .attachments i q k e)
           (A .same (anchor i) (at-single C (anchor i) (in-right C (attachment P i .members) (one (anchor i)) (ins C (span-side C P K i) k e))))
 
       go : (x : Bool) → eqb i j ≡ x → (taken a s i && x) ≡ (taken b t i && x)
-      go true z = ap (λ (y : Bool). y && true) (same (subst (λ (k : ℕ). has (span P k) q ≡ true) (sym (eqb-true i j z)) h))
+      go true z = ap (λ (y : Bool). y && true) (same (subst (λ (k : ℕ). has (withAnchor P k) q ≡ true) (sym (eqb-true i j z)) h))
       go false z = and-false (taken a s i) ∙ sym (and-false (taken b t i))
 
-  pub last-moved : Flag C (span P) (has (lastState P roster m a ka .moved)) (has (lastState P roster n b kb .moved))
+  pub last-moved : Flag C (withAnchor P) (has (lastState P roster m a ka .moved)) (has (lastState P roster n b kb .moved))
   unfolding lastState firstState
   last-moved =
       fold-two (λ s t. Alike C s t × Moved s t) (attach P m a) (attach P n b) (attachmentCount P)
