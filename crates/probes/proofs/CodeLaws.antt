@@ -1,4 +1,4 @@
--- A code below 6 is the number of what it stands for; from 6 on it stands for a conflict of both. Assumes nothing.
+-- A code below 6 is the number of what it stands for; from 6 on it stands for a conflict of both.
 use mathlib.Core.Path.{_≡_, refl, ap}
 use Prim.Native.Nat.{ℕ, zero, suc, _≤_, _<_, _-_}
 use native.Mathlib.Omega.{arith}

@@ -1,4 +1,4 @@
--- From what was read to the definitions: a plan and a case that were read are the accepted ones, and bind as the code's structs say. Assumes nothing.
+-- From what was read to the definitions: a plan and a case that were read are the accepted ones, and bind as the code's structs say.
 use mathlib.Core.Path.{_≡_, refl, sym, ap, _∙_, subst}
 use mathlib.Core.Bool.{Bool, true, false, cond}
 use mathlib.Core.List.{List, []}

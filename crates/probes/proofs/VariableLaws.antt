@@ -1,4 +1,4 @@
--- The variables among what a world gives values to, as numbers, one after another. Assumes nothing.
+-- The variables among what a world gives values to, as numbers, one after another.
 use mathlib.Core.Path.{_≡_, refl, sym, ap, ap₂, _∙_}
 use mathlib.Core.Bool.{Bool, true, false, cond}
 use mathlib.Core.List.{List, [], _∷_, _++_, map, flatMap, append-assoc, append-nil, map-append}

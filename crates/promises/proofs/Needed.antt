@@ -1,5 +1,4 @@
 -- Each clause of the circle is needed: with any one left out, strangers do show. So is the difference between Known and a Conflict of one value.
--- Assumes nothing.
 use mathlib.Core.Path.{subst, _∙_, ap, sym, _≡_, refl}
 use mathlib.Core.Bool.{Bool, true, false, _&&_, not, true≢false}
 use mathlib.Core.List.{List, [], _∷_, map}

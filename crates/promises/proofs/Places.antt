@@ -1,4 +1,4 @@
--- Every roster person has a place, and the line at it names the person. Assumes nothing.
+-- Every roster person has a place, and the line at it names the person.
 use mathlib.Core.Path.{_≡_, refl, ap, _∙_}
 use mathlib.Core.Bool.{Bool, true, false, not, cond, _&&_}
 use mathlib.Core.List.{List, [], _∷_}

@@ -1,5 +1,4 @@
 -- A table of pairs of cases whose lines differ though no fact that differs touches the circle, once one clause of the circle is left out.
--- Assumes nothing.
 use mathlib.Core.Path.{_≡_, refl}
 use mathlib.Core.Bool.{Bool, true, false, _&&_, not}
 use mathlib.Core.List.{List, [], _∷_, _++_, map, flatMap}

@@ -1,4 +1,4 @@
--- The starred cases of document 01, "Both sides of each rule", as one table and one theorem: what `answer` gives for these bytes. Assumes nothing.
+-- The starred cases of document 01, "Both sides of each rule", as one table and one theorem: what `answer` gives for these bytes.
 use mathlib.Core.Path.{_≡_, refl}
 use mathlib.Core.List.{List, [], _∷_, _++_, map, flatMap}
 use Prim.Native.Nat.{ℕ, _*_}

@@ -1,4 +1,4 @@
--- The lines of a case that is answered: one for each roster person, rising. Assumes nothing.
+-- The lines of a case that is answered: one for each roster person, rising.
 use mathlib.Core.Path.{_≡_, refl, sym, ap, _∙_, subst}
 use mathlib.Core.Bool.{Bool, true, false, cond}
 use mathlib.Core.List.{List, [], _∷_, map}

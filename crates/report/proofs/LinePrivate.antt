@@ -1,4 +1,4 @@
--- One person's line over two bindings that are alike at what touches the person's circle. Assumes nothing.
+-- One person's line over two bindings that are alike at what touches the person's circle.
 use mathlib.Core.Path.{_≡_, sym, ap, _∙_, subst}
 use mathlib.Core.Bool.{Bool, true, false, cond}
 use mathlib.Core.List.{List, [], _∷_, _++_, map, map-append}

@@ -1,4 +1,4 @@
--- The bytes of a line at its place in the buffer. Assumes nothing.
+-- The bytes of a line at its place in the buffer.
 use mathlib.Core.Path.{_≡_, refl, ap, _∙_}
 use mathlib.Core.List.{List, [], _∷_, _++_, map, flatMap, append-assoc}
 use Prim.Native.Nat.{ℕ, zero, suc, _+_, _*_, _-_, _≤_, _<_}

@@ -1,4 +1,4 @@
--- `lukhveri_bindable`: number and record of the refusal. Assumes nothing.
+-- `lukhveri_bindable`: number and record of the refusal.
 use borrow.Author.Needs.{needs}
 use Rattle.probes.specs.Entries.{caseRefusal}
 use Rattle.probes.proofs.lukhveri_bindable.Statement.{statement}

@@ -1,4 +1,4 @@
--- `lukhveri_binding`: the number of the binding at the fact. Assumes nothing.
+-- `lukhveri_binding`: the number of the binding at the fact.
 use mathlib.Core.Path.{ap, _∙_}
 use Prim.Native.Nat.{ℕ}
 use borrow.Author.Needs.{needs}

@@ -1,4 +1,4 @@
--- `lukhveri_influence`: the set of that number. Assumes nothing.
+-- `lukhveri_influence`: the set of that number.
 use mathlib.Core.Path.{ap, _∙_}
 use Prim.Native.Nat.{ℕ}
 use mathlib.Core.List.{List}

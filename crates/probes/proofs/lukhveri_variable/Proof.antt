@@ -1,4 +1,4 @@
--- `lukhveri_variable`: the number at that place. Assumes nothing.
+-- `lukhveri_variable`: the number at that place.
 use mathlib.Core.Path.{ap, _∙_}
 use mathlib.Core.List.{List}
 use Prim.Native.Nat.{ℕ}

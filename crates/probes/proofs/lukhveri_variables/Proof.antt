@@ -1,4 +1,4 @@
--- `lukhveri_variables`: how many the list has. Assumes nothing.
+-- `lukhveri_variables`: how many the list has.
 use mathlib.Core.Path.{ap, _∙_}
 use lib.ListN.{length}
 use borrow.Author.Needs.{needs}

@@ -1,4 +1,4 @@
--- `lukhveri_worlds`: count and maximum. Assumes nothing.
+-- `lukhveri_worlds`: count and maximum.
 use mathlib.Core.Path.{ap}
 use borrow.Author.Needs.{needs}
 use Rattle.expressions.specs.declared.variables.Count.{Count}

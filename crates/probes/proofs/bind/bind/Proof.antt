@@ -1,4 +1,4 @@
--- `bind::bind`: the plan and the case that were read are the accepted ones, or their refusal stands. Assumes nothing.
+-- `bind::bind`: the plan and the case that were read are the accepted ones, or their refusal stands.
 use mathlib.Core.Path.{subst}
 use borrow.Author.Needs.{needs}
 use Rattle.records.specs.paper.Fields.{Verdict}

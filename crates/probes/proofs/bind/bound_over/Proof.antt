@@ -1,4 +1,4 @@
--- `bind::bound_over`: what the crate below gives of plan and case, part by part. Assumes nothing.
+-- `bind::bound_over`: what the crate below gives of plan and case, part by part.
 use mathlib.Core.Path.{_≡_, _∙_, subst}
 use Prim.Native.Nat.{ℕ}
 use lib.ListN.{getD}

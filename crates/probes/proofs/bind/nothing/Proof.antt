@@ -1,4 +1,4 @@
--- `bind::nothing`: zeros at every fact, no sets, no order, and the refusal. Assumes nothing.
+-- `bind::nothing`: zeros at every fact, no sets, no order, and the refusal.
 use mathlib.Core.Path.{refl, ap}
 use Rattle.expressions.specs.code.Codes.{boundOf}
 use Rattle.expressions.specs.code.Influences.{setsOf}

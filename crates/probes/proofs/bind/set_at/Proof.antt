@@ -1,4 +1,4 @@
--- `bind::set_at`: within the count and the array, or nobody. Assumes nothing.
+-- `bind::set_at`: within the count and the array, or nobody.
 use mathlib.Core.Path.{_≡_, sym, _∙_}
 use native.Mathlib.Omega.{arith}
 use borrow.Author.Needs.{needs}

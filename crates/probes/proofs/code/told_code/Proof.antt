@@ -1,4 +1,4 @@
--- `code::told_code`: the code itself, or 6. Assumes nothing.
+-- `code::told_code`: the code itself, or 6.
 use native.Mathlib.Omega.{arith}
 use Rattle.probes.proofs.CodeLaws.{code-below, code-from}
 use Rattle.probes.proofs.code.told_code.Statement.{statement}

@@ -1,4 +1,4 @@
--- `refusal::refusal_of`: by the two cases of the answer. Assumes nothing.
+-- `refusal::refusal_of`: by the two cases of the answer.
 use mathlib.Core.Path.{sym, _∙_}
 use mathlib.Core.Bool.{true, false}
 use borrow.Author.Needs.{needs}

@@ -1,4 +1,4 @@
--- `variables::add`: the number is stored at the end. Assumes nothing.
+-- `variables::add`: the number is stored at the end.
 use Prim.Native.Nat.{ℕ}
 use mathlib.Core.Path.{_≡_, refl, sym, ap, _∙_}
 use native.Mathlib.Numerals.{add-one}

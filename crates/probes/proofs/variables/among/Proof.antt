@@ -1,4 +1,4 @@
--- `variables::among`: after i of the order, the numbers of the variables among them. Assumes nothing.
+-- `variables::among`: after i of the order, the numbers of the variables among them.
 use Prim.Native.Nat.{ℕ, _+_, _≤_, _<_, _-_}
 use mathlib.Core.Path.{_≡_, refl, sym, ap, _∙_}
 use mathlib.Core.Logic.{⊎-elim}

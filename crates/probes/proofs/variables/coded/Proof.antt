@@ -1,4 +1,4 @@
--- `variables::coded`: a fact with its candidates, a decision with both. Assumes nothing.
+-- `variables::coded`: a fact with its candidates, a decision with both.
 use mathlib.Core.Path.{ap, _∙_}
 use mathlib.Core.Logic.{⊎-elim}
 use mathlib.Core.List.{map}

@@ -1,4 +1,4 @@
--- `variables::list_variables`: of what is bound, the variables. Assumes nothing.
+-- `variables::list_variables`: of what is bound, the variables.
 use mathlib.Core.Path.{_∙_}
 use borrow.Author.Needs.{needs}
 use Rattle.expressions.specs.code.Slots.{slotsOf}

@@ -1,4 +1,4 @@
--- `variables::variable_at`: within the count and the array, or 0. Assumes nothing.
+-- `variables::variable_at`: within the count and the array, or 0.
 use mathlib.Core.Path.{_≡_, sym, _∙_}
 use native.Mathlib.Omega.{arith}
 use borrow.Author.Needs.{needs}

@@ -1,4 +1,4 @@
--- `variables::varies`: a fact by its code, a decision always. Assumes nothing.
+-- `variables::varies`: a fact by its code, a decision always.
 use mathlib.Core.Path.{ap, _∙_}
 use mathlib.Core.List.{map}
 use Prim.Native.Nat.{ℕ}
