@@ -1,31 +1,25 @@
 -- A table of pairs of cases whose lines differ though no fact that differs touches the circle, once one clause of the circle is left out.
 use mathlib.Core.Path.{_≡_, refl}
 use mathlib.Core.Bool.{Bool, true, false, _&&_, not}
-use mathlib.Core.List.{List, [], _∷_, _++_, map, flatMap}
+use mathlib.Core.List.{List, [], _∷_, _++_, map}
 use Prim.Native.Nat.{ℕ}
 use lib.ListN.{getD}
-use lib.Count.{onesIn, trailingZeros}
 use lib.Dec.{eqb, ltb}
-use Rattle.records.specs.paper.Sets.{has, one, union, meet, minus, disjoint, meets, subset, setOf, size, lowest, membersFrom, members, lexLess, risingLess, absorb, pass, passes, closeOf, numbers, below, anyBelow, unionBelow, foldBelow, allOf, anyOf, unionOf}
-use Rattle.records.specs.paper.Fields.{refused, fine, Verdict, byteAt, bytesAt, repeat, little, fieldAt, fieldsAt, recordAt, readFrom, firstFault}
-use Rattle.records.specs.code.Check.{checkedOf}
-use Rattle.records.specs.paper.Plan.{emptyPlan, Plan, planFormats, nodeFrom, electionFrom, decisionsFrom, addToPlan, planCounts, isBoolean, rises, factsRise, decidedOnce, unresolvedIn, unresolved, judgePlan, planRecords, eachFrom, getFact, nodeSound, edgeSound, electionSound, cutSound, attachmentSound, namingFaults, crosses, crossingsDecided, sameElection, electionFaults, planFaults, checkedPlan}
-use Rattle.records.specs.paper.Case.{emptyCase, CaseHeading, Case, caseFormats, observationsFrom, addToCase, caseCounts, judgeCase, caseRecords, relationSound, caseNamingFaults, readCase, caseHeading}
-use Rattle.expressions.specs.paper.Rules.{factCount, rulePersons, edge, cut, attachment, bar, status, pair, withAnchor, ruleSets, chained}
-use Rattle.expressions.specs.paper.Nodes.{value, valuesFrom, values, uses, usesFrom, nodeUses}
-use Rattle.expressions.specs.paper.Influence.{openIn, openBelow, openDecisions, openDecision, decisionTouch, edgeUses, cutUses, attachmentUses, barUses, statusUses, usersOf, constraintUses, boundFacts, touched, touch, touches, decisionTouches, joins, circle, touchesCircle}
-use Rattle.expressions.specs.paper.Bindings.{frameOf, conflict, unknown, known, unbound, Bound, both, just, evidenceOf, valuesSeen, weighed, elections, defaultOf, boundBoolean, inScope, boundRelation, bindingOf, bindings, tookDefault, observedInBooleans, observedInRelations, unknownIn, electionsIn, scoped, bindingBy, bindingsBy, tookDefaultBy, familyFaults, booleanFault, booleanFaults, bindable}
-use Rattle.expressions.specs.paper.Variables.{choices, booleanCount, slots, waysOf, worldCount, set, valuations, admissible, worlds, factInfluence, decisionInfluence, influence}
-use Rattle.worlds.specs.paper.Active.{flags, active, blocksEdge}
-use Rattle.worlds.specs.paper.World.{about, baseSet, baseSets, clique, loose, looseComponent, looseComponents, spread, chainStep, preceded, keptCut, keptCuts, overlappingCut, overlappingCuts, blockedBy, blockedCut, appliedCuts, discretionSeed, overlapSeed, marksOf, marked, cutMembers, appliedTo, restSets, firstBlock, firstState, move, attach, lastState, barredBy, excludedBy, afterMarks, worldOf}
-use Rattle.worlds.specs.paper.View.{roleOf, edgeCitations, leads, cutCitations, attachmentCitations, barCitations, statusCitations, citations, view}
-use Rattle.worlds.specs.paper.Events.{littleBytes, event, listed, frozenEvents, appliedEvents, blockedEvents, leastOfMerged, overlapEvents, attachmentEvents, barEvents, statusEvents, discretionEvents, eventsOf}
-use Rattle.report.specs.paper.Line.{lineBytes, firstKind, holding, lineOver, lineIn}
+use Rattle.records.specs.paper.Sets.{has, size, lowest, members, anyBelow}
+use Rattle.records.specs.paper.Fields.{refused, fine, Verdict}
+use Rattle.records.specs.paper.Plan.{emptyPlan, Plan, unresolved, checkedPlan}
+use Rattle.records.specs.paper.Case.{emptyCase, CaseHeading, Case, readCase, caseHeading}
+use Rattle.expressions.specs.paper.Rules.{factCount, edge, cut, attachment, bar, status}
+use Rattle.expressions.specs.paper.Nodes.{value, values}
+use Rattle.expressions.specs.paper.Influence.{touches, circle}
+use Rattle.expressions.specs.paper.Bindings.{frameOf, conflict, unknown, known, unbound, Bound, both, just, bindingOf}
+use Rattle.expressions.specs.paper.Variables.{choices, influence}
+use Rattle.worlds.specs.paper.View.{citations}
 use Rattle.report.specs.paper.LineAt.{lineAt}
-use Rattle.report.specs.paper.EventList.{insert, rising, defaultEvents}
-use Rattle.report.specs.paper.Operations.{Outcome, told, check, mismatched, headingFault, tooMany, counted, bound, opened, written, influences, allWorlds, linesOver, eventsOver, linesOf, answerReady, answer, showFrom, show}
+use Rattle.report.specs.paper.Operations.{Outcome, told, bound, answer}
 use Rattle.promises.proofs.Starred.{mask, chain, always, base, roster₀}
 use Rattle.promises.specs.Weaker.{edges, cuts, attachments, anchors, bars, decisions, tuples, strangers, rosters, edgeUsers, defeaters, cutUsers, attachmentUsers, barUsers, statusUsers, sharedFacts, none, edgeUsesBut, touchedBut, touchBut, withAnchorBut, joinsBut, touchesBut}
+use Rattle.promises.proofs.Computing.{computing}
 
 -- ---- the table: plans and cases of which person 0 has the first line
 
@@ -250,5 +244,5 @@ sameValues x y = sameBound (conflict (choices x)) (conflict (choices y))
 -- ---- THE TABLE HOLDS
 
 pub computed : (map (found sameBound) table ≡ map expected table) × (found sameValues oneCandidate ≡ expected oneCandidate)
-unfolding table oneCandidate edgeUsesBut touchedBut touchBut withAnchorBut joinsBut touchesBut lineAt flatMap onesIn trailingZeros has one union meet minus disjoint meets subset setOf size lowest membersFrom members lexLess risingLess absorb pass passes closeOf numbers below anyBelow unionBelow foldBelow allOf anyOf unionOf byteAt bytesAt repeat little fieldAt fieldsAt recordAt readFrom firstFault planFormats nodeFrom electionFrom decisionsFrom addToPlan planCounts isBoolean rises factsRise decidedOnce unresolvedIn unresolved judgePlan planRecords eachFrom getFact nodeSound edgeSound electionSound cutSound attachmentSound namingFaults crosses crossingsDecided sameElection electionFaults planFaults checkedPlan caseFormats observationsFrom addToCase caseCounts judgeCase caseRecords relationSound caseNamingFaults readCase caseHeading edge cut attachment bar status pair withAnchor ruleSets chained value valuesFrom values uses usesFrom nodeUses openIn openBelow openDecisions openDecision decisionTouch edgeUses cutUses attachmentUses barUses statusUses usersOf constraintUses boundFacts touched touch touches decisionTouches joins circle touchesCircle evidenceOf valuesSeen weighed elections defaultOf boundBoolean inScope boundRelation bindingOf bindings tookDefault observedInBooleans observedInRelations unknownIn electionsIn scoped bindingBy bindingsBy tookDefaultBy familyFaults booleanFault booleanFaults bindable booleanCount slots waysOf worldCount set valuations admissible worlds factInfluence decisionInfluence influence flags active blocksEdge about baseSet baseSets clique loose looseComponent looseComponents spread chainStep preceded keptCut keptCuts overlappingCut overlappingCuts blockedBy blockedCut appliedCuts discretionSeed overlapSeed marksOf marked cutMembers appliedTo restSets firstBlock firstState move attach lastState barredBy excludedBy afterMarks worldOf roleOf edgeCitations leads cutCitations attachmentCitations barCitations statusCitations citations view littleBytes event listed frozenEvents appliedEvents blockedEvents leastOfMerged overlapEvents attachmentEvents barEvents statusEvents discretionEvents eventsOf lineBytes firstKind holding lineOver lineIn insert rising defaultEvents check checkedOf rulePersons mismatched headingFault tooMany counted bound opened written influences allWorlds linesOver eventsOver linesOf answerReady answer showFrom show
+unfolding table oneCandidate edgeUsesBut touchedBut touchBut withAnchorBut joinsBut touchesBut lineAt computing
 computed = (refl, refl)

@@ -3,24 +3,12 @@ use mathlib.Core.Path.{_≡_, refl}
 use mathlib.Core.List.{List, [], _∷_, _++_, map, flatMap}
 use Prim.Native.Nat.{ℕ, _*_}
 use lib.ListN.{length}
-use lib.Count.{onesIn, trailingZeros}
-use Rattle.records.specs.paper.Sets.{has, one, union, meet, minus, disjoint, meets, subset, setOf, size, lowest, membersFrom, members, lexLess, risingLess, absorb, pass, passes, closeOf, numbers, below, anyBelow, unionBelow, foldBelow, allOf, anyOf, unionOf}
-use Rattle.records.specs.paper.Fields.{byteAt, bytesAt, repeat, little, fieldAt, fieldsAt, recordAt, readFrom, firstFault}
-use Rattle.records.specs.code.Check.{checkedOf}
-use Rattle.records.specs.paper.Plan.{planFormats, nodeFrom, electionFrom, decisionsFrom, addToPlan, planCounts, isBoolean, rises, factsRise, decidedOnce, unresolvedIn, unresolved, judgePlan, planRecords, eachFrom, getFact, nodeSound, edgeSound, electionSound, cutSound, attachmentSound, namingFaults, crosses, crossingsDecided, sameElection, electionFaults, planFaults, checkedPlan}
-use Rattle.records.specs.paper.Case.{caseFormats, observationsFrom, addToCase, caseCounts, judgeCase, caseRecords, relationSound, caseNamingFaults, readCase, caseHeading}
-use Rattle.expressions.specs.paper.Rules.{rulePersons, edge, cut, attachment, bar, status, pair, withAnchor, ruleSets, chained}
-use Rattle.expressions.specs.paper.Nodes.{value, valuesFrom, values, uses, usesFrom, nodeUses}
-use Rattle.expressions.specs.paper.Influence.{openIn, openBelow, openDecisions, openDecision, decisionTouch, edgeUses, cutUses, attachmentUses, barUses, statusUses, usersOf, constraintUses, boundFacts, touched, touch, touches, decisionTouches, joins, circle, touchesCircle}
-use Rattle.expressions.specs.paper.Bindings.{evidenceOf, valuesSeen, weighed, elections, defaultOf, boundBoolean, inScope, boundRelation, bindingOf, bindings, tookDefault, observedInBooleans, observedInRelations, unknownIn, electionsIn, scoped, bindingBy, bindingsBy, tookDefaultBy, familyFaults, booleanFault, booleanFaults, bindable}
-use Rattle.expressions.specs.paper.Variables.{booleanCount, slots, waysOf, worldCount, set, valuations, admissible, worlds, factInfluence, decisionInfluence, influence}
-use Rattle.worlds.specs.paper.Active.{flags, active, blocksEdge}
-use Rattle.worlds.specs.paper.World.{about, baseSet, baseSets, clique, loose, looseComponent, looseComponents, spread, chainStep, preceded, keptCut, keptCuts, overlappingCut, overlappingCuts, blockedBy, blockedCut, appliedCuts, discretionSeed, overlapSeed, marksOf, marked, cutMembers, appliedTo, restSets, firstBlock, firstState, move, attach, lastState, barredBy, excludedBy, afterMarks, worldOf}
-use Rattle.worlds.specs.paper.View.{roleOf, edgeCitations, leads, cutCitations, attachmentCitations, barCitations, statusCitations, citations, view}
-use Rattle.worlds.specs.paper.Events.{littleBytes, event, listed, frozenEvents, appliedEvents, blockedEvents, leastOfMerged, overlapEvents, attachmentEvents, barEvents, statusEvents, discretionEvents, eventsOf}
-use Rattle.report.specs.paper.Line.{lineBytes, firstKind, holding, lineOver, lineIn}
-use Rattle.report.specs.paper.EventList.{insert, rising, defaultEvents}
-use Rattle.report.specs.paper.Operations.{told, check, mismatched, headingFault, tooMany, counted, bound, opened, written, influences, allWorlds, linesOver, eventsOver, linesOf, answerReady, answer, showFrom, show}
+use Rattle.records.specs.paper.Sets.{one, members}
+use Rattle.records.specs.paper.Plan.{unresolved}
+use Rattle.expressions.specs.paper.Rules.{edge, cut, bar, status}
+use Rattle.expressions.specs.paper.Variables.{worlds}
+use Rattle.report.specs.paper.Operations.{told, answer}
+use Rattle.promises.proofs.Computing.{computing}
 
 -- ---- records as bytes
 
@@ -185,5 +173,5 @@ abbrev pub expected : Starred → List ℕ × ℕ
 expected c = (flatMap (λ l. l) (c .lines), c .worlds)
 
 pub starred : map found table ≡ map expected table
-unfolding table flatMap onesIn trailingZeros has one union meet minus disjoint meets subset setOf size lowest membersFrom members lexLess risingLess absorb pass passes closeOf numbers below anyBelow unionBelow foldBelow allOf anyOf unionOf byteAt bytesAt repeat little fieldAt fieldsAt recordAt readFrom firstFault planFormats nodeFrom electionFrom decisionsFrom addToPlan planCounts isBoolean rises factsRise decidedOnce unresolvedIn unresolved judgePlan planRecords eachFrom getFact nodeSound edgeSound electionSound cutSound attachmentSound namingFaults crosses crossingsDecided sameElection electionFaults planFaults checkedPlan caseFormats observationsFrom addToCase caseCounts judgeCase caseRecords relationSound caseNamingFaults readCase caseHeading edge cut attachment bar status pair withAnchor ruleSets chained value valuesFrom values uses usesFrom nodeUses openIn openBelow openDecisions openDecision decisionTouch edgeUses cutUses attachmentUses barUses statusUses usersOf constraintUses boundFacts touched touch touches decisionTouches joins circle touchesCircle evidenceOf valuesSeen weighed elections defaultOf boundBoolean inScope boundRelation bindingOf bindings tookDefault observedInBooleans observedInRelations unknownIn electionsIn scoped bindingBy bindingsBy tookDefaultBy familyFaults booleanFault booleanFaults bindable booleanCount slots waysOf worldCount set valuations admissible worlds factInfluence decisionInfluence influence flags active blocksEdge about baseSet baseSets clique loose looseComponent looseComponents spread chainStep preceded keptCut keptCuts overlappingCut overlappingCuts blockedBy blockedCut appliedCuts discretionSeed overlapSeed marksOf marked cutMembers appliedTo restSets firstBlock firstState move attach lastState barredBy excludedBy afterMarks worldOf roleOf edgeCitations leads cutCitations attachmentCitations barCitations statusCitations citations view littleBytes event listed frozenEvents appliedEvents blockedEvents leastOfMerged overlapEvents attachmentEvents barEvents statusEvents discretionEvents eventsOf lineBytes firstKind holding lineOver lineIn insert rising defaultEvents check checkedOf rulePersons mismatched headingFault tooMany counted bound opened written influences allWorlds linesOver eventsOver linesOf answerReady answer showFrom show
+unfolding table computing
 starred = refl
