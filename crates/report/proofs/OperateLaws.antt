@@ -4,7 +4,7 @@ use mathlib.Core.Path.{_≡_, refl, sym, ap, ap₂, _∙_, subst}
 use mathlib.Core.Bool.{Bool, true, false, cond}
 use mathlib.Core.List.{List, [], _∷_}
 use mathlib.Core.Logic.{_⊎_, inl, inr}
-use Prim.Native.Nat.{ℕ, zero, suc, _*_, _-_, _^_, _≤_, min}
+use Prim.Native.Nat.{ℕ, zero, suc, _*_, _-_, _^_, _≤_}
 use native.Mathlib.Omega.{arith}
 use lib.ListN.{length, getD, replicate, length-replicate, length-take}
 use lib.Seq.{getD-take}
@@ -25,7 +25,7 @@ use Rattle.records.specs.declared.plan.reading.PlanRead.{PlanRead}
 use Rattle.records.specs.declared.case.reading.CaseRead.{CaseRead}
 use Rattle.records.specs.declared.checked.Checked.the-variants as checked
 use Rattle.records.proofs.Accepted.{accepted}
-use Rattle.records.proofs.AcceptedCase.{accepted-case, heading-of}
+use Rattle.records.proofs.AcceptedCase.{accepted-case, heading-of as sound-heading}
 use Rattle.records.proofs.CheckLaws.{refused-is}
 use Rattle.expressions.specs.paper.Rules.{rulePersons}
 use Rattle.expressions.specs.paper.Influence.{Frame, openDecisions}
@@ -248,7 +248,7 @@ module _ (plan : Coded) (c : CodedCase) (sound : Sound (planOf plan)) (sane : So
       unfolding caseHeading
       worlds-few h =
           let a = ltb-false (caseHeading Ca .mostWorlds) (worldCount Pl bs) (over-most ∙ h) in
-          let b : caseHeading Ca .mostWorlds ≤ 4096 = heading-of sane .mostWorlds in
+          let b : caseHeading Ca .mostWorlds ≤ 4096 = sound-heading sane .mostWorlds in
           omega (arith, a, b)
 
 -- ---- buffers that were cleared
