@@ -1,4 +1,4 @@
--- What rules say, seen from a circle that none of them crosses: steps 1 and 3 to 5 of a world. Assumes nothing.
+-- What rules say, seen from a circle that none of them crosses: steps 1 and 3 to 5 of a world.
 use mathlib.Core.Path.{_≡_, refl, sym, ap, ap₂, _∙_, subst}
 use mathlib.Core.Bool.{Bool, true, false, _&&_, _||_, not, Bool·beq, and-false}
 use mathlib.Core.List.{List}

@@ -1,4 +1,4 @@
--- The blocks of step 6 are a partition of the roster's unmarked persons. Assumes nothing.
+-- The blocks of step 6 are a partition of the roster's unmarked persons.
 use mathlib.Core.Path.{_≡_, refl, sym, ap, ap₂, _∙_}
 use mathlib.Core.Bool.{Bool, true, false, _&&_, not, cond, true≢false, false≢true}
 use mathlib.Core.List.{List}

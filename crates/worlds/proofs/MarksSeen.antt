@@ -1,4 +1,4 @@
--- The marks of two worlds that say the same of the rules in a circle agree in it: steps 2 and 4. Assumes nothing.
+-- The marks of two worlds that say the same of the rules in a circle agree in it: steps 2 and 4.
 use mathlib.Core.Path.{_≡_, refl, sym, ap, ap₂, _∙_}
 use mathlib.Core.Bool.{Bool, true, false, _&&_, not}
 use mathlib.Core.List.{List, [], _∷_, _++_}

@@ -1,4 +1,4 @@
--- Document 01, "Proved: each roster person is marked, or is in just one block whose members all report it". Assumes nothing.
+-- Document 01, "Proved: each roster person is marked, or is in just one block whose members all report it".
 use mathlib.Core.Path.{_≡_, refl, sym, ap, _∙_}
 use mathlib.Core.Bool.{Bool, true, false, _&&_, not, cond, true≢false}
 use mathlib.Core.Logic.{_⊎_, inl, inr, ⊎-elim}

@@ -1,4 +1,4 @@
--- Blocks, attachments, bars and statuses of two worlds, seen from a circle in which their rules and marks agree: steps 6 to 8. Assumes nothing.
+-- Blocks, attachments, bars and statuses of two worlds, seen from a circle in which their rules and marks agree: steps 6 to 8.
 use mathlib.Core.Path.{_≡_, refl, sym, ap, ap₂, _∙_, subst}
 use mathlib.Core.Bool.{Bool, true, false, _&&_, _||_, not, cond, and-false, or-false}
 use mathlib.Core.List.{List}

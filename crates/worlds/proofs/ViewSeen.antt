@@ -1,5 +1,5 @@
 -- THE LOCALITY OF A WORLD: what it says of a person follows from what its rules and marks are in any circle of that person that no rule crosses.
--- Assumes nothing.
+--
 use mathlib.Core.Path.{_≡_, sym, ap, ap₂, _∙_}
 use mathlib.Core.Bool.{Bool, true, false, _&&_, _||_, cond, and-false}
 use mathlib.Core.List.{List, _++_}

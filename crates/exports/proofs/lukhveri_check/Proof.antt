@@ -7,12 +7,6 @@ use Rattle.exports.specs.Handed.{numbers}
 use Rattle.exports.proofs.lukhveri_check.Statement.{statement}
 use Rattle.exports.proofs.lukhveri_check.Tie as tie
 
-check-requires : tie.Need-check-requires
-check-requires c κs = search needs
-
-tell-requires : tie.Need-tell-requires
-tell-requires c κs = search needs
-
 returns : tie.Need-returns
 returns c =
     let e = c .before .before .check .ensures in
@@ -20,4 +14,4 @@ returns c =
     (t .0 ∙ ap (λ (a : Answer). told a .refusal) e, t .1 ∙ ap (λ (a : Answer). numbers (told a)) e)
 
 pub lukhveri-check-spec : {M : Type 1} → statement M
-lukhveri-check-spec = tie.close (tie.spec check-requires tell-requires returns)
+lukhveri-check-spec = tie.close (tie.spec (λ c κs. search needs) (λ c κs. search needs) returns)

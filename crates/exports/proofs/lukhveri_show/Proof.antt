@@ -4,21 +4,9 @@ use Rattle.exports.proofs.HandLaws.{hands}
 use Rattle.exports.proofs.lukhveri_show.Statement.{statement}
 use Rattle.exports.proofs.lukhveri_show.Tie as tie
 
-show-requires : tie.Need-show-requires
-show-requires c κs = search needs
-
-tell-requires : tie.Need-tell-requires
-tell-requires c κs = search needs
-
-same-length : tie.Need-same-length
-same-length c = search needs
-
-same-length-2 : tie.Need-same-length-2
-same-length-2 c = search needs
-
 returns : tie.Need-returns
 returns c = let t = c .tell .ensures in hands (t .0) (t .1) (c .before .before .before .before .before .before .show .ensures)
 
 pub lukhveri-show-spec : {M : Type 1} → statement M
 lukhveri-show-spec =
-    tie.close (tie.spec show-requires tell-requires same-length same-length-2 returns)
+    tie.close (tie.spec (λ c κs. search needs) (λ c κs. search needs) (λ c. search needs) (λ c. search needs) returns)

@@ -7,15 +7,6 @@ use Rattle.probes.specs.Entries.{codeOf, bindingIn}
 use Rattle.probes.proofs.lukhveri_binding.Statement.{statement}
 use Rattle.probes.proofs.lukhveri_binding.Tie as tie
 
-bind-requires : tie.Need-bind-requires
-bind-requires c κs = search needs
-
-entry-requires : tie.Need-entry-requires
-entry-requires c κs = search needs
-
-told-code-requires : tie.Need-told-code-requires
-told-code-requires c κs = search needs
-
 returns : tie.Need-returns
 unfolding bindingIn
 returns c =
@@ -23,4 +14,4 @@ returns c =
     c .told-code .ensures ∙ ap (λ (n : ℕ). codeOf (boundOf n)) (e .entry .ensures) ∙ ap codeOf (e .before .before .bind .ensures .codes _)
 
 pub lukhveri-binding-spec : {M : Type 1} → statement M
-lukhveri-binding-spec = tie.close (tie.spec bind-requires entry-requires told-code-requires returns)
+lukhveri-binding-spec = tie.close (tie.spec (λ c κs. search needs) (λ c κs. search needs) (λ c κs. search needs) returns)

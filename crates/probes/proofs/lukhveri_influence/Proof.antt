@@ -8,15 +8,9 @@ use Rattle.probes.specs.Entries.{influences}
 use Rattle.probes.proofs.lukhveri_influence.Statement.{statement}
 use Rattle.probes.proofs.lukhveri_influence.Tie as tie
 
-bind-requires : tie.Need-bind-requires
-bind-requires c κs = search needs
-
-set-at-requires : tie.Need-set-at-requires
-set-at-requires c κs = search needs
-
 returns : tie.Need-returns
 unfolding influences
 returns c = c .set-at .ensures ∙ ap (λ (s : List ℕ). getD s (c .before .before .before .before .before .args .number) 0) (c .before .before .bind .ensures .influence)
 
 pub lukhveri-influence-spec : {M : Type 1} → statement M
-lukhveri-influence-spec = tie.close (tie.spec bind-requires set-at-requires returns)
+lukhveri-influence-spec = tie.close (tie.spec (λ c κs. search needs) (λ c κs. search needs) returns)

@@ -7,15 +7,9 @@ use borrow.Author.Needs.{needs}
 use Rattle.probes.proofs.lukhveri_variable.Statement.{statement}
 use Rattle.probes.proofs.lukhveri_variable.Tie as tie
 
-list-variables-requires : tie.Need-list-variables-requires
-list-variables-requires c κs = search needs
-
-variable-at-requires : tie.Need-variable-at-requires
-variable-at-requires c κs = search needs
-
 returns : tie.Need-returns
 returns c =
     c .variable-at .ensures ∙ ap (λ (l : List ℕ). getD l (c .before .before .before .before .args .place) 0) (c .before .list-variables .ensures .1)
 
 pub lukhveri-variable-spec : {M : Type 1} → statement M
-lukhveri-variable-spec = tie.close (tie.spec list-variables-requires variable-at-requires returns)
+lukhveri-variable-spec = tie.close (tie.spec (λ c κs. search needs) (λ c κs. search needs) returns)

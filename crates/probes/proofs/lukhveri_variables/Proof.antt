@@ -5,11 +5,8 @@ use borrow.Author.Needs.{needs}
 use Rattle.probes.proofs.lukhveri_variables.Statement.{statement}
 use Rattle.probes.proofs.lukhveri_variables.Tie as tie
 
-list-variables-requires : tie.Need-list-variables-requires
-list-variables-requires c κs = search needs
-
 returns : tie.Need-returns
 returns c = c .list-variables .ensures .0 ∙ ap length (c .list-variables .ensures .1)
 
 pub lukhveri-variables-spec : {M : Type 1} → statement M
-lukhveri-variables-spec = tie.close (tie.spec list-variables-requires returns)
+lukhveri-variables-spec = tie.close (tie.spec (λ c κs. search needs) returns)

@@ -10,18 +10,6 @@ use Rattle.exports.proofs.tell.tell.Tie as tie
 enum-told : tie.Need-enum-told
 enum-told c = search needs
 
-enum-known-answer : tie.Need-enum-known-answer
-enum-known-answer c = search needs
-
-enum-known-answer-2 : tie.Need-enum-known-answer-2
-enum-known-answer-2 c = search needs
-
-cast-t13 : tie.Need-cast-t13
-cast-t13 c = search needs
-
-enum-known-answer-3 : tie.Need-enum-known-answer-3
-enum-known-answer-3 c = search needs
-
 returns : tie.Need-returns
 unfolding numbers
 returns c = let e = sym (c .before .enum-told .given .1) in (ap (λ (a : Answer). told a .refusal) e, ap (λ (a : Answer). numbers (told a)) e)
@@ -43,10 +31,10 @@ tell-spec =
     tie.close
     (tie.spec
     enum-told
-    enum-known-answer
-    enum-known-answer-2
-    cast-t13
-    enum-known-answer-3
+    (λ c. search needs)
+    (λ c. search needs)
+    (λ c. search needs)
+    (λ c. search needs)
     returns
     returns-2
     returns-3

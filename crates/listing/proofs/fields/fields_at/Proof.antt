@@ -10,24 +10,6 @@ use borrow.Author.Needs.{needs}
 use Rattle.listing.proofs.fields.fields_at.Statement.{statement}
 use Rattle.listing.proofs.fields.fields_at.Tie as tie
 
-mul-from : tie.Need-mul-from
-mul-from c = search needs
-
-add-to : tie.Need-add-to
-add-to c = search needs
-
-sub-fields-of : tie.Need-sub-fields-of
-sub-fields-of c = search needs
-
-part-fields-of-start : tie.Need-part-fields-of-start
-part-fields-of-start c = search needs
-
-part-fields-of-end : tie.Need-part-fields-of-end
-part-fields-of-end c = search needs
-
-fields-of-requires : tie.Need-fields-of-requires
-fields-of-requires c κs = search needs
-
 returns : tie.Need-returns
 unfolding lineAt
 returns c =
@@ -39,10 +21,10 @@ pub fields-at-spec : {M : Type 1} → statement M
 fields-at-spec =
     tie.close
     (tie.spec
-    mul-from
-    add-to
-    sub-fields-of
-    part-fields-of-start
-    part-fields-of-end
-    fields-of-requires
+    (λ c. search needs)
+    (λ c. search needs)
+    (λ c. search needs)
+    (λ c. search needs)
+    (λ c. search needs)
+    (λ c κs. search needs)
     returns)

@@ -22,15 +22,6 @@ loop-holds : tie.Need-loop-holds Inv-loop μ-loop
 unfolding members
 loop-holds c = (zero-le, refl, refl)
 
-put-person-requires : tie.Need-put-person-requires Inv-loop μ-loop
-put-person-requires c κs = search needs
-
-add-p : tie.Need-add-p Inv-loop μ-loop
-add-p c = search needs
-
-loop-less : tie.Need-loop-less Inv-loop μ-loop
-loop-less c = search needs
-
 loop-again : tie.Need-loop-again Inv-loop μ-loop
 loop-again c =
     let l = c .before .before .loop in
@@ -41,17 +32,8 @@ loop-again c =
           (λ w. turn-out _ _ (l .first) (c .if1 .first) (l .p) (l .rest) h (w .0 .left) (page (w .2) (w .1)) (w .3) ∙ l .inv .2) (c .if1 .came),
     )
 
-put-requires : tie.Need-put-requires Inv-loop μ-loop
-put-requires c κs = search needs
-
-same-length : tie.Need-same-length Inv-loop μ-loop
-same-length c = search needs
-
 returns : tie.Need-returns Inv-loop μ-loop
 returns c = let l = c .before .before .before .before .before .before .loop in none-put _ _ _ _ (l .p) (l .rest) (c .before .before .before .before .before .loop-test .left) (c .before .before .before .before .if2 .taken) (c .before .before .put .ensures) (l .inv .2)
-
-same-length-2 : tie.Need-same-length-2 Inv-loop μ-loop
-same-length-2 c = search needs
 
 returns-2 : tie.Need-returns-2 Inv-loop μ-loop
 returns-2 c = let l = c .before .before .loop in all-put _ _ _ (l .p) (l .rest) (c .before .loop-test .left) (c .if2 .left) (l .inv .2)
@@ -63,12 +45,12 @@ put-persons-spec =
     Inv-loop
     μ-loop
     loop-holds
-    put-person-requires
-    add-p
-    loop-less
+    (λ c κs. search needs)
+    (λ c. search needs)
+    (λ c. search needs)
     loop-again
-    put-requires
-    same-length
+    (λ c κs. search needs)
+    (λ c. search needs)
     returns
-    same-length-2
+    (λ c. search needs)
     returns-2)

@@ -23,18 +23,6 @@ loop-holds c =
     let a = c .before .before .args in
     (zero-le, refl, ap (λ (j : ℕ). puts (record { count = a .at; out = now (a .out) }) (rows (linesFrom (now (a .lines)) 0 j))) (let e : a .n - 0 ≡ a .n = omega arith in e))
 
-fields-at-requires : tie.Need-fields-at-requires Inv-loop μ-loop
-fields-at-requires c κs = search needs
-
-put-row-requires : tie.Need-put-row-requires Inv-loop μ-loop
-put-row-requires c κs = search needs
-
-add-k : tie.Need-add-k Inv-loop μ-loop
-add-k c = search needs
-
-loop-less : tie.Need-loop-less Inv-loop μ-loop
-loop-less c = search needs
-
 loop-again : tie.Need-loop-again Inv-loop μ-loop
 loop-again c =
     let l = c .before .before .before .before .before .before .loop in (
@@ -42,9 +30,6 @@ loop-again c =
       search needs,
       rows-next _ (l .k) _ _ _ _ (c .before .before .before .before .before .loop-test .taken) (c .before .before .before .before .fields-at .ensures) (c .before .before .put-row .ensures) ∙ l .inv .2,
     )
-
-same-length : tie.Need-same-length Inv-loop μ-loop
-same-length c = search needs
 
 returns : tie.Need-returns Inv-loop μ-loop
 returns c = rows-end _ _ _ _ (c .loop-test .left) ∙ c .before .loop .inv .2
@@ -56,10 +41,10 @@ put-rows-spec =
     Inv-loop
     μ-loop
     loop-holds
-    fields-at-requires
-    put-row-requires
-    add-k
-    loop-less
+    (λ c κs. search needs)
+    (λ c κs. search needs)
+    (λ c. search needs)
+    (λ c. search needs)
     loop-again
-    same-length
+    (λ c. search needs)
     returns)

@@ -18,9 +18,6 @@ Inv-loop lines n found₀ k₀ found k = (k ≤ n) × (found .count ≤ k) × (l
 abbrev μ-loop : tie.MeasureT-loop
 μ-loop lines n found₀ k₀ found k = n - k
 
-none-requires : tie.Need-none-requires Inv-loop μ-loop
-none-requires c κs = search needs
-
 loop-holds : tie.Need-loop-holds Inv-loop μ-loop
 unfolding units
 loop-holds c =
@@ -34,17 +31,8 @@ loop-holds c =
           ∙ ap (λ (j : ℕ). unitsWith [] (linesFrom s 0 j)) (let z : a .n - 0 ≡ a .n = omega arith in z),
     )
 
-fields-at-requires : tie.Need-fields-at-requires Inv-loop μ-loop
-fields-at-requires c κs = search needs
-
 join-requires : tie.Need-join-requires Inv-loop μ-loop
 join-requires c κs = (omega (arith, c .before .before .loop .inv, c .before .before .before .before .before .pre), c .before .before .loop .inv .2)
-
-add-k : tie.Need-add-k Inv-loop μ-loop
-add-k c = search needs
-
-loop-less : tie.Need-loop-less Inv-loop μ-loop
-loop-less c = search needs
 
 loop-again : tie.Need-loop-again Inv-loop μ-loop
 loop-again c =
@@ -69,11 +57,11 @@ units-of-spec =
     (tie.spec
     Inv-loop
     μ-loop
-    none-requires
+    (λ c κs. search needs)
     loop-holds
-    fields-at-requires
+    (λ c κs. search needs)
     join-requires
-    add-k
-    loop-less
+    (λ c. search needs)
+    (λ c. search needs)
     loop-again
     returns)

@@ -8,24 +8,12 @@ use Rattle.probes.proofs.Entering.{plan-sound, plan-refused, case-refus
 use Rattle.probes.proofs.bind.bind.Statement.{statement}
 use Rattle.probes.proofs.bind.bind.Tie as tie
 
-decode-plan-requires : tie.Need-decode-plan-requires
-decode-plan-requires c κs = search needs
-
-nothing-requires : tie.Need-nothing-requires
-nothing-requires c κs = search needs
-
 returns : tie.Need-returns
 returns c =
     let d = c .before .before .before in
     let s = d .before .before .before in
     subst (λ (v : Verdict Given). Binds v (c .nothing .result))
     (plan-refused (s .args .plan .now) (s .args .case .now) (d .decode-plan .result) (d .decode-plan .ensures) (c .before .if1 .taken)) (c .nothing .ensures)
-
-read-case-requires : tie.Need-read-case-requires
-read-case-requires c κs = search needs
-
-nothing-requires-2 : tie.Need-nothing-requires-2
-nothing-requires-2 c κs = search needs
 
 returns-2 : tie.Need-returns-2
 returns-2 c =
@@ -63,4 +51,4 @@ returns-3 c =
 pub bind-spec : {M : Type 1} → statement M
 bind-spec =
     tie.close
-    (tie.spec decode-plan-requires nothing-requires returns read-case-requires nothing-requires-2 returns-2 bound-over-requires returns-3)
+    (tie.spec (λ c κs. search needs) (λ c κs. search needs) returns (λ c κs. search needs) (λ c κs. search needs) returns-2 bound-over-requires returns-3)

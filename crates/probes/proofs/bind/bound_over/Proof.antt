@@ -13,21 +13,6 @@ use Rattle.probes.proofs.Entering.{bound-code, booleans-fit, in-order, 
 use Rattle.probes.proofs.bind.bound_over.Statement.{statement}
 use Rattle.probes.proofs.bind.bound_over.Tie as tie
 
-reach-of-requires : tie.Need-reach-of-requires
-reach-of-requires c κs = search needs
-
-bindings-requires : tie.Need-bindings-requires
-bindings-requires c κs = search needs
-
-variables-of-requires : tie.Need-variables-of-requires
-variables-of-requires c κs = search needs
-
-influence-of-requires : tie.Need-influence-of-requires
-influence-of-requires c κs = search needs
-
-boolean-count-requires : tie.Need-boolean-count-requires
-boolean-count-requires c κs = search needs
-
 variable-order-requires : tie.Need-variable-order-requires
 variable-order-requires c κs =
     let n = c .before in
@@ -38,12 +23,6 @@ variable-order-requires c κs =
       r .ensures .few,
       r .ensures .sixteen,
     )
-
-count-worlds-requires : tie.Need-count-worlds-requires
-count-worlds-requires c κs = search needs
-
-refusal-of-requires : tie.Need-refusal-of-requires
-refusal-of-requires c κs = search needs
 
 returns : tie.Need-returns
 returns c =
@@ -73,12 +52,12 @@ pub bound-over-spec : {M : Type 1} → statement M
 bound-over-spec =
     tie.close
     (tie.spec
-    reach-of-requires
-    bindings-requires
-    variables-of-requires
-    influence-of-requires
-    boolean-count-requires
+    (λ c κs. search needs)
+    (λ c κs. search needs)
+    (λ c κs. search needs)
+    (λ c κs. search needs)
+    (λ c κs. search needs)
     variable-order-requires
-    count-worlds-requires
-    refusal-of-requires
+    (λ c κs. search needs)
+    (λ c κs. search needs)
     returns)

@@ -7,14 +7,8 @@ use Rattle.probes.proofs.Entering.{passed-over, first-refused}
 use Rattle.probes.proofs.refusal.refusal_of.Statement.{statement}
 use Rattle.probes.proofs.refusal.refusal_of.Tie as tie
 
-bindable-requires : tie.Need-bindable-requires
-bindable-requires c κs = search needs
-
 enum-told : tie.Need-enum-told
 enum-told c = search needs
-
-enum-known-found : tie.Need-enum-known-found
-enum-known-found c = search needs
 
 returns : tie.Need-returns
 returns c =
@@ -36,4 +30,4 @@ returns-3 c =
 
 pub refusal-of-spec : {M : Type 1} → statement M
 refusal-of-spec =
-    tie.close (tie.spec bindable-requires enum-told enum-known-found returns returns-2 returns-3)
+    tie.close (tie.spec (λ c κs. search needs) enum-told (λ c. search needs) returns returns-2 returns-3)

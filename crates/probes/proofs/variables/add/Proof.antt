@@ -10,15 +10,6 @@ use Rattle.probes.specs.Binds.{codesOf}
 use Rattle.probes.proofs.variables.add.Statement.{statement}
 use Rattle.probes.proofs.variables.add.Tie as tie
 
-mul-known : tie.Need-mul-known
-mul-known c = search needs
-
-element-write-known : tie.Need-element-write-known
-element-write-known c = search needs
-
-add-known : tie.Need-add-known
-add-known c = search needs
-
 returns : tie.Need-returns
 unfolding codesOf
 returns c =
@@ -27,4 +18,4 @@ returns c =
     (refl, ap (λ (n : ℕ). take n (set (k .items) (k .count) (c .args .item))) (add-one (k .count)) ∙ take-suc-set (k .items) (k .count) (c .args .item) (omega (arith, c .pre, long)))
 
 pub add-spec : {M : Type 1} → statement M
-add-spec = tie.close (tie.spec mul-known element-write-known add-known returns)
+add-spec = tie.close (tie.spec (λ c. search needs) (λ c. search needs) (λ c. search needs) returns)

@@ -24,33 +24,12 @@ Inv-loop codes order out₀ n i₀ out i =
 abbrev μ-loop : tie.MeasureT-loop
 μ-loop codes order out₀ n i₀ out i = n - i
 
-upto-requires : tie.Need-upto-requires Inv-loop μ-loop
-upto-requires c κs = search needs
-
 long : (c : tie.Start Inv-loop μ-loop) → length (c .args .t1 .items) ≡ 80
 long c = sym (length-map (c .args .t1 .items) (λ v. v)) ∙ c .good .0 .1 .1 .1 .0 .1 .0 .1
 
 loop-holds : tie.Need-loop-holds Inv-loop μ-loop
 unfolding codesOf variableCodes varying flatMap
 loop-holds c = (search needs, search needs, refl, refl)
-
-element-copy-out-item : tie.Need-element-copy-out-item Inv-loop μ-loop
-element-copy-out-item c = search needs
-
-varies-requires : tie.Need-varies-requires Inv-loop μ-loop
-varies-requires c κs = search needs
-
-coded-requires : tie.Need-coded-requires Inv-loop μ-loop
-coded-requires c κs = search needs
-
-add-requires : tie.Need-add-requires Inv-loop μ-loop
-add-requires c κs = search needs
-
-add-i : tie.Need-add-i Inv-loop μ-loop
-add-i c = search needs
-
-loop-less : tie.Need-loop-less Inv-loop μ-loop
-loop-less c = search needs
 
 loop-again : tie.Need-loop-again Inv-loop μ-loop
 loop-again c =
@@ -99,4 +78,4 @@ returns c =
 pub among-spec : {M : Type 1} → statement M
 among-spec =
     tie.close
-    (tie.spec Inv-loop μ-loop upto-requires loop-holds element-copy-out-item varies-requires coded-requires add-requires add-i loop-less loop-again returns)
+    (tie.spec Inv-loop μ-loop (λ c κs. search needs) loop-holds (λ c. search needs) (λ c κs. search needs) (λ c κs. search needs) (λ c κs. search needs) (λ c. search needs) (λ c. search needs) loop-again returns)

@@ -13,21 +13,6 @@ use Rattle.probes.proofs.VariableLaws.{fact-code, decision-code}
 use Rattle.probes.proofs.variables.coded.Statement.{statement}
 use Rattle.probes.proofs.variables.coded.Tie as tie
 
-wide-requires : tie.Need-wide-requires
-wide-requires c κs = search needs
-
-array-read-candidates : tie.Need-array-read-candidates
-array-read-candidates c = search needs
-
-candidates-requires : tie.Need-candidates-requires
-candidates-requires c κs = search needs
-
-mul-result : tie.Need-mul-result
-mul-result c = search needs
-
-add-result : tie.Need-add-result
-add-result c = search needs
-
 returns : tie.Need-returns
 returns c =
     let w = c .before .before in
@@ -41,4 +26,4 @@ returns c =
     (c .before .if1 .came)
 
 pub coded-spec : {M : Type 1} → statement M
-coded-spec = tie.close (tie.spec wide-requires array-read-candidates candidates-requires mul-result add-result returns)
+coded-spec = tie.close (tie.spec (λ c κs. search needs) (λ c. search needs) (λ c κs. search needs) (λ c. search needs) (λ c. search needs) returns)

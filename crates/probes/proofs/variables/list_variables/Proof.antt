@@ -7,12 +7,6 @@ use Rattle.probes.proofs.VariableLaws.{variables-in}
 use Rattle.probes.proofs.variables.list_variables.Statement.{statement}
 use Rattle.probes.proofs.variables.list_variables.Tie as tie
 
-bind-requires : tie.Need-bind-requires
-bind-requires c κs = search needs
-
-among-requires : tie.Need-among-requires
-among-requires c κs = search needs
-
 returns : tie.Need-returns
 unfolding variables
 returns c =
@@ -24,4 +18,4 @@ returns c =
     )
 
 pub list-variables-spec : {M : Type 1} → statement M
-list-variables-spec = tie.close (tie.spec bind-requires among-requires returns)
+list-variables-spec = tie.close (tie.spec (λ c κs. search needs) (λ c κs. search needs) returns)

@@ -8,12 +8,6 @@ use Rattle.probes.proofs.Entering.{taken-at, taken-past, taken-long}
 use Rattle.probes.proofs.variables.variable_at.Statement.{statement}
 use Rattle.probes.proofs.variables.variable_at.Tie as tie
 
-mul-result : tie.Need-mul-result
-mul-result c = search needs
-
-element-copy-out-result : tie.Need-element-copy-out-result
-element-copy-out-result c = search needs
-
 returns : tie.Need-returns
 unfolding codesOf
 returns c =
@@ -32,4 +26,4 @@ unfolding codesOf
 returns-3 c = let s = c .before in taken-past (s .args .t1 .items) (s .args .t1 .count) (s .args .k) (omega arith)
 
 pub variable-at-spec : {M : Type 1} → statement M
-variable-at-spec = tie.close (tie.spec mul-result element-copy-out-result returns returns-2 returns-3)
+variable-at-spec = tie.close (tie.spec (λ c. search needs) (λ c. search needs) returns returns-2 returns-3)

@@ -11,12 +11,6 @@ use Rattle.probes.proofs.VariableLaws.{fact-varies, decision-varies}
 use Rattle.probes.proofs.variables.varies.Statement.{statement}
 use Rattle.probes.proofs.variables.varies.Tie as tie
 
-wide-requires : tie.Need-wide-requires
-wide-requires c κs = search needs
-
-array-read-result : tie.Need-array-read-result
-array-read-result c = search needs
-
 returns : tie.Need-returns
 returns c =
     let a = c .before .before .args in
@@ -30,4 +24,4 @@ returns-2 c =
     decision-varies (map boundOf (a .t1)) (a .item) (omega (arith, c .if1 .left, e))
 
 pub varies-spec : {M : Type 1} → statement M
-varies-spec = tie.close (tie.spec wide-requires array-read-result returns returns-2)
+varies-spec = tie.close (tie.spec (λ c κs. search needs) (λ c. search needs) returns returns-2)

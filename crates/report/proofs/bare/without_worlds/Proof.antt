@@ -11,18 +11,6 @@ returns c =
     let a = c .before .before .before .args in
     bare-refused (a .wanted) (a .kind) (a .roster) (now (a .lines)) (not-true _ (c .if1 .taken))
 
-write-bare-requires : tie.Need-write-bare-requires
-write-bare-requires c κs = search needs
-
-size-requires : tie.Need-size-requires
-size-requires c κs = search needs
-
-cast-people : tie.Need-cast-people
-cast-people c = search needs
-
-same-length : tie.Need-same-length
-same-length c = search needs
-
 returns-2 : tie.Need-returns-2
 returns-2 c =
     let w = c .before .before .before .write-bare in
@@ -30,4 +18,4 @@ returns-2 c =
     bare-told (a .wanted) (a .kind) (a .roster) (now (a .lines)) (w .last .0) (c .size .result) (not-false _ (c .before .before .before .before .before .if1 .left)) (c .size .ensures) (w .ensures)
 
 pub without-worlds-spec : {M : Type 1} → statement M
-without-worlds-spec = tie.close (tie.spec returns write-bare-requires size-requires cast-people same-length returns-2)
+without-worlds-spec = tie.close (tie.spec returns (λ c κs. search needs) (λ c κs. search needs) (λ c. search needs) (λ c. search needs) returns-2)

@@ -21,9 +21,6 @@ abbrev μ-loop : tie.MeasureT-loop
 loop-holds : tie.Need-loop-holds Inv-loop μ-loop
 loop-holds c = (omega arith, fill-none (now (c .args .out)) 0)
 
-slice-write-out : tie.Need-slice-write-out Inv-loop μ-loop
-slice-write-out c = search needs
-
 add-i : tie.Need-add-i Inv-loop μ-loop
 add-i c = omega (arith, ap length (c .before .loop .inv .1), cleared-long (c .before .loop .i) (now (c .before .before .args .out)) (c .before .loop .inv .0))
 
@@ -54,7 +51,7 @@ clear-spec =
     Inv-loop
     μ-loop
     loop-holds
-    slice-write-out
+    (λ c. search needs)
     add-i
     loop-less
     loop-again

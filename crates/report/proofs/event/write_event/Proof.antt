@@ -17,14 +17,8 @@ Inv-loop rest₀ bytes i₀ rest i = (i ≤ 12) × (length bytes ≡ 12) × (res
 abbrev μ-loop : tie.MeasureT-loop
 μ-loop rest₀ bytes i₀ rest i = 12 - i
 
-encode-event-requires : tie.Need-encode-event-requires Inv-loop μ-loop
-encode-event-requires c κs = search needs
-
 loop-holds : tie.Need-loop-holds Inv-loop μ-loop
 loop-holds c = (omega arith, ap length (c .encode-event .ensures) ∙ event-length _ _ _ _ _, refl)
-
-array-read-rest : tie.Need-array-read-rest Inv-loop μ-loop
-array-read-rest c = search needs
 
 slice-write-rest : tie.Need-slice-write-rest Inv-loop μ-loop
 slice-write-rest c =
@@ -32,12 +26,6 @@ slice-write-rest c =
     let bytes = c .before .before .encode-event .result in
     let d = now (c .before .before .before .before .args .rest) in
     omega (arith, ap length (l .inv .2), copied-long bytes d (l .i) (omega arith) (omega arith))
-
-add-i : tie.Need-add-i Inv-loop μ-loop
-add-i c = search needs
-
-loop-less : tie.Need-loop-less Inv-loop μ-loop
-loop-less c = search needs
 
 loop-again : tie.Need-loop-again Inv-loop μ-loop
 loop-again c =
@@ -65,12 +53,12 @@ write-event-spec =
     (tie.spec
     Inv-loop
     μ-loop
-    encode-event-requires
+    (λ c κs. search needs)
     loop-holds
-    array-read-rest
+    (λ c. search needs)
     slice-write-rest
-    add-i
-    loop-less
+    (λ c. search needs)
+    (λ c. search needs)
     loop-again
     same-length
     returns)

@@ -44,28 +44,13 @@ counted : (c : tie.After-count-events) → let s = start c in
     c .count-events .result ≡ eventCount (s .args .sums .now) (s .args .noted .now) (s .args .opens .defaults) (cutCount (planOf (s .args .plan)))
 counted c = let s = start c in c .count-events .ensures .0 ∙ ap (eventCount (s .args .sums .now) (s .args .noted .now) (s .args .opens .defaults)) (cuts-counted (c .before))
 
-index-1-if1 : tie.Need-index-1-if1
-index-1-if1 c = search needs
-
-index-2-if1 : tie.Need-index-2-if1
-index-2-if1 c = search needs
-
 without-worlds-requires : tie.Need-without-worlds-requires
 without-worlds-requires c κs = c .before .before .before .before .before .before .pre .room
-
-same-length : tie.Need-same-length
-same-length c = search needs
 
 returns : tie.Need-returns
 returns c =
     let s = c .before .before .before .before .before .before .before .before .before in
     none (s .args .wanted) (s .pre) (c .before .before .before .before .if1 .taken) (c .before .before .without-worlds .ensures)
-
-upto-requires : tie.Need-upto-requires
-upto-requires c κs = search needs
-
-count-events-requires : tie.Need-count-events-requires
-count-events-requires c κs = search needs
 
 add-total : tie.Need-add-total
 add-total c =
@@ -81,12 +66,6 @@ mul-if3 c =
 much : (c : tie.Joined2) → let s = start (c .before) in
     (s .args .walked .listing .full ≡ true) ⊎ (length (s .args .events .now) < 12 * (c .before .count-events .result + s .args .walked .listing .count))
 much c = ⊎-elim (λ t. inl (t .taken)) (λ t. inr (ltb-true _ _ (t .1 .taken))) (c .if2 .came)
-
-clear-requires : tie.Need-clear-requires
-clear-requires c κs = search needs
-
-same-length-2 : tie.Need-same-length-2
-same-length-2 c = search needs
 
 returns-2 : tie.Need-returns-2
 returns-2 c =
@@ -116,18 +95,6 @@ write-events-requires c κs =
     let h = ltb-false (length (s .args .events .now)) (12 * (z .count-events .result + s .args .walked .listing .count)) (c .before .before .before .before .before .before .before .before .if3 .left) in
     (rule-events (s .args .wanted) (s .pre) (length (s .args .events .now)) (omega arith), h)
 
-size-requires : tie.Need-size-requires
-size-requires c κs = search needs
-
-cast-people : tie.Need-cast-people
-cast-people c = search needs
-
-same-length-3 : tie.Need-same-length-3
-same-length-3 c = search needs
-
-same-length-4 : tie.Need-same-length-4
-same-length-4 c = search needs
-
 returns-3 : tie.Need-returns-3
 unfolding setsOf
 returns-3 c =
@@ -143,24 +110,24 @@ pub finish-spec : {M : Type 1} → statement M
 finish-spec =
     tie.close
     (tie.spec
-    index-1-if1
-    index-2-if1
+    (λ c. search needs)
+    (λ c. search needs)
     without-worlds-requires
-    same-length
+    (λ c. search needs)
     returns
-    upto-requires
-    count-events-requires
+    (λ c κs. search needs)
+    (λ c κs. search needs)
     add-total
     mul-if3
-    clear-requires
-    same-length-2
+    (λ c κs. search needs)
+    (λ c. search needs)
     returns-2
     array-share-prefix-sets
     slice-aggregate-write-open
     write-open-requires
     write-events-requires
-    size-requires
-    cast-people
-    same-length-3
-    same-length-4
+    (λ c κs. search needs)
+    (λ c. search needs)
+    (λ c. search needs)
+    (λ c. search needs)
     returns-3)

@@ -14,26 +14,11 @@ use Rattle.report.proofs.finish.write_open.Tie as tie
 slice-aggregate-write-lines : tie.Need-slice-aggregate-write-lines
 slice-aggregate-write-lines c = let s = c .before .before .before .before in sym (length-take-le (s .args .known) (s .args .sets .now) (s .pre .2))
 
-mul-write-lines : tie.Need-mul-write-lines
-mul-write-lines c = search needs
-
-sub-write-lines : tie.Need-sub-write-lines
-sub-write-lines c = search needs
-
-part-write-lines-start : tie.Need-part-write-lines-start
-part-write-lines-start c = search needs
-
-part-write-lines-end : tie.Need-part-write-lines-end
-part-write-lines-end c = search needs
-
 write-lines-requires : tie.Need-write-lines-requires
 write-lines-requires c κs =
     let s = c .before .before .before .before .before in
     let p = s .pre in
     (p .0, simp length-take (omega arith), simp (length-take, length-drop) (omega arith))
-
-same-length : tie.Need-same-length
-same-length c = search needs
 
 returns : tie.Need-returns
 returns c =
@@ -46,10 +31,10 @@ write-open-spec =
     tie.close
     (tie.spec
     slice-aggregate-write-lines
-    mul-write-lines
-    sub-write-lines
-    part-write-lines-start
-    part-write-lines-end
+    (λ c. search needs)
+    (λ c. search needs)
+    (λ c. search needs)
+    (λ c. search needs)
     write-lines-requires
-    same-length
+    (λ c. search needs)
     returns)

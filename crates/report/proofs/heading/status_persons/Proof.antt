@@ -23,17 +23,8 @@ abbrev μ-loop : tie.MeasureT-loop
 long : (c : tie.Start Inv-loop μ-loop) → length (c .args .t1 .items) ≡ 32
 long c = sym (length-map (c .args .t1 .items) (the-type .to)) ∙ c .good .0 .1 .1 .1 .0 .1 .0 .1
 
-upto-requires : tie.Need-upto-requires Inv-loop μ-loop
-upto-requires c κs = search needs
-
 loop-holds : tie.Need-loop-holds Inv-loop μ-loop
 loop-holds c = (search needs, none-union _)
-
-mul-s : tie.Need-mul-s Inv-loop μ-loop
-mul-s c = search needs
-
-element-copy-out-s : tie.Need-element-copy-out-s Inv-loop μ-loop
-element-copy-out-s c = search needs
 
 bit-requires : tie.Need-bit-requires Inv-loop μ-loop
 unfolding statusesOf statusOf
@@ -42,12 +33,6 @@ bit-requires c κs =
     let a = l .before in
     let s = a .before in
     made-each statusOf (s .args .t1 .items) (s .args .t1 .count) 32 (a .upto .result) (long s) (a .upto .ensures .0) PersonFits (l .loop .i) _ (search needs) (s .pre)
-
-add-i : tie.Need-add-i Inv-loop μ-loop
-add-i c = search needs
-
-loop-less : tie.Need-loop-less Inv-loop μ-loop
-loop-less c = search needs
 
 loop-again : tie.Need-loop-again Inv-loop μ-loop
 unfolding statusesOf statusOf union
@@ -78,12 +63,12 @@ status-persons-spec =
     (tie.spec
     Inv-loop
     μ-loop
-    upto-requires
+    (λ c κs. search needs)
     loop-holds
-    mul-s
-    element-copy-out-s
+    (λ c. search needs)
+    (λ c. search needs)
     bit-requires
-    add-i
-    loop-less
+    (λ c. search needs)
+    (λ c. search needs)
     loop-again
     returns)

@@ -40,9 +40,6 @@ sub-write-line c = omega (arith, room (c .before))
 part-write-line-start : tie.Need-part-write-line-start Inv-loop μ-loop
 part-write-line-start c = omega (arith, room (c .before))
 
-part-write-line-end : tie.Need-part-write-line-end Inv-loop μ-loop
-part-write-line-end c = search needs
-
 write-line-requires : tie.Need-write-line-requires Inv-loop μ-loop
 write-line-requires c κs = simp (length-take, length-drop) (omega (arith, room (c .before .before)))
 
@@ -85,7 +82,7 @@ write-bare-spec =
     cast-t9
     sub-write-line
     part-write-line-start
-    part-write-line-end
+    (λ c. search needs)
     write-line-requires
     add-at
     others-requires

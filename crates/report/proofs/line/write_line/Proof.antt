@@ -18,9 +18,6 @@ Inv-loop rest₀ bytes i₀ rest i = (i ≤ 29) × (length bytes ≡ 29) × (res
 abbrev μ-loop : tie.MeasureT-loop
 μ-loop rest₀ bytes i₀ rest i = 29 - i
 
-encode-requires : tie.Need-encode-requires Inv-loop μ-loop
-encode-requires c κs = search needs
-
 loop-holds : tie.Need-loop-holds Inv-loop μ-loop
 loop-holds c = (omega arith, ap length (c .encode .ensures) ∙ line-length (lineFrom (c .before .before .args .l)), refl)
 
@@ -63,7 +60,7 @@ write-line-spec =
     (tie.spec
     Inv-loop
     μ-loop
-    encode-requires
+    (λ c κs. search needs)
     loop-holds
     array-read-rest
     slice-write-rest

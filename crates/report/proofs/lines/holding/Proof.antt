@@ -23,12 +23,6 @@ loop-holds : tie.Need-loop-holds Inv-loop μ-loop
 unfolding unionBelow
 loop-holds c = (omega arith, refl)
 
-mul-contains : tie.Need-mul-contains Inv-loop μ-loop
-mul-contains c = search needs
-
-shared-slice-read-contains : tie.Need-shared-slice-read-contains Inv-loop μ-loop
-shared-slice-read-contains c = search needs
-
 contains-requires : tie.Need-contains-requires Inv-loop μ-loop
 contains-requires c κs = tt
 
@@ -37,12 +31,6 @@ cast-bit c = omega arith
 
 bit-requires : tie.Need-bit-requires Inv-loop μ-loop
 bit-requires c κs = omega arith
-
-add-i : tie.Need-add-i Inv-loop μ-loop
-add-i c = search needs
-
-loop-less : tie.Need-loop-less Inv-loop μ-loop
-loop-less c = search needs
 
 loop-again : tie.Need-loop-again Inv-loop μ-loop
 unfolding unionBelow union
@@ -72,12 +60,12 @@ holding-spec =
     Inv-loop
     μ-loop
     loop-holds
-    mul-contains
-    shared-slice-read-contains
+    (λ c. search needs)
+    (λ c. search needs)
     contains-requires
     cast-bit
     bit-requires
-    add-i
-    loop-less
+    (λ c. search needs)
+    (λ c. search needs)
     loop-again
     returns)

@@ -69,9 +69,6 @@ sub-write-line c = omega (arith, room (c .before .before .before .before))
 part-write-line-start : tie.Need-part-write-line-start Inv-loop μ-loop
 part-write-line-start c = omega (arith, room (c .before .before .before .before))
 
-part-write-line-end : tie.Need-part-write-line-end Inv-loop μ-loop
-part-write-line-end c = search needs
-
 write-line-requires : tie.Need-write-line-requires Inv-loop μ-loop
 write-line-requires c κs = simp (length-take, length-drop) (omega (arith, room (c .before .before .before .before .before)))
 
@@ -127,7 +124,7 @@ write-lines-spec =
     line-of-requires
     sub-write-line
     part-write-line-start
-    part-write-line-end
+    (λ c. search needs)
     write-line-requires
     add-at
     others-requires

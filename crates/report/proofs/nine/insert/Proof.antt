@@ -25,24 +25,6 @@ loop-holds c =
     let b = c .before in let a = b .args in
     (carried-first (a .n) (a .e) (now (a .s)) (good-length (eInt w8) 12 (a .e) _ (b .good .1 .1 .0)) (b .pre), refl)
 
-mul-at : tie.Need-mul-at Inv-loop μ-loop
-mul-at c = search needs
-
-sub-front : tie.Need-sub-front Inv-loop μ-loop
-sub-front c = search needs
-
-part-front-start : tie.Need-part-front-start Inv-loop μ-loop
-part-front-start c = search needs
-
-part-front-end : tie.Need-part-front-end Inv-loop μ-loop
-part-front-end c = search needs
-
-front-requires : tie.Need-front-requires Inv-loop μ-loop
-front-requires c κs = search needs
-
-compare-requires : tie.Need-compare-requires Inv-loop μ-loop
-compare-requires c κs = search needs
-
 same-length : tie.Need-same-length Inv-loop μ-loop
 same-length c = c .before .before .before .before .before .before .loop .inv .1
 
@@ -52,24 +34,6 @@ returns c =
     let f = c .before .before .front .ensures ∙ ap (take 12) (rest-is (l .loop .s) (l .loop .i * 12)) in
     carried-same (a .n) (a .e) (now (a .s)) (l .loop .i) (l .loop .carried) (l .loop .s) (omega arith) (l .loop .inv .0)
     (ap (λ (x : List ℕ). order x (l .loop .carried)) (sym f) ∙ sym (c .before .compare .ensures) ∙ c .if1 .taken)
-
-sub-put-front : tie.Need-sub-put-front Inv-loop μ-loop
-sub-put-front c = search needs
-
-part-put-front-start : tie.Need-part-put-front-start Inv-loop μ-loop
-part-put-front-start c = search needs
-
-part-put-front-end : tie.Need-part-put-front-end Inv-loop μ-loop
-part-put-front-end c = search needs
-
-put-front-requires : tie.Need-put-front-requires Inv-loop μ-loop
-put-front-requires c κs = search needs
-
-add-i : tie.Need-add-i Inv-loop μ-loop
-add-i c = search needs
-
-loop-less : tie.Need-loop-less Inv-loop μ-loop
-loop-less c = search needs
 
 loop-again : tie.Need-loop-again Inv-loop μ-loop
 loop-again c =
@@ -85,27 +49,6 @@ loop-again c =
     (λ w. rw (w .1, w .2) (carried-less (a .n) (a .e) (now (a .s)) i d s (omega arith) (v .0) (λ z. c .before .if1 .left (sym o ∙ z)) (λ z. w .0 .left (sym o ∙ z)), v .1))
     (c .if2 .came)
 
-mul-end : tie.Need-mul-end Inv-loop μ-loop
-mul-end c = search needs
-
-sub-put-front-2 : tie.Need-sub-put-front-2 Inv-loop μ-loop
-sub-put-front-2 c = search needs
-
-part-put-front-start-2 : tie.Need-part-put-front-start-2 Inv-loop μ-loop
-part-put-front-start-2 c = search needs
-
-part-put-front-end-2 : tie.Need-part-put-front-end-2 Inv-loop μ-loop
-part-put-front-end-2 c = search needs
-
-put-front-requires-2 : tie.Need-put-front-requires-2 Inv-loop μ-loop
-put-front-requires-2 c κs = search needs
-
-add-result : tie.Need-add-result Inv-loop μ-loop
-add-result c = search needs
-
-same-length-2 : tie.Need-same-length-2 Inv-loop μ-loop
-same-length-2 c = search needs
-
 returns-2 : tie.Need-returns-2 Inv-loop μ-loop
 returns-2 c =
     let l = c .before .before .before .before .before in let a = l .before .before .args in
@@ -119,26 +62,26 @@ insert-spec =
     Inv-loop
     μ-loop
     loop-holds
-    mul-at
-    sub-front
-    part-front-start
-    part-front-end
-    front-requires
-    compare-requires
+    (λ c. search needs)
+    (λ c. search needs)
+    (λ c. search needs)
+    (λ c. search needs)
+    (λ c κs. search needs)
+    (λ c κs. search needs)
     same-length
     returns
-    sub-put-front
-    part-put-front-start
-    part-put-front-end
-    put-front-requires
-    add-i
-    loop-less
+    (λ c. search needs)
+    (λ c. search needs)
+    (λ c. search needs)
+    (λ c κs. search needs)
+    (λ c. search needs)
+    (λ c. search needs)
     loop-again
-    mul-end
-    sub-put-front-2
-    part-put-front-start-2
-    part-put-front-end-2
-    put-front-requires-2
-    add-result
-    same-length-2
+    (λ c. search needs)
+    (λ c. search needs)
+    (λ c. search needs)
+    (λ c. search needs)
+    (λ c κs. search needs)
+    (λ c. search needs)
+    (λ c. search needs)
     returns-2)

@@ -22,21 +22,6 @@ returns c =
       long = refl;
     }
 
-encode-event-requires : tie.Need-encode-event-requires
-encode-event-requires c κs = search needs
-
-mul-if2 : tie.Need-mul-if2
-mul-if2 c = search needs
-
-add-if2 : tie.Need-add-if2
-add-if2 c = search needs
-
-insert-requires : tie.Need-insert-requires
-insert-requires c κs = search needs
-
-same-length : tie.Need-same-length
-same-length c = search needs
-
 returns-2 : tie.Need-returns-2
 returns-2 c =
     let a = c .before .before .before .before .before .before .before .before .args in let i = c .before .before .insert in let few = i .ensures .few in let long = i .ensures .long in
@@ -46,12 +31,6 @@ returns-2 c =
       fits = omega arith;
       long = long;
     }
-
-listed-requires : tie.Need-listed-requires
-listed-requires c κs = search needs
-
-same-length-2 : tie.Need-same-length-2
-same-length-2 c = search needs
 
 returns-3 : tie.Need-returns-3
 returns-3 c =
@@ -69,12 +48,12 @@ list-part-spec =
     tie.close
     (tie.spec
     returns
-    encode-event-requires
-    mul-if2
-    add-if2
-    insert-requires
-    same-length
+    (λ c κs. search needs)
+    (λ c. search needs)
+    (λ c. search needs)
+    (λ c κs. search needs)
+    (λ c. search needs)
     returns-2
-    listed-requires
-    same-length-2
+    (λ c κs. search needs)
+    (λ c. search needs)
     returns-3)

@@ -27,24 +27,6 @@ loop-holds c =
     let z : a .n - 0 ≡ a .n = omega arith in
     (omega arith, ap (λ (k : ℕ). stands (a .e) (chunks k (now (a .s)))) z)
 
-mul-at : tie.Need-mul-at Inv-loop μ-loop
-mul-at c = search needs
-
-sub-front : tie.Need-sub-front Inv-loop μ-loop
-sub-front c = search needs
-
-part-front-start : tie.Need-part-front-start Inv-loop μ-loop
-part-front-start c = search needs
-
-part-front-end : tie.Need-part-front-end Inv-loop μ-loop
-part-front-end c = search needs
-
-front-requires : tie.Need-front-requires Inv-loop μ-loop
-front-requires c κs = search needs
-
-compare-requires : tie.Need-compare-requires Inv-loop μ-loop
-compare-requires c κs = search needs
-
 returns : tie.Need-returns Inv-loop μ-loop
 returns c =
     let a = c .before .before .before .before .before .before .before .args in let l = c .before .before .before .before .before .loop in
@@ -52,12 +34,6 @@ returns c =
     let m = c .before .compare .ensures ∙ ap (λ (x : List ℕ). order x (a .e)) r in
     ap (λ (b : Bool). b || stands (a .e) (chunks (a .n - (l .i + 1)) (drop ((l .i + 1) * 12) (now (a .s))))) (sym (eq-eqb _ 1 (sym m ∙ c .if1 .taken)))
     ∙ sym (stands-step (a .e) (now (a .s)) (a .n) (l .i) (omega arith)) ∙ l .inv .1
-
-add-i : tie.Need-add-i Inv-loop μ-loop
-add-i c = search needs
-
-loop-less : tie.Need-loop-less Inv-loop μ-loop
-loop-less c = search needs
 
 loop-again : tie.Need-loop-again Inv-loop μ-loop
 loop-again c =
@@ -83,14 +59,14 @@ listed-spec =
     Inv-loop
     μ-loop
     loop-holds
-    mul-at
-    sub-front
-    part-front-start
-    part-front-end
-    front-requires
-    compare-requires
+    (λ c. search needs)
+    (λ c. search needs)
+    (λ c. search needs)
+    (λ c. search needs)
+    (λ c κs. search needs)
+    (λ c κs. search needs)
     returns
-    add-i
-    loop-less
+    (λ c. search needs)
+    (λ c. search needs)
     loop-again
     returns-2)

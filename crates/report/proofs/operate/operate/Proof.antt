@@ -9,21 +9,6 @@ use borrow.Author.Needs.{needs}
 use Rattle.report.proofs.operate.operate.Statement.{statement}
 use Rattle.report.proofs.operate.operate.Tie as tie
 
-clear-requires : tie.Need-clear-requires
-clear-requires c κs = search needs
-
-clear-requires-2 : tie.Need-clear-requires-2
-clear-requires-2 c κs = search needs
-
-decode-plan-requires : tie.Need-decode-plan-requires
-decode-plan-requires c κs = search needs
-
-same-length : tie.Need-same-length
-same-length c = search needs
-
-same-length-2 : tie.Need-same-length-2
-same-length-2 c = search needs
-
 returns : tie.Need-returns
 returns c =
     let d = c .before .before in
@@ -33,15 +18,6 @@ returns c =
     stops (a .args .wanted) _ _ _ _ _
     (plan-stops (now (a .args .plan)) (d .decode-plan .result) (d .decode-plan .ensures) (now (a .args .case)) (length (now (a .args .lines))) (c .if1 .taken))
     (m .clear .ensures) (n .clear2 .ensures)
-
-read-case-requires : tie.Need-read-case-requires
-read-case-requires c κs = search needs
-
-same-length-3 : tie.Need-same-length-3
-same-length-3 c = search needs
-
-same-length-4 : tie.Need-same-length-4
-same-length-4 c = search needs
 
 returns-2 : tie.Need-returns-2
 returns-2 c =
@@ -79,9 +55,6 @@ same-length-5 c =
     let m = w .before .before .before .before .before .before .before .before .before .before .before .before .before .before .before .before .before in
     w .operate-case .kept .1 .1 .1 .0 ∙ m .clear .kept .0
 
-same-length-6 : tie.Need-same-length-6
-same-length-6 c = search needs
-
 returns-3 : tie.Need-returns-3
 returns-3 c =
     let w = c .before .before .before .before in
@@ -103,17 +76,17 @@ pub operate-spec : {M : Type 1} → statement M
 operate-spec =
     tie.close
     (tie.spec
-    clear-requires
-    clear-requires-2
-    decode-plan-requires
-    same-length
-    same-length-2
+    (λ c κs. search needs)
+    (λ c κs. search needs)
+    (λ c κs. search needs)
+    (λ c. search needs)
+    (λ c. search needs)
     returns
-    read-case-requires
-    same-length-3
-    same-length-4
+    (λ c κs. search needs)
+    (λ c. search needs)
+    (λ c. search needs)
     returns-2
     operate-case-requires
     same-length-5
-    same-length-6
+    (λ c. search needs)
     returns-3)

@@ -8,16 +8,10 @@ use borrow.Author.Needs.{needs}
 use Rattle.report.proofs.operate.operate_case.Statement.{statement}
 use Rattle.report.proofs.operate.operate_case.Tie as tie
 
-reach-of-requires : tie.Need-reach-of-requires
-reach-of-requires c κs = search needs
-
 rule-persons-requires : tie.Need-rule-persons-requires
 rule-persons-requires c κs =
     let a = c .before .before .before .before .before .before .before in
     persons-fit (a .args .plan) (a .args .case) (a .pre .sound) (a .pre .sane)
-
-heading-fault-requires : tie.Need-heading-fault-requires
-heading-fault-requires c κs = search needs
 
 returns : tie.Need-returns
 returns c =
@@ -40,9 +34,6 @@ without-worlds-requires c κs =
     lines-fit (a .args .plan) (a .args .case) (a .pre .sound) (a .pre .sane) (q .reach-of .result) (q .reach-of .ensures) (p .rule-persons .result)
     (p .rule-persons .ensures) (length (now (a .args .lines))) (h .heading-fault .result) (h .heading-fault .ensures) (i .if1 .left)
 
-same-length : tie.Need-same-length
-same-length c = search needs
-
 returns-2 : tie.Need-returns-2
 returns-2 c =
     let w = c .before .before .without-worlds in
@@ -56,12 +47,6 @@ returns-2 c =
     (roster-incomplete (a .args .plan) (a .args .case) (a .pre .sound) (a .pre .sane) (q .reach-of .result) (q .reach-of .ensures) (p .rule-persons .result)
     (p .rule-persons .ensures) (length (now (a .args .lines))) (h .heading-fault .result) (h .heading-fault .ensures) (i .if1 .left) (not-true _ (j .if2 .taken)))
     _ (w .result) (w .ensures)
-
-bindable-requires : tie.Need-bindable-requires
-bindable-requires c κs = search needs
-
-enum-known-found : tie.Need-enum-known-found
-enum-known-found c = search needs
 
 returns-3 : tie.Need-returns-3
 returns-3 c =
@@ -80,12 +65,6 @@ returns-3 c =
 
 enum-told : tie.Need-enum-told
 enum-told c = search needs
-
-bind-facts-requires : tie.Need-bind-facts-requires
-bind-facts-requires c κs = search needs
-
-count-worlds-requires : tie.Need-count-worlds-requires
-count-worlds-requires c κs = search needs
 
 returns-4 : tie.Need-returns-4
 returns-4 c =
@@ -135,12 +114,6 @@ answer-ready-requires c κs =
       none = a .pre .none;
     }
 
-same-length-2 : tie.Need-same-length-2
-same-length-2 c = search needs
-
-same-length-3 : tie.Need-same-length-3
-same-length-3 c = search needs
-
 returns-5 : tie.Need-returns-5
 returns-5 c =
     let w = c .before .before .before .before in
@@ -166,21 +139,21 @@ pub operate-case-spec : {M : Type 1} → statement M
 operate-case-spec =
     tie.close
     (tie.spec
-    reach-of-requires
+    (λ c κs. search needs)
     rule-persons-requires
-    heading-fault-requires
+    (λ c κs. search needs)
     returns
     without-worlds-requires
-    same-length
+    (λ c. search needs)
     returns-2
-    bindable-requires
-    enum-known-found
+    (λ c κs. search needs)
+    (λ c. search needs)
     returns-3
     enum-told
-    bind-facts-requires
-    count-worlds-requires
+    (λ c κs. search needs)
+    (λ c κs. search needs)
     returns-4
     answer-ready-requires
-    same-length-2
-    same-length-3
+    (λ c. search needs)
+    (λ c. search needs)
     returns-5)

@@ -5,14 +5,8 @@ use Rattle.report.specs.paper.Operations.{answerTo, check}
 use Rattle.report.proofs.operations.check.Statement.{statement}
 use Rattle.report.proofs.operations.check.Tie as tie
 
-check-requires : tie.Need-check-requires
-check-requires c κs = search needs
-
 enum-told : tie.Need-enum-told
 enum-told c = search needs
-
-enum-known-found : tie.Need-enum-known-found
-enum-known-found c = search needs
 
 returns : tie.Need-returns
 unfolding check
@@ -23,4 +17,4 @@ unfolding check
 returns-2 c = ap answerTo (sym (c .before .found .given .1) ∙ c .before .before .before .check .ensures)
 
 pub check-spec : {M : Type 1} → statement M
-check-spec = tie.close (tie.spec check-requires enum-told enum-known-found returns returns-2)
+check-spec = tie.close (tie.spec (λ c κs. search needs) enum-told (λ c. search needs) returns returns-2)

@@ -7,15 +7,6 @@ use borrow.Author.Needs.{needs}
 use Rattle.report.proofs.operations.show.Statement.{statement}
 use Rattle.report.proofs.operations.show.Tie as tie
 
-operate-requires : tie.Need-operate-requires
-operate-requires c κs = search needs
-
-same-length : tie.Need-same-length
-same-length c = search needs
-
-same-length-2 : tie.Need-same-length-2
-same-length-2 c = search needs
-
 returns : tie.Need-returns
 returns c =
     let w = c .before .before .before .before in
@@ -23,4 +14,4 @@ returns c =
     shows (now (a .args .plan)) (now (a .args .case)) (now (a .args .lines)) _ (now (a .args .events)) _ _ (record { all = false; number = a .args .world }) refl (w .operate .ensures)
 
 pub show-spec : {M : Type 1} → statement M
-show-spec = tie.close (tie.spec operate-requires same-length same-length-2 returns)
+show-spec = tie.close (tie.spec (λ c κs. search needs) (λ c. search needs) (λ c. search needs) returns)

@@ -15,9 +15,6 @@ use Rattle.report.proofs.ReadyLaws.{rows-clean, tables-ready, facts-few
 use Rattle.report.proofs.ready.answer_ready.Statement.{statement}
 use Rattle.report.proofs.ready.answer_ready.Tie as tie
 
-variables-of-requires : tie.Need-variables-of-requires
-variables-of-requires c κs = search needs
-
 influence-of-requires : tie.Need-influence-of-requires
 influence-of-requires c κs = let s = c .before .before .before .before .before .before .before .before in (facts-few (s .pre), decisions-few (s .pre))
 
@@ -26,9 +23,6 @@ lay-tables-requires c κs = tables-ready (c .before .before .before .before .bef
 
 common-of-requires : tie.Need-common-of-requires
 common-of-requires c κs = c .before .before .before .before .before .before .before .before .before .before .before .pre .sound
-
-boolean-count-requires : tie.Need-boolean-count-requires
-boolean-count-requires c κs = search needs
 
 variable-order-requires : tie.Need-variable-order-requires
 variable-order-requires c κs =
@@ -43,16 +37,10 @@ free-variables-requires c κs =
 spans-of-requires : tie.Need-spans-of-requires
 spans-of-requires c κs = let f = c .before .before .before in (facts-few (f .before .before .before .before .before .before .before .before .before .before .before .before .before .before .before .before .before .pre), f .free-variables .ensures .few)
 
-started-requires : tie.Need-started-requires
-started-requires c κs = search needs
-
 run-requires : tie.Need-run-requires
 run-requires c κs =
     let f = c .before .before .before .before .before .before .before .before .before .before .before in
     (f .before .before .before .before .before .before .before .before .before .before .before .before .before .before .before .before .before .pre .sound, f .free-variables .ensures .few, f .free-variables .ensures .small)
-
-concerns-requires : tie.Need-concerns-requires
-concerns-requires c κs = search needs
 
 -- ---- once the worlds are looked at
 
@@ -98,12 +86,6 @@ finish-requires c κs =
     (spans-told (start x .pre) (influence-at x .influence-of .result) (influenced x) (x .before .before .before .before .before .before .before .before .spans-of .ensures)) (x .run .ensures) (x .before .before .before .before .before .before .before .started .ensures) (rows-clean 3 64)
     (influenced x) (c .before .before .before .before .concerns .ensures)
 
-same-length : tie.Need-same-length
-same-length c = search needs
-
-same-length-2 : tie.Need-same-length-2
-same-length-2 c = search needs
-
 returns : tie.Need-returns
 returns c =
     let x = c .before .before .before .before .before .before .before .before .before .before .before .before in
@@ -115,18 +97,18 @@ pub answer-ready-spec : {M : Type 1} → statement M
 answer-ready-spec =
     tie.close
     (tie.spec
-    variables-of-requires
+    (λ c κs. search needs)
     influence-of-requires
     lay-tables-requires
     common-of-requires
-    boolean-count-requires
+    (λ c κs. search needs)
     variable-order-requires
     free-variables-requires
     spans-of-requires
-    started-requires
+    (λ c κs. search needs)
     run-requires
-    concerns-requires
+    (λ c κs. search needs)
     finish-requires
-    same-length
-    same-length-2
+    (λ c. search needs)
+    (λ c. search needs)
     returns)

@@ -8,9 +8,6 @@ use Rattle.expressions.proofs.ListLaws.{used-length, used-take}
 use Rattle.report.proofs.ready.concerns.Statement.{statement}
 use Rattle.report.proofs.ready.concerns.Tie as tie
 
-upto-requires : tie.Need-upto-requires
-upto-requires c κs = search needs
-
 returns : tie.Need-returns
 unfolding setsOf
 returns c =
@@ -35,4 +32,4 @@ returns-2 c = record {
 }
 
 pub concerns-spec : {M : Type 1} → statement M
-concerns-spec = tie.close (tie.spec upto-requires returns returns-2)
+concerns-spec = tie.close (tie.spec (λ c κs. search needs) returns returns-2)

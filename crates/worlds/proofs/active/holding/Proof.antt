@@ -30,9 +30,6 @@ low-requires c κs = c .loop-test .taken
 element-copy-out-wide : tie.Need-element-copy-out-wide Inv-loop μ-loop
 element-copy-out-wide c = c .low .ensures .1
 
-wide-requires : tie.Need-wide-requires Inv-loop μ-loop
-wide-requires c κs = search needs
-
 element-copy-out-if1 : tie.Need-element-copy-out-if1 Inv-loop μ-loop
 element-copy-out-if1 c = c .wide .ensures .1
 
@@ -84,7 +81,7 @@ holding-spec =
     loop-holds
     low-requires
     element-copy-out-wide
-    wide-requires
+    (λ c κs. search needs)
     element-copy-out-if1
     cast-bit
     bit-requires

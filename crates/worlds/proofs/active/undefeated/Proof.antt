@@ -43,9 +43,6 @@ element-copy-out-any-holds c = c .low .ensures .1
 element-copy-out-any-holds-2 : tie.Need-element-copy-out-any-holds-2 Inv-loop μ-loop
 element-copy-out-any-holds-2 c = c .before .low .ensures .1
 
-any-holds-requires : tie.Need-any-holds-requires Inv-loop μ-loop
-any-holds-requires c κs = search needs
-
 cast-bit : tie.Need-cast-bit Inv-loop μ-loop
 cast-bit c = omega (arith, c .before .before .before .before .low .ensures .1)
 
@@ -96,7 +93,7 @@ undefeated-spec =
     mul-any-holds
     element-copy-out-any-holds
     element-copy-out-any-holds-2
-    any-holds-requires
+    (λ c κs. search needs)
     cast-bit
     bit-requires
     others-requires

@@ -13,54 +13,6 @@ use borrow.Author.Needs.{needs}
 use Rattle.worlds.proofs.cite.cite.Statement.{statement}
 use Rattle.worlds.proofs.cite.cite.Tie as tie
 
-minus-requires : tie.Need-minus-requires
-minus-requires c κs = search needs
-
-cite-edges-requires : tie.Need-cite-edges-requires
-cite-edges-requires c κs = search needs
-
-own-citations-requires : tie.Need-own-citations-requires
-own-citations-requires c κs = search needs
-
-unless-none-requires : tie.Need-unless-none-requires
-unless-none-requires c κs = search needs
-
-index-1-cite-cuts : tie.Need-index-1-cite-cuts
-index-1-cite-cuts c = search needs
-
-cite-cuts-requires : tie.Need-cite-cuts-requires
-cite-cuts-requires c κs = search needs
-
-cite-attachments-requires : tie.Need-cite-attachments-requires
-cite-attachments-requires c κs = search needs
-
-unless-none-requires-2 : tie.Need-unless-none-requires-2
-unless-none-requires-2 c κs = search needs
-
-index-1-cite-named : tie.Need-index-1-cite-named
-index-1-cite-named c = search needs
-
-index-1-cite-named-2 : tie.Need-index-1-cite-named-2
-index-1-cite-named-2 c = search needs
-
-cite-named-requires : tie.Need-cite-named-requires
-cite-named-requires c κs = search needs
-
-unless-none-requires-3 : tie.Need-unless-none-requires-3
-unless-none-requires-3 c κs = search needs
-
-index-1-cite-named-3 : tie.Need-index-1-cite-named-3
-index-1-cite-named-3 c = search needs
-
-index-1-cite-named-4 : tie.Need-index-1-cite-named-4
-index-1-cite-named-4 c = search needs
-
-cite-named-requires-2 : tie.Need-cite-named-requires-2
-cite-named-requires-2 c κs = search needs
-
-hand-out-requires : tie.Need-hand-out-requires
-hand-out-requires c κs = search needs
-
 returns : tie.Need-returns
 returns c = record {
   at = λ P I a S F L W E p h l. absurd (true≢false (sym h ∙ ap (λ (x : ℕ). has x p) (c .if1 .taken) ∙ has-none p));
@@ -88,20 +40,20 @@ cite-spec =
     tie.close
     (tie.spec
     returns
-    minus-requires
-    cite-edges-requires
-    own-citations-requires
-    unless-none-requires
-    index-1-cite-cuts
-    cite-cuts-requires
-    cite-attachments-requires
-    unless-none-requires-2
-    index-1-cite-named
-    index-1-cite-named-2
-    cite-named-requires
-    unless-none-requires-3
-    index-1-cite-named-3
-    index-1-cite-named-4
-    cite-named-requires-2
-    hand-out-requires
+    (λ c κs. search needs)
+    (λ c κs. search needs)
+    (λ c κs. search needs)
+    (λ c κs. search needs)
+    (λ c. search needs)
+    (λ c κs. search needs)
+    (λ c κs. search needs)
+    (λ c κs. search needs)
+    (λ c. search needs)
+    (λ c. search needs)
+    (λ c κs. search needs)
+    (λ c κs. search needs)
+    (λ c. search needs)
+    (λ c. search needs)
+    (λ c κs. search needs)
+    (λ c κs. search needs)
     returns-2)

@@ -32,9 +32,6 @@ low-requires c κs = c .loop-test .taken
 mul-anchor : tie.Need-mul-anchor Inv-loop μ-loop
 mul-anchor c = omega (arith, c .low .ensures .1)
 
-index-1-anchor : tie.Need-index-1-anchor Inv-loop μ-loop
-index-1-anchor c = search needs
-
 index-2-anchor : tie.Need-index-2-anchor Inv-loop μ-loop
 index-2-anchor c = c .low .ensures .1
 
@@ -49,9 +46,6 @@ element-copy-out-b c = c .low2 .ensures .1
 
 mul-if2 : tie.Need-mul-if2 Inv-loop μ-loop
 mul-if2 c = omega (arith, c .before .before .before .before .low .ensures .1)
-
-index-1-if2 : tie.Need-index-1-if2 Inv-loop μ-loop
-index-1-if2 c = search needs
 
 index-2-if2 : tie.Need-index-2-if2 Inv-loop μ-loop
 index-2-if2 c = c .before .before .before .before .low .ensures .1
@@ -70,9 +64,6 @@ element-copy-out-cited c = c .low3 .ensures .1
 
 mul-cited-2 : tie.Need-mul-cited-2 Inv-loop μ-loop
 mul-cited-2 c = omega (arith, c .before .before .before .before .before .before .before .before .low .ensures .1)
-
-index-1-cited : tie.Need-index-1-cited Inv-loop μ-loop
-index-1-cited c = search needs
 
 index-2-cited : tie.Need-index-2-cited Inv-loop μ-loop
 index-2-cited c = c .before .before .before .before .before .before .before .before .low .ensures .1
@@ -124,19 +115,19 @@ cite-attachments-spec =
     loop-holds
     low-requires
     mul-anchor
-    index-1-anchor
+    (λ c. search needs)
     index-2-anchor
     low-requires-2
     mul-b
     element-copy-out-b
     mul-if2
-    index-1-if2
+    (λ c. search needs)
     index-2-if2
     low-requires-3
     mul-cited
     element-copy-out-cited
     mul-cited-2
-    index-1-cited
+    (λ c. search needs)
     index-2-cited
     mul-cited-3
     element-write-cited

@@ -31,9 +31,6 @@ low-requires c κs = c .loop-test .taken
 mul-pair : tie.Need-mul-pair Inv-loop μ-loop
 mul-pair c = omega (arith, c .low .ensures .1)
 
-index-1-pair : tie.Need-index-1-pair Inv-loop μ-loop
-index-1-pair c = search needs
-
 index-2-pair : tie.Need-index-2-pair Inv-loop μ-loop
 index-2-pair c = c .low .ensures .1
 
@@ -62,9 +59,6 @@ element-copy-out-cited c = c .low3 .ensures .1
 
 mul-cited-2 : tie.Need-mul-cited-2 Inv-loop μ-loop
 mul-cited-2 c = omega (arith, c .before .before .before .before .before .before .before .before .low .ensures .1)
-
-index-1-cited : tie.Need-index-1-cited Inv-loop μ-loop
-index-1-cited c = search needs
 
 index-2-cited : tie.Need-index-2-cited Inv-loop μ-loop
 index-2-cited c = c .before .before .before .before .before .before .before .before .low .ensures .1
@@ -115,7 +109,7 @@ cite-edges-spec =
     loop-holds
     low-requires
     mul-pair
-    index-1-pair
+    (λ c. search needs)
     index-2-pair
     low-requires-2
     mul-b
@@ -125,7 +119,7 @@ cite-edges-spec =
     mul-cited
     element-copy-out-cited
     mul-cited-2
-    index-1-cited
+    (λ c. search needs)
     index-2-cited
     mul-cited-3
     element-write-cited

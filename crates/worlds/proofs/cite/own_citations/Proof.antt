@@ -28,17 +28,11 @@ low-requires c κs = c .loop-test .taken
 mul-give : tie.Need-mul-give Inv-loop μ-loop
 mul-give c = omega (arith, c .before .low .ensures .1)
 
-index-1-give : tie.Need-index-1-give Inv-loop μ-loop
-index-1-give c = search needs
-
 index-2-give : tie.Need-index-2-give Inv-loop μ-loop
 index-2-give c = c .before .low .ensures .1
 
 mul-give-2 : tie.Need-mul-give-2 Inv-loop μ-loop
 mul-give-2 c = omega (arith, c .before .before .low .ensures .1)
-
-index-1-give-2 : tie.Need-index-1-give-2 Inv-loop μ-loop
-index-1-give-2 c = search needs
 
 index-2-give-2 : tie.Need-index-2-give-2 Inv-loop μ-loop
 index-2-give-2 c = c .before .before .low .ensures .1
@@ -81,10 +75,10 @@ own-citations-spec =
     loop-holds
     low-requires
     mul-give
-    index-1-give
+    (λ c. search needs)
     index-2-give
     mul-give-2
-    index-1-give-2
+    (λ c. search needs)
     index-2-give-2
     give-requires
     others-requires

@@ -8,24 +8,6 @@ use Rattle.worlds.proofs.ClassLaws.{joins-nobody, joins-inside, joins-w
 use Rattle.worlds.proofs.classes.join.Statement.{statement}
 use Rattle.worlds.proofs.classes.join.Tie as tie
 
-low-requires : tie.Need-low-requires
-low-requires c κs = search needs
-
-mul-first : tie.Need-mul-first
-mul-first c = search needs
-
-element-copy-out-first : tie.Need-element-copy-out-first
-element-copy-out-first c = search needs
-
-subset-requires : tie.Need-subset-requires
-subset-requires c κs = search needs
-
-gather-requires : tie.Need-gather-requires
-gather-requires c κs = search needs
-
-put-requires : tie.Need-put-requires
-put-requires c κs = search needs
-
 returns : tie.Need-returns
 returns c =
     let s = c .before .before .before .before .before .before .before .before .before in
@@ -47,12 +29,12 @@ pub join-spec : {M : Type 1} → statement M
 join-spec =
     tie.close
     (tie.spec
-    low-requires
-    mul-first
-    element-copy-out-first
-    subset-requires
-    gather-requires
-    put-requires
+    (λ c κs. search needs)
+    (λ c. search needs)
+    (λ c. search needs)
+    (λ c κs. search needs)
+    (λ c κs. search needs)
+    (λ c κs. search needs)
     returns
     returns-2
     returns-3)

@@ -42,26 +42,8 @@ here c d =
     let a = c .before .before in
     made-at attachmentOf (a .before .args .t2 .items) (a .before .args .t2 .count) 32 (a .upto .result) (long (a .before)) (a .upto .ensures .0) (c .before .loop .i) d none (search needs)
 
-upto-requires : tie.Need-upto-requires Inv-loop μ-loop
-upto-requires c κs = search needs
-
 loop-holds : tie.Need-loop-holds Inv-loop μ-loop
 loop-holds c = (search needs, each-none _ _ _ _ _, same-start _ _)
-
-mul-a : tie.Need-mul-a Inv-loop μ-loop
-mul-a c = search needs
-
-element-copy-out-a : tie.Need-element-copy-out-a Inv-loop μ-loop
-element-copy-out-a c = search needs
-
-lay-condition-requires : tie.Need-lay-condition-requires Inv-loop μ-loop
-lay-condition-requires c κs = search needs
-
-add-i : tie.Need-add-i Inv-loop μ-loop
-add-i c = search needs
-
-loop-less : tie.Need-loop-less Inv-loop μ-loop
-loop-less c = search needs
 
 loop-again : tie.Need-loop-again Inv-loop μ-loop
 unfolding attachmentOf anyOf
@@ -85,4 +67,4 @@ returns c =
 
 pub lay-attachments-spec : {M : Type 1} → statement M
 lay-attachments-spec =
-    tie.close (tie.spec Inv-loop μ-loop upto-requires loop-holds mul-a element-copy-out-a lay-condition-requires add-i loop-less loop-again returns)
+    tie.close (tie.spec Inv-loop μ-loop (λ c κs. search needs) loop-holds (λ c. search needs) (λ c. search needs) (λ c κs. search needs) (λ c. search needs) (λ c. search needs) loop-again returns)

@@ -7,18 +7,6 @@ use Rattle.worlds.proofs.LayLaws.{laid-at}
 use Rattle.worlds.proofs.conditions.lay_condition.Statement.{statement}
 use Rattle.worlds.proofs.conditions.lay_condition.Tie as tie
 
-whole-conditions-requires : tie.Need-whole-conditions-requires
-whole-conditions-requires c κs = search needs
-
-mul-conditions : tie.Need-mul-conditions
-mul-conditions c = search needs
-
-index-1-conditions : tie.Need-index-1-conditions
-index-1-conditions c = search needs
-
-index-2-conditions : tie.Need-index-2-conditions
-index-2-conditions c = search needs
-
 returns : tie.Need-returns
 returns c =
     let s = c .before .before in
@@ -27,4 +15,4 @@ returns c =
     laid-at (s .args .conditions .now) (s .args .k) (s .args .i) (s .args .node) rows (omega (arith, w .1 (s .args .k) (s .pre .0), s .pre .1))
 
 pub lay-condition-spec : {M : Type 1} → statement M
-lay-condition-spec = tie.close (tie.spec whole-conditions-requires mul-conditions index-1-conditions index-2-conditions returns)
+lay-condition-spec = tie.close (tie.spec (λ c κs. search needs) (λ c. search needs) (λ c. search needs) (λ c. search needs) returns)

@@ -20,21 +20,6 @@ still : {edges : Edges} {s t lists : List (List ℕ)} {n : ℕ} (P : Plan) (i : 
     → n ≡ row t 5 i → take n (getD lists i []) ≡ edge P i .defeaters
 still {edges} {s} {t} {lists} {n} P i a q h e = ap (λ (k : ℕ). take k (getD lists i [])) e ∙ a .against P q i h
 
-lay-edges-requires : tie.Need-lay-edges-requires
-lay-edges-requires c κs = search needs
-
-lay-cuts-requires : tie.Need-lay-cuts-requires
-lay-cuts-requires c κs = search needs
-
-lay-attachments-requires : tie.Need-lay-attachments-requires
-lay-attachments-requires c κs = search needs
-
-lay-bars-requires : tie.Need-lay-bars-requires
-lay-bars-requires c κs = search needs
-
-lay-statuses-requires : tie.Need-lay-statuses-requires
-lay-statuses-requires c κs = search needs
-
 returns : tie.Need-returns
 unfolding planOf edgesOf cutsOf attachmentsOf barsOf statusesOf anyOf
 returns c =
@@ -59,4 +44,4 @@ returns c =
 
 pub lay-conditions-spec : {M : Type 1} → statement M
 lay-conditions-spec =
-    tie.close (tie.spec lay-edges-requires lay-cuts-requires lay-attachments-requires lay-bars-requires lay-statuses-requires returns)
+    tie.close (tie.spec (λ c κs. search needs) (λ c κs. search needs) (λ c κs. search needs) (λ c κs. search needs) (λ c κs. search needs) returns)

@@ -75,38 +75,8 @@ here c d =
     let s = a .before .before .before in
     made-at edgeOf (s .args .t3 .items) (s .args .t3 .count) 64 (a .upto .result) (long s) (a .upto .ensures .0) (c .before .loop .i) d none (search needs)
 
-whole-lists-requires : tie.Need-whole-lists-requires Inv-loop μ-loop
-whole-lists-requires c κs = search needs
-
-upto-requires : tie.Need-upto-requires Inv-loop μ-loop
-upto-requires c κs = search needs
-
 loop-holds : tie.Need-loop-holds Inv-loop μ-loop
 loop-holds c = (search needs, c .before .whole-lists .ensures, each-none _ _ _ _ _, against-none _ _ _, same-start _ _)
-
-mul-e : tie.Need-mul-e Inv-loop μ-loop
-mul-e c = search needs
-
-element-copy-out-e : tie.Need-element-copy-out-e Inv-loop μ-loop
-element-copy-out-e c = search needs
-
-lay-condition-requires : tie.Need-lay-condition-requires Inv-loop μ-loop
-lay-condition-requires c κs = search needs
-
-lay-condition-requires-2 : tie.Need-lay-condition-requires-2 Inv-loop μ-loop
-lay-condition-requires-2 c κs = search needs
-
-mul-items : tie.Need-mul-items Inv-loop μ-loop
-mul-items c = search needs
-
-element-set-from-items : tie.Need-element-set-from-items Inv-loop μ-loop
-element-set-from-items c = search needs
-
-add-i : tie.Need-add-i Inv-loop μ-loop
-add-i c = search needs
-
-loop-less : tie.Need-loop-less Inv-loop μ-loop
-loop-less c = search needs
 
 loop-again : tie.Need-loop-again Inv-loop μ-loop
 unfolding edgeOf numbersOf anyOf
@@ -144,16 +114,16 @@ lay-edges-spec =
     (tie.spec
     Inv-loop
     μ-loop
-    whole-lists-requires
-    upto-requires
+    (λ c κs. search needs)
+    (λ c κs. search needs)
     loop-holds
-    mul-e
-    element-copy-out-e
-    lay-condition-requires
-    lay-condition-requires-2
-    mul-items
-    element-set-from-items
-    add-i
-    loop-less
+    (λ c. search needs)
+    (λ c. search needs)
+    (λ c κs. search needs)
+    (λ c κs. search needs)
+    (λ c. search needs)
+    (λ c. search needs)
+    (λ c. search needs)
+    (λ c. search needs)
     loop-again
     returns)

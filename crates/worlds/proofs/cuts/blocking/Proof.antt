@@ -9,42 +9,6 @@ use borrow.Author.Needs.{needs}
 use Rattle.worlds.proofs.cuts.blocking.Statement.{statement}
 use Rattle.worlds.proofs.cuts.blocking.Tie as tie
 
-mul-minus : tie.Need-mul-minus
-mul-minus c = search needs
-
-index-1-minus : tie.Need-index-1-minus
-index-1-minus c = search needs
-
-index-2-minus : tie.Need-index-2-minus
-index-2-minus c = search needs
-
-minus-requires : tie.Need-minus-requires
-minus-requires c κs = search needs
-
-mul-said : tie.Need-mul-said
-mul-said c = search needs
-
-index-1-said : tie.Need-index-1-said
-index-1-said c = search needs
-
-index-2-said : tie.Need-index-2-said
-index-2-said c = search needs
-
-index-1-gather : tie.Need-index-1-gather
-index-1-gather c = search needs
-
-gather-requires : tie.Need-gather-requires
-gather-requires c κs = search needs
-
-mul-result : tie.Need-mul-result
-mul-result c = search needs
-
-index-1-result : tie.Need-index-1-result
-index-1-result c = search needs
-
-index-2-result : tie.Need-index-2-result
-index-2-result c = search needs
-
 returns : tie.Need-returns
 unfolding blockers meet union
 returns c =
@@ -56,16 +20,16 @@ pub blocking-spec : {M : Type 1} → statement M
 blocking-spec =
     tie.close
     (tie.spec
-    mul-minus
-    index-1-minus
-    index-2-minus
-    minus-requires
-    mul-said
-    index-1-said
-    index-2-said
-    index-1-gather
-    gather-requires
-    mul-result
-    index-1-result
-    index-2-result
+    (λ c. search needs)
+    (λ c. search needs)
+    (λ c. search needs)
+    (λ c κs. search needs)
+    (λ c. search needs)
+    (λ c. search needs)
+    (λ c. search needs)
+    (λ c. search needs)
+    (λ c κs. search needs)
+    (λ c. search needs)
+    (λ c. search needs)
+    (λ c. search needs)
     returns)

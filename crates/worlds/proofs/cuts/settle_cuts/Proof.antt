@@ -6,48 +6,6 @@ use Rattle.worlds.proofs.SettleLaws.{parts-kept, rows-noted}
 use Rattle.worlds.proofs.cuts.settle_cuts.Statement.{statement}
 use Rattle.worlds.proofs.cuts.settle_cuts.Tie as tie
 
-whole-notes-requires : tie.Need-whole-notes-requires
-whole-notes-requires c κs = search needs
-
-kept-requires : tie.Need-kept-requires
-kept-requires c κs = search needs
-
-overlapping-requires : tie.Need-overlapping-requires
-overlapping-requires c κs = search needs
-
-lowest-twins-requires : tie.Need-lowest-twins-requires
-lowest-twins-requires c κs = search needs
-
-index-1-note-clashes : tie.Need-index-1-note-clashes
-index-1-note-clashes c = search needs
-
-note-clashes-requires : tie.Need-note-clashes-requires
-note-clashes-requires c κs = search needs
-
-minus-requires : tie.Need-minus-requires
-minus-requires c κs = search needs
-
-index-1-blocked : tie.Need-index-1-blocked
-index-1-blocked c = search needs
-
-blocked-requires : tie.Need-blocked-requires
-blocked-requires c κs = search needs
-
-index-1-gather : tie.Need-index-1-gather
-index-1-gather c = search needs
-
-gather-requires : tie.Need-gather-requires
-gather-requires c κs = search needs
-
-index-1-gather-2 : tie.Need-index-1-gather-2
-index-1-gather-2 c = search needs
-
-gather-requires-2 : tie.Need-gather-requires-2
-gather-requires-2 c κs = search needs
-
-minus-requires-2 : tie.Need-minus-requires-2
-minus-requires-2 c κs = search needs
-
 returns : tie.Need-returns
 returns c =
     let gathered = c .before .before .before in
@@ -73,18 +31,18 @@ pub settle-cuts-spec : {M : Type 1} → statement M
 settle-cuts-spec =
     tie.close
     (tie.spec
-    whole-notes-requires
-    kept-requires
-    overlapping-requires
-    lowest-twins-requires
-    index-1-note-clashes
-    note-clashes-requires
-    minus-requires
-    index-1-blocked
-    blocked-requires
-    index-1-gather
-    gather-requires
-    index-1-gather-2
-    gather-requires-2
-    minus-requires-2
+    (λ c κs. search needs)
+    (λ c κs. search needs)
+    (λ c κs. search needs)
+    (λ c κs. search needs)
+    (λ c. search needs)
+    (λ c κs. search needs)
+    (λ c κs. search needs)
+    (λ c. search needs)
+    (λ c κs. search needs)
+    (λ c. search needs)
+    (λ c κs. search needs)
+    (λ c. search needs)
+    (λ c κs. search needs)
+    (λ c κs. search needs)
     returns)

@@ -4,9 +4,6 @@ use Rattle.worlds.proofs.LooseLaws.{loose-many, loose-few}
 use Rattle.worlds.proofs.discretion.loose.Statement.{statement}
 use Rattle.worlds.proofs.discretion.loose.Tie as tie
 
-clique-requires : tie.Need-clique-requires
-clique-requires c κs = search needs
-
 returns : tie.Need-returns
 returns c = loose-many _ _ _ (c .before .before .fits .set .fits) (c .before .if1 .taken) (c .clique .ensures)
 
@@ -14,4 +11,4 @@ returns-2 : tie.Need-returns-2
 returns-2 c = loose-few _ _ (c .before .fits .set .fits) (c .if1 .left)
 
 pub loose-spec : {M : Type 1} → statement M
-loose-spec = tie.close (tie.spec clique-requires returns returns-2)
+loose-spec = tie.close (tie.spec (λ c κs. search needs) returns returns-2)

@@ -4,15 +4,6 @@ use borrow.Author.Needs.{needs}
 use Rattle.worlds.proofs.discretion.loose_parts.Statement.{statement}
 use Rattle.worlds.proofs.discretion.loose_parts.Tie as tie
 
-gather-requires : tie.Need-gather-requires
-gather-requires c κs = search needs
-
-neighbours-requires : tie.Need-neighbours-requires
-neighbours-requires c κs = search needs
-
-heads-requires : tie.Need-heads-requires
-heads-requires c κs = search needs
-
 returns : tie.Need-returns
 returns c =
     let n = c .before .before .before in
@@ -23,4 +14,4 @@ returns c =
     )
 
 pub loose-parts-spec : {M : Type 1} → statement M
-loose-parts-spec = tie.close (tie.spec gather-requires neighbours-requires heads-requires returns)
+loose-parts-spec = tie.close (tie.spec (λ c κs. search needs) (λ c κs. search needs) (λ c κs. search needs) returns)

@@ -56,40 +56,16 @@ fits c d =
     let a = c .before .before in
     made-each cutOf (a .before .args .t2 .items) (a .before .args .t2 .count) 16 (a .upto .result) (long (a .before)) (a .upto .ensures .0) CutFits (c .before .loop .i) d (search needs) (a .before .pre)
 
-upto-requires : tie.Need-upto-requires Inv-loop μ-loop
-upto-requires c κs = search needs
-
 loop-holds : tie.Need-loop-holds Inv-loop μ-loop
 loop-holds c = (search needs, each-none _ _ _ _ _, each-none _ _ _ _ _, each-none _ _ _ _ _, same-start _ _)
-
-mul-c : tie.Need-mul-c Inv-loop μ-loop
-mul-c c = search needs
-
-element-copy-out-c : tie.Need-element-copy-out-c Inv-loop μ-loop
-element-copy-out-c c = search needs
-
-lay-requires : tie.Need-lay-requires Inv-loop μ-loop
-lay-requires c κs = search needs
 
 bit-requires : tie.Need-bit-requires Inv-loop μ-loop
 unfolding cutOf
 bit-requires c κs = fits (c .before .before .before .before .before) _ .0
 
-lay-requires-2 : tie.Need-lay-requires-2 Inv-loop μ-loop
-lay-requires-2 c κs = search needs
-
 said-blocked-requires : tie.Need-said-blocked-requires Inv-loop μ-loop
 unfolding cutOf
 said-blocked-requires c κs = fits (c .before .before .before .before .before .before .before .before) _ .1
-
-lay-requires-3 : tie.Need-lay-requires-3 Inv-loop μ-loop
-lay-requires-3 c κs = search needs
-
-add-i : tie.Need-add-i Inv-loop μ-loop
-add-i c = search needs
-
-loop-less : tie.Need-loop-less Inv-loop μ-loop
-loop-less c = search needs
 
 loop-again : tie.Need-loop-again Inv-loop μ-loop
 unfolding cutOf anyOf
@@ -129,16 +105,16 @@ lay-cuts-spec =
     (tie.spec
     Inv-loop
     μ-loop
-    upto-requires
+    (λ c κs. search needs)
     loop-holds
-    mul-c
-    element-copy-out-c
-    lay-requires
+    (λ c. search needs)
+    (λ c. search needs)
+    (λ c κs. search needs)
     bit-requires
-    lay-requires-2
+    (λ c κs. search needs)
     said-blocked-requires
-    lay-requires-3
-    add-i
-    loop-less
+    (λ c κs. search needs)
+    (λ c. search needs)
+    (λ c. search needs)
     loop-again
     returns)

@@ -65,44 +65,17 @@ cut c =
     let k = c .before .before in
     (ap (λ (x : Open). x .cut) (here k) ∙ sym (c .wide .ensures .0), omega (arith, fits k .0, c .wide .ensures .0))
 
-element-copy-out-wide : tie.Need-element-copy-out-wide Inv-loop μ-loop
-element-copy-out-wide c = search needs
-
-wide-requires : tie.Need-wide-requires Inv-loop μ-loop
-wide-requires c κs = search needs
-
-element-copy-out-e : tie.Need-element-copy-out-e Inv-loop μ-loop
-element-copy-out-e c = search needs
-
 bit-requires : tie.Need-bit-requires Inv-loop μ-loop
 bit-requires c κs = fits (c .before .before .before .before) .1
-
-lay-requires : tie.Need-lay-requires Inv-loop μ-loop
-lay-requires c κs = search needs
 
 mul-before : tie.Need-mul-before Inv-loop μ-loop
 mul-before c = omega (arith, cut (c .before .before .before .before) .1)
 
-index-1-before : tie.Need-index-1-before Inv-loop μ-loop
-index-1-before c = search needs
-
 index-2-before : tie.Need-index-2-before Inv-loop μ-loop
 index-2-before c = cut (c .before .before .before .before) .1
 
-cast-bit : tie.Need-cast-bit Inv-loop μ-loop
-cast-bit c = search needs
-
-bit-requires-2 : tie.Need-bit-requires-2 Inv-loop μ-loop
-bit-requires-2 c κs = search needs
-
 lay-requires-2 : tie.Need-lay-requires-2 Inv-loop μ-loop
 lay-requires-2 c κs = (omega arith, cut (c .before .before .before .before .before .before .before) .1)
-
-add-i : tie.Need-add-i Inv-loop μ-loop
-add-i c = search needs
-
-loop-less : tie.Need-loop-less Inv-loop μ-loop
-loop-less c = search needs
 
 loop-again : tie.Need-loop-again Inv-loop μ-loop
 unfolding union anyOf
@@ -145,18 +118,18 @@ lay-decisions-spec =
     Inv-loop
     μ-loop
     loop-holds
-    element-copy-out-wide
-    wide-requires
-    element-copy-out-e
+    (λ c. search needs)
+    (λ c κs. search needs)
+    (λ c. search needs)
     bit-requires
-    lay-requires
+    (λ c κs. search needs)
     mul-before
-    index-1-before
+    (λ c. search needs)
     index-2-before
-    cast-bit
-    bit-requires-2
+    (λ c. search needs)
+    (λ c κs. search needs)
     lay-requires-2
-    add-i
-    loop-less
+    (λ c. search needs)
+    (λ c. search needs)
     loop-again
     returns)

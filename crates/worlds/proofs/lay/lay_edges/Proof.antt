@@ -54,36 +54,15 @@ fits c d =
     let a = c .before .before in
     made-each edgeOf (a .before .args .t2 .items) (a .before .args .t2 .count) 64 (a .upto .result) (long (a .before)) (a .upto .ensures .0) EdgeFits (c .before .loop .i) d (search needs) (a .before .pre)
 
-upto-requires : tie.Need-upto-requires Inv-loop μ-loop
-upto-requires c κs = search needs
-
 loop-holds : tie.Need-loop-holds Inv-loop μ-loop
 loop-holds c = (search needs, each-none _ _ _ _ _, each-none _ _ _ _ _, same-start _ _)
-
-mul-e : tie.Need-mul-e Inv-loop μ-loop
-mul-e c = search needs
-
-element-copy-out-e : tie.Need-element-copy-out-e Inv-loop μ-loop
-element-copy-out-e c = search needs
 
 ends-requires : tie.Need-ends-requires Inv-loop μ-loop
 ends-requires c κs = let h = fits (c .before .before) _ in (h .0, h .1)
 
-lay-requires : tie.Need-lay-requires Inv-loop μ-loop
-lay-requires c κs = search needs
-
 bit-requires : tie.Need-bit-requires Inv-loop μ-loop
 unfolding edgeOf
 bit-requires c κs = fits (c .before .before .before .before .before) _ .2
-
-lay-requires-2 : tie.Need-lay-requires-2 Inv-loop μ-loop
-lay-requires-2 c κs = search needs
-
-add-i : tie.Need-add-i Inv-loop μ-loop
-add-i c = search needs
-
-loop-less : tie.Need-loop-less Inv-loop μ-loop
-loop-less c = search needs
 
 loop-again : tie.Need-loop-again Inv-loop μ-loop
 unfolding edgeOf anyOf
@@ -121,15 +100,15 @@ lay-edges-spec =
     (tie.spec
     Inv-loop
     μ-loop
-    upto-requires
+    (λ c κs. search needs)
     loop-holds
-    mul-e
-    element-copy-out-e
+    (λ c. search needs)
+    (λ c. search needs)
     ends-requires
-    lay-requires
+    (λ c κs. search needs)
     bit-requires
-    lay-requires-2
-    add-i
-    loop-less
+    (λ c κs. search needs)
+    (λ c. search needs)
+    (λ c. search needs)
     loop-again
     returns)

@@ -52,37 +52,16 @@ fits c d =
     let a = c .before .before in
     made-each statusOf (a .before .args .t2 .items) (a .before .args .t2 .count) 32 (a .upto .result) (long (a .before)) (a .upto .ensures .0) StatusFits (c .before .loop .i) d (search needs) (a .before .pre)
 
-upto-requires : tie.Need-upto-requires Inv-loop μ-loop
-upto-requires c κs = search needs
-
 loop-holds : tie.Need-loop-holds Inv-loop μ-loop
 loop-holds c = (search needs, each-none _ _ _ _ _, each-none _ _ _ _ _, same-start _ _)
-
-mul-s : tie.Need-mul-s Inv-loop μ-loop
-mul-s c = search needs
-
-element-copy-out-s : tie.Need-element-copy-out-s Inv-loop μ-loop
-element-copy-out-s c = search needs
 
 bit-requires : tie.Need-bit-requires Inv-loop μ-loop
 unfolding statusOf
 bit-requires c κs = fits (c .before .before) _ .0
 
-lay-requires : tie.Need-lay-requires Inv-loop μ-loop
-lay-requires c κs = search needs
-
 bit-requires-2 : tie.Need-bit-requires-2 Inv-loop μ-loop
 unfolding statusOf
 bit-requires-2 c κs = fits (c .before .before .before .before .before) _ .1
-
-lay-requires-2 : tie.Need-lay-requires-2 Inv-loop μ-loop
-lay-requires-2 c κs = search needs
-
-add-i : tie.Need-add-i Inv-loop μ-loop
-add-i c = search needs
-
-loop-less : tie.Need-loop-less Inv-loop μ-loop
-loop-less c = search needs
 
 loop-again : tie.Need-loop-again Inv-loop μ-loop
 unfolding statusOf anyOf
@@ -119,15 +98,15 @@ lay-statuses-spec =
     (tie.spec
     Inv-loop
     μ-loop
-    upto-requires
+    (λ c κs. search needs)
     loop-holds
-    mul-s
-    element-copy-out-s
+    (λ c. search needs)
+    (λ c. search needs)
     bit-requires
-    lay-requires
+    (λ c κs. search needs)
     bit-requires-2
-    lay-requires-2
-    add-i
-    loop-less
+    (λ c κs. search needs)
+    (λ c. search needs)
+    (λ c. search needs)
     loop-again
     returns)

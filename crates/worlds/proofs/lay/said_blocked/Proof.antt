@@ -36,21 +36,9 @@ long c = sym (length-map (c .args .t1 .verdicts) (λ v. v)) ∙ c .good .0 .1 .1
 some : (c : tie.After-upto Inv-loop μ-loop) → c .upto .result ≡ min (c .before .before .args .t1 .count) 64
 some c = c .upto .ensures .0 ∙ ap (λ (x : ℕ). min x 64) (c .before .wide .ensures .0)
 
-wide-requires : tie.Need-wide-requires Inv-loop μ-loop
-wide-requires c κs = search needs
-
-upto-requires : tie.Need-upto-requires Inv-loop μ-loop
-upto-requires c κs = search needs
-
 loop-holds : tie.Need-loop-holds Inv-loop μ-loop
 unfolding below numbers anyOf
 loop-holds c = (search needs, λ e. has-none e)
-
-element-copy-out-e : tie.Need-element-copy-out-e Inv-loop μ-loop
-element-copy-out-e c = search needs
-
-element-copy-out-v : tie.Need-element-copy-out-v Inv-loop μ-loop
-element-copy-out-v c = search needs
 
 bit-requires : tie.Need-bit-requires Inv-loop μ-loop
 unfolding decisionsOf
@@ -59,12 +47,6 @@ bit-requires c κs =
     let s = l .before .before .before in
     below-each (λ (d : Decision). d .edge < 64) (given (s .args .t1)) (s .args .t1 .count) (l .loop .i)
     (omega (arith, some (l .before), c .before .before .before .loop-test .taken)) (s .pre)
-
-add-i : tie.Need-add-i Inv-loop μ-loop
-add-i c = search needs
-
-loop-less : tie.Need-loop-less Inv-loop μ-loop
-loop-less c = search needs
 
 loop-again : tie.Need-loop-again Inv-loop μ-loop
 unfolding union
@@ -103,13 +85,13 @@ said-blocked-spec =
     (tie.spec
     Inv-loop
     μ-loop
-    wide-requires
-    upto-requires
+    (λ c κs. search needs)
+    (λ c κs. search needs)
     loop-holds
-    element-copy-out-e
-    element-copy-out-v
+    (λ c. search needs)
+    (λ c. search needs)
     bit-requires
-    add-i
-    loop-less
+    (λ c. search needs)
+    (λ c. search needs)
     loop-again
     returns)

@@ -34,24 +34,6 @@ upto-requires c κs = tt
 loop-holds : tie.Need-loop-holds Inv-loop μ-loop
 loop-holds c = (search needs, λ e d. upto-none (λ x. getD (edgesOf (c .before .args .t1)) x d .combination) e)
 
-mul-e : tie.Need-mul-e Inv-loop μ-loop
-mul-e c = search needs
-
-element-copy-out-e : tie.Need-element-copy-out-e Inv-loop μ-loop
-element-copy-out-e c = search needs
-
-cast-bit : tie.Need-cast-bit Inv-loop μ-loop
-cast-bit c = search needs
-
-bit-requires : tie.Need-bit-requires Inv-loop μ-loop
-bit-requires c κs = search needs
-
-add-i : tie.Need-add-i Inv-loop μ-loop
-add-i c = search needs
-
-loop-less : tie.Need-loop-less Inv-loop μ-loop
-loop-less c = search needs
-
 loop-again : tie.Need-loop-again Inv-loop μ-loop
 unfolding edgesOf edgeOf union
 loop-again c =
@@ -89,11 +71,11 @@ combination-edges-spec =
     μ-loop
     upto-requires
     loop-holds
-    mul-e
-    element-copy-out-e
-    cast-bit
-    bit-requires
-    add-i
-    loop-less
+    (λ c. search needs)
+    (λ c. search needs)
+    (λ c. search needs)
+    (λ c κs. search needs)
+    (λ c. search needs)
+    (λ c. search needs)
     loop-again
     returns)

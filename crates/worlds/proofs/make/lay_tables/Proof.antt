@@ -24,9 +24,6 @@ groups-long c = sym (length-map (c .args .groups .sets) (λ v. v)) ∙ c .good .
 influence-long : (c : tie.Start) → length (c .args .influence .sets) ≡ 80
 influence-long c = sym (length-map (c .args .influence .sets) (λ v. v)) ∙ c .good .1 .1 .1 .1 .0 .1 .1 .1 .0 .1 .0 .1
 
-element-set-from-none : tie.Need-element-set-from-none
-element-set-from-none c = search needs
-
 lay-edges-requires : tie.Need-lay-edges-requires
 unfolding planOf edgesOf
 lay-edges-requires c κs =
@@ -62,32 +59,11 @@ lay-decisions-requires c κs =
     let s = c .before .before .before .before .before .before .before .before .before .before .before .before .before .before .before .before in
     (s .pre .sixteen, subst (All OpenFits) (sym (s .pre .opens)) (opens-fit (planOf (s .args .plan)) (s .pre .sound)))
 
-upto-requires : tie.Need-upto-requires
-upto-requires c κs = search needs
-
-numbers-below-requires : tie.Need-numbers-below-requires
-numbers-below-requires c κs = search needs
-
 direct-precedence-requires : tie.Need-direct-precedence-requires
 unfolding planOf cutsOf
 direct-precedence-requires c κs =
     let s = c .before .before .before .before .before .before .before .before .before .before .before .before .before .before .before .before .before .before .before .before in
     precedes-fit (planOf (s .args .plan)) (s .pre .sound)
-
-chains-requires : tie.Need-chains-requires
-chains-requires c κs = search needs
-
-combination-edges-requires : tie.Need-combination-edges-requires
-combination-edges-requires c κs = search needs
-
-relate-cuts-requires : tie.Need-relate-cuts-requires
-relate-cuts-requires c κs = search needs
-
-upto-requires-2 : tie.Need-upto-requires-2
-upto-requires-2 c κs = search needs
-
-upto-requires-3 : tie.Need-upto-requires-3
-upto-requires-3 c κs = search needs
 
 array-share-prefix-sets : tie.Need-array-share-prefix-sets
 array-share-prefix-sets c = omega (arith, c .before .before .before .upto2 .ensures .1, groups-long (c .before .before .before .before .before .before .before .before .before .before .before .before .before .before .before .before .before .before .before .before .before .before .before .before .before .before .before .before .before .before .before .before .before))
@@ -100,9 +76,6 @@ array-share-prefix-reached c = omega (arith, c .before .before .upto3 .ensures .
 
 slice-aggregate-lay-spread-2 : tie.Need-slice-aggregate-lay-spread-2
 slice-aggregate-lay-spread-2 c = sym (length-take-le _ _ (omega (arith, c .before .before .before .upto3 .ensures .1, influence-long (c .before .before .before .before .before .before .before .before .before .before .before .before .before .before .before .before .before .before .before .before .before .before .before .before .before .before .before .before .before .before .before .before .before .before .before))))
-
-lay-spread-requires : tie.Need-lay-spread-requires
-lay-spread-requires c κs = search needs
 
 returns : tie.Need-returns
 unfolding planOf cutsOf setsOf
@@ -140,24 +113,24 @@ pub lay-tables-spec : {M : Type 1} → statement M
 lay-tables-spec =
     tie.close
     (tie.spec
-    element-set-from-none
+    (λ c. search needs)
     lay-edges-requires
     lay-cuts-requires
     lay-attachments-requires
     lay-bars-requires
     lay-statuses-requires
     lay-decisions-requires
-    upto-requires
-    numbers-below-requires
+    (λ c κs. search needs)
+    (λ c κs. search needs)
     direct-precedence-requires
-    chains-requires
-    combination-edges-requires
-    relate-cuts-requires
-    upto-requires-2
-    upto-requires-3
+    (λ c κs. search needs)
+    (λ c κs. search needs)
+    (λ c κs. search needs)
+    (λ c κs. search needs)
+    (λ c κs. search needs)
     array-share-prefix-sets
     slice-aggregate-lay-spread
     array-share-prefix-reached
     slice-aggregate-lay-spread-2
-    lay-spread-requires
+    (λ c κs. search needs)
     returns)

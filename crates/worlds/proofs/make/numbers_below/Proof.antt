@@ -11,9 +11,6 @@ use Rattle.worlds.proofs.RelateLaws.{has-pred}
 use Rattle.worlds.proofs.make.numbers_below.Statement.{statement}
 use Rattle.worlds.proofs.make.numbers_below.Tie as tie
 
-shl-result : tie.Need-shl-result
-shl-result c = search needs
-
 sub-result : tie.Need-sub-result
 sub-result c = omega (arith, shl-one (c .before .args .n) (c .if1 .left), pow-pos (c .before .args .n))
 
@@ -24,4 +21,4 @@ returns-2 : tie.Need-returns-2
 returns-2 c = λ h i. ap (λ (x : ℕ). has (x - 1) i) (shl-one (c .before .args .n) (omega (arith, c .if1 .left))) ∙ has-pred (c .before .args .n) i
 
 pub numbers-below-spec : {M : Type 1} → statement M
-numbers-below-spec = tie.close (tie.spec shl-result sub-result returns returns-2)
+numbers-below-spec = tie.close (tie.spec (λ c. search needs) sub-result returns returns-2)

@@ -4,11 +4,8 @@ use Rattle.worlds.proofs.OverLaws.{members-next, and-less}
 use Rattle.worlds.proofs.over.others.Statement.{statement}
 use Rattle.worlds.proofs.over.others.Tie as tie
 
-sub-result : tie.Need-sub-result
-sub-result c = search needs
-
 returns : tie.Need-returns
 returns c = (members-next _ (c .fits .set .fits) (c .pre), and-less _ (c .pre))
 
 pub others-spec : {M : Type 1} → statement M
-others-spec = tie.close (tie.spec sub-result returns)
+others-spec = tie.close (tie.spec (λ c. search needs) returns)

@@ -20,12 +20,6 @@ loop-holds c = (search needs, chain-none _ _)
 gather-requires : tie.Need-gather-requires Inv-loop μ-loop
 gather-requires c κs = tt
 
-add-i : tie.Need-add-i Inv-loop μ-loop
-add-i c = search needs
-
-loop-less : tie.Need-loop-less Inv-loop μ-loop
-loop-less c = search needs
-
 loop-again : tie.Need-loop-again Inv-loop μ-loop
 unfolding union
 loop-again c =
@@ -40,4 +34,4 @@ returns c =
 pub chain-spec : {M : Type 1} → statement M
 chain-spec =
     tie.close
-    (tie.spec Inv-loop μ-loop loop-holds gather-requires add-i loop-less loop-again returns)
+    (tie.spec Inv-loop μ-loop loop-holds gather-requires (λ c. search needs) (λ c. search needs) loop-again returns)

@@ -37,12 +37,6 @@ upto-requires c κs = tt
 loop-holds : tie.Need-loop-holds Inv-loop μ-loop
 loop-holds c = (search needs, c .before .whole .ensures, λ j h. absurd (omega arith))
 
-mul-c : tie.Need-mul-c Inv-loop μ-loop
-mul-c c = search needs
-
-element-copy-out-c : tie.Need-element-copy-out-c Inv-loop μ-loop
-element-copy-out-c c = search needs
-
 set-of-requires : tie.Need-set-of-requires Inv-loop μ-loop
 unfolding cutsOf cutOf
 set-of-requires c κs =
@@ -50,18 +44,6 @@ set-of-requires c κs =
     let a = l .before in
     let s = a .before .before .before in
     made-each cutOf (s .args .t1 .items) (s .args .t1 .count) 16 (a .upto .result) (long s) (a .upto .ensures .0) PrecedesFit (l .loop .i) _ (search needs) (s .pre)
-
-mul-direct : tie.Need-mul-direct Inv-loop μ-loop
-mul-direct c = search needs
-
-element-write-direct : tie.Need-element-write-direct Inv-loop μ-loop
-element-write-direct c = search needs
-
-add-i : tie.Need-add-i Inv-loop μ-loop
-add-i c = search needs
-
-loop-less : tie.Need-loop-less Inv-loop μ-loop
-loop-less c = search needs
 
 loop-again : tie.Need-loop-again Inv-loop μ-loop
 unfolding cutsOf cutOf
@@ -99,12 +81,12 @@ direct-precedence-spec =
     whole-requires
     upto-requires
     loop-holds
-    mul-c
-    element-copy-out-c
+    (λ c. search needs)
+    (λ c. search needs)
     set-of-requires
-    mul-direct
-    element-write-direct
-    add-i
-    loop-less
+    (λ c. search needs)
+    (λ c. search needs)
+    (λ c. search needs)
+    (λ c. search needs)
     loop-again
     returns)

@@ -13,78 +13,9 @@ use Rattle.worlds.proofs.RelateLaws.{lower-has, dropping-has, clashing-
 use Rattle.worlds.proofs.relate.relate_cut.Statement.{statement}
 use Rattle.worlds.proofs.relate.relate_cut.Tie as tie
 
-mul-own : tie.Need-mul-own
-mul-own c = search needs
-
-index-1-own : tie.Need-index-1-own
-index-1-own c = search needs
-
-index-2-own : tie.Need-index-2-own
-index-2-own c = search needs
-
-index-1-meeting : tie.Need-index-1-meeting
-index-1-meeting c = search needs
-
-meeting-requires : tie.Need-meeting-requires
-meeting-requires c κs = search needs
-
-index-1-equal-cuts : tie.Need-index-1-equal-cuts
-index-1-equal-cuts c = search needs
-
-equal-cuts-requires : tie.Need-equal-cuts-requires
-equal-cuts-requires c κs = search needs
-
-index-1-later-cuts : tie.Need-index-1-later-cuts
-index-1-later-cuts c = search needs
-
-later-cuts-requires : tie.Need-later-cuts-requires
-later-cuts-requires c κs = search needs
-
-index-1-meeting-2 : tie.Need-index-1-meeting-2
-index-1-meeting-2 c = search needs
-
-meeting-requires-2 : tie.Need-meeting-requires-2
-meeting-requires-2 c κs = search needs
-
-index-1-meeting-3 : tie.Need-index-1-meeting-3
-index-1-meeting-3 c = search needs
-
-meeting-requires-3 : tie.Need-meeting-requires-3
-meeting-requires-3 c κs = search needs
-
-cast-bit : tie.Need-cast-bit
-cast-bit c = search needs
-
-bit-requires : tie.Need-bit-requires
-bit-requires c κs = search needs
-
-meeting-requires-4 : tie.Need-meeting-requires-4
-meeting-requires-4 c κs = search needs
-
-mul-minus : tie.Need-mul-minus
-mul-minus c = search needs
-
-element-copy-out-minus : tie.Need-element-copy-out-minus
-element-copy-out-minus c = search needs
-
-minus-requires : tie.Need-minus-requires
-minus-requires c κs = search needs
-
-lay-requires : tie.Need-lay-requires
-lay-requires c κs = search needs
-
 sub-lay : tie.Need-sub-lay
 unfolding one
 sub-lay c = omega (arith, c .before .before .before .before .before .before .bit .ensures, pow-pos (c .before .before .before .before .before .before .before .before .before .before .before .before .before .before .before .before .before .before .args .c))
-
-lay-requires-2 : tie.Need-lay-requires-2
-lay-requires-2 c κs = search needs
-
-lay-requires-3 : tie.Need-lay-requires-3
-lay-requires-3 c κs = search needs
-
-minus-requires-2 : tie.Need-minus-requires-2
-minus-requires-2 c κs = search needs
 
 lay-requires-4 : tie.Need-lay-requires-4
 lay-requires-4 c κs = (omega arith, c .before .before .before .before .before .before .before .before .before .before .before .before .before .before .before .before .before .before .before .before .before .before .before .pre)
@@ -131,30 +62,30 @@ pub relate-cut-spec : {M : Type 1} → statement M
 relate-cut-spec =
     tie.close
     (tie.spec
-    mul-own
-    index-1-own
-    index-2-own
-    index-1-meeting
-    meeting-requires
-    index-1-equal-cuts
-    equal-cuts-requires
-    index-1-later-cuts
-    later-cuts-requires
-    index-1-meeting-2
-    meeting-requires-2
-    index-1-meeting-3
-    meeting-requires-3
-    cast-bit
-    bit-requires
-    meeting-requires-4
-    mul-minus
-    element-copy-out-minus
-    minus-requires
-    lay-requires
+    (λ c. search needs)
+    (λ c. search needs)
+    (λ c. search needs)
+    (λ c. search needs)
+    (λ c κs. search needs)
+    (λ c. search needs)
+    (λ c κs. search needs)
+    (λ c. search needs)
+    (λ c κs. search needs)
+    (λ c. search needs)
+    (λ c κs. search needs)
+    (λ c. search needs)
+    (λ c κs. search needs)
+    (λ c. search needs)
+    (λ c κs. search needs)
+    (λ c κs. search needs)
+    (λ c. search needs)
+    (λ c. search needs)
+    (λ c κs. search needs)
+    (λ c κs. search needs)
     sub-lay
-    lay-requires-2
-    lay-requires-3
-    minus-requires-2
+    (λ c κs. search needs)
+    (λ c κs. search needs)
+    (λ c κs. search needs)
     lay-requires-4
     lay-requires-5
     lay-requires-6

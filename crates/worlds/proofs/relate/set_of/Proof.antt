@@ -31,9 +31,6 @@ upto-requires c κs = tt
 loop-holds : tie.Need-loop-holds Inv-loop μ-loop
 loop-holds c = (search needs, none-union _ ∙ sym (set-union _))
 
-element-copy-out-bit : tie.Need-element-copy-out-bit Inv-loop μ-loop
-element-copy-out-bit c = search needs
-
 bit-requires : tie.Need-bit-requires Inv-loop μ-loop
 unfolding numbersOf
 bit-requires c κs =
@@ -41,12 +38,6 @@ bit-requires c κs =
     let a = l .before in
     let s = a .before .before in
     used-each (s .args .t1 .items) (s .args .t1 .count) 16 (a .upto .result) (long s) (some a) (λ n. n < 64) (l .loop .i) 0 (search needs) (s .pre)
-
-add-i : tie.Need-add-i Inv-loop μ-loop
-add-i c = search needs
-
-loop-less : tie.Need-loop-less Inv-loop μ-loop
-loop-less c = search needs
 
 loop-again : tie.Need-loop-again Inv-loop μ-loop
 unfolding numbersOf union
@@ -78,9 +69,9 @@ set-of-spec =
     wide-requires
     upto-requires
     loop-holds
-    element-copy-out-bit
+    (λ c. search needs)
     bit-requires
-    add-i
-    loop-less
+    (λ c. search needs)
+    (λ c. search needs)
     loop-again
     returns)

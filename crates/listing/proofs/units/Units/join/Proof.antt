@@ -10,20 +10,8 @@ use Rattle.listing.proofs.units.Units.join.Tie as tie
 returns : tie.Need-returns
 returns c = (record { blocks = joins-none _ _ (c .if1 .taken); few = search needs; long = c .before .pre .1 }, search needs)
 
-has-requires : tie.Need-has-requires
-has-requires c κs = search needs
-
 returns-2 : tie.Need-returns-2
 returns-2 c = (record { blocks = joins-known _ _ (sym (c .before .has .ensures) ∙ c .if2 .taken); few = search needs; long = c .before .before .before .pre .1 }, search needs)
-
-mul-self : tie.Need-mul-self
-mul-self c = search needs
-
-element-write-self : tie.Need-element-write-self
-element-write-self c = search needs
-
-add-self : tie.Need-add-self
-add-self c = search needs
 
 returns-3 : tie.Need-returns-3
 returns-3 c =
@@ -39,4 +27,4 @@ returns-3 c =
 pub join-spec : {M : Type 1} → statement M
 join-spec =
     tie.close
-    (tie.spec returns has-requires returns-2 mul-self element-write-self add-self returns-3)
+    (tie.spec returns (λ c κs. search needs) returns-2 (λ c. search needs) (λ c. search needs) (λ c. search needs) returns-3)

@@ -16,14 +16,8 @@ mark-requires-2 c κs = tt
 alone-requires : tie.Need-alone-requires
 alone-requires c κs = tt
 
-index-1-cut-blocks : tie.Need-index-1-cut-blocks
-index-1-cut-blocks c = search needs
-
 cut-blocks-requires : tie.Need-cut-blocks-requires
 cut-blocks-requires c κs = tt
-
-index-1-join-pairs : tie.Need-index-1-join-pairs
-index-1-join-pairs c = search needs
 
 join-pairs-requires : tie.Need-join-pairs-requires
 join-pairs-requires c κs = tt
@@ -53,8 +47,8 @@ cut-spec =
     mark-requires
     mark-requires-2
     alone-requires
-    index-1-cut-blocks
+    (λ c. search needs)
     cut-blocks-requires
-    index-1-join-pairs
+    (λ c. search needs)
     join-pairs-requires
     returns)
