@@ -5,14 +5,13 @@ use mathlib.Core.List.{List, [], _∷_, _++_}
 use mathlib.Core.Logic.{_⊎_, inl, inr}
 use Prim.Native.Nat.{ℕ, zero, suc, _≤_, _<_}
 use lib.ListN.{getD, List·getD-eq-default}
-use Rattle.records.specs.paper.Sets.{has, one, union, meets, only, setOf, below, unionBelow}
+use Rattle.sets.specs.paper.Sets.{has, one, union, meets, only, setOf, below, unionBelow, All}
 use Rattle.records.specs.paper.Plan.{Plan, getFact}
-use Rattle.records.specs.promises.Sound.{All}
-use Rattle.records.proofs.SetLaws.{Within, in-union-l, in-union-r, thru, within-refl, lt-or-le, meeting}
-use Rattle.records.proofs.Closing.{close-closed, close-within, in-one}
-use Rattle.records.proofs.Local.{Side, Weak, in-zero, single-side, side-of, closed-weak, all-below}
-use Rattle.records.proofs.Every.{all-parts}
-use Rattle.records.proofs.BelowLaws.{in-below, in-only}
+use Rattle.sets.proofs.SetLaws.{Within, in-union-l, in-union-r, thru, within-refl, lt-or-le, meeting}
+use Rattle.sets.proofs.Closing.{close-closed, close-within, in-one}
+use Rattle.sets.proofs.Local.{Side, Weak, in-zero, single-side, side-of, closed-weak, all-below}
+use Rattle.sets.proofs.Every.{all-parts}
+use Rattle.sets.proofs.BelowLaws.{in-below, in-only}
 use Rattle.expressions.specs.paper.Rules.{edgeCount, cutCount, attachmentCount, barCount, statusCount, factCount, edge, cut, attachment, bar, status, pair, withAnchor, ruleSets}
 use Rattle.expressions.specs.paper.Influence.{Frame, edgeUses, cutUses, attachmentUses, barUses, statusUses, usersOf, constraintUses, boundFacts, touched, touch, touches, decisionCount, decisionTouch, decisionTouches, joins, circle, touchesCircle}
 use Rattle.expressions.proofs.UnionLaws.{none-union, union-self}

@@ -10,8 +10,7 @@ use lib.ListN.{length, getD, set}
 use lib.Seq.{getD-set-same, getD-set-other}
 use lib.Dec.{eqb}
 use borrow.Author.Tests.{ne-eqb}
-use Rattle.records.specs.paper.Sets.{union, below, anyOf}
-use Rattle.records.specs.promises.Sound.{All}
+use Rattle.sets.specs.paper.Sets.{union, below, anyOf, All}
 use Rattle.records.specs.paper.Plan as paper
 use Rattle.records.specs.paper.Plan.{Plan}
 use Rattle.records.specs.code.Decoded.{cutOf, edgeOf}
@@ -20,7 +19,7 @@ use Rattle.records.specs.declared.plan.Cut.{Cut}
 use Rattle.records.specs.declared.plan.Edge.{Edge}
 use Rattle.records.specs.declared.plan.Cuts.{Cuts}
 use Rattle.records.specs.declared.plan.Edges.{Edges}
-use Rattle.records.proofs.LoopLaws.{all-at, getD-below, length-below}
+use Rattle.sets.proofs.LoopLaws.{all-at, getD-below, length-below}
 use Rattle.expressions.specs.code.Coded.{cutsOf, edgesOf}
 use Rattle.expressions.specs.code.Listed.{heldByCut}
 use Rattle.expressions.specs.declared.decisions.Undecided.{Undecided}

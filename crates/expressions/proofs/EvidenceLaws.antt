@@ -6,16 +6,16 @@ use Prim.Native.Nat.{ℕ, _+_, _≤_, _<_, min}
 use native.Mathlib.Omega.{arith}
 use lib.ListN.{length, getD, take, drop, set}
 use lib.Dec.{eqb}
-use Rattle.records.specs.paper.Sets.{has, one, union, only, unionOf, setOf}
-use Rattle.records.proofs.SetLaws.{ext, has-union}
+use Rattle.sets.specs.paper.Sets.{has, one, union, only, unionOf, setOf, All}
+use Rattle.sets.proofs.SetLaws.{ext, has-union}
 use Rattle.records.specs.paper.Case as paper
 use Rattle.records.specs.paper.Case.{Case, Observation}
-use Rattle.records.specs.promises.Sound.{All, SoundObservation, SoundBoolean, SoundRelation}
+use Rattle.records.specs.promises.Sound.{SoundObservation, SoundBoolean, SoundRelation}
 use Rattle.records.specs.code.Decoded.{observationsOf, booleanOf}
 use Rattle.records.specs.declared.case.Observations.{Observations}
 use Rattle.records.specs.declared.case.Boolean.{Boolean}
-use Rattle.records.proofs.LoopLaws.{all-at, getD-below, length-below}
-use Rattle.records.proofs.Every.{all-then}
+use Rattle.sets.proofs.LoopLaws.{all-at, getD-below, length-below}
+use Rattle.sets.proofs.Every.{all-then}
 use Rattle.expressions.specs.paper.Bindings.{observedInBooleans, observedInRelations, unknownIn, saidUnknown, evidenceOf}
 use Rattle.expressions.specs.code.Evident.{evidenceMark, booleanEvidence, Evident, EvidentBoolean, EvidentRelation, ReadCase}
 use Rattle.expressions.proofs.Rests.{below-next, below-none, made-next, made-none}

@@ -4,7 +4,7 @@ use mathlib.Core.Bool.{true, false}
 use mathlib.Core.List.{List, [], _∷_, map}
 use Prim.Native.Nat.{ℕ, zero, suc, _+_, _<_}
 use lib.ListN.{length, getD, set, replicate, length-map, List·getD-map}
-use Rattle.records.specs.paper.Sets.{has, below, numbers}
+use Rattle.sets.specs.paper.Sets.{has, below, numbers}
 use Rattle.expressions.specs.code.Codes.{boundOf}
 use Rattle.expressions.specs.code.Coded.{Holds}
 use Rattle.records.specs.paper.Plan as paper

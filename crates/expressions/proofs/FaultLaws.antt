@@ -10,14 +10,14 @@ use lib.ListN.{length, getD, take, drop, set, length-set}
 use lib.Seq.{take-suc-set}
 use lib.Dec.{eqb}
 use borrow.Author.Tests.{not-true, not-false}
-use Rattle.records.specs.paper.Sets.{anyOf}
+use Rattle.sets.specs.paper.Sets.{anyOf}
 use Rattle.records.specs.paper.Fields.{Verdict, fine, refused, firstFault, fault}
 use Rattle.records.specs.paper.Case as paper
 use Rattle.records.specs.code.Check.{checkedOf}
 use Rattle.records.specs.declared.checked.Checked.{Checked}
 use Rattle.records.proofs.CheckLaws.{orElse, fault-then}
 use Rattle.records.specs.declared.case.Boolean.{Boolean}
-use Rattle.records.proofs.LoopLaws.{length-below}
+use Rattle.sets.proofs.LoopLaws.{length-below}
 use Rattle.records.specs.code.Decoded.{booleanOf, observationsOf}
 use Rattle.expressions.specs.paper.Bindings.{familyFaults, booleanFault, booleanFaults, bindable}
 use Rattle.expressions.proofs.ListLaws.{front-more, any-last}

@@ -2,9 +2,10 @@
 use Prim.Native.Nat.{ℕ, suc}
 use mathlib.Core.List.{List, [], _∷_}
 use native.Mathlib.Omega.{arith}
+use Rattle.sets.specs.paper.Sets.{All}
 use Rattle.records.specs.paper.Plan.{Plan, Node, literal, fact, conj, disj, neg}
-use Rattle.records.specs.promises.Sound.{All, Sound, SoundFact, SoundNode, SoundNodes, SoundEdge, SoundAttachment, SoundStatus}
-use Rattle.records.proofs.Every.{all-then}
+use Rattle.records.specs.promises.Sound.{Sound, SoundFact, SoundNode, SoundNodes, SoundEdge, SoundAttachment, SoundStatus}
+use Rattle.sets.proofs.Every.{all-then}
 use Rattle.expressions.specs.code.Coded.{TupleFits, FactFits, EndsFit, AnchorFits, PersonFits}
 
 module _ (P : Plan) (sound : Sound P) where

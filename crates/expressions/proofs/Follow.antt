@@ -4,10 +4,10 @@ use mathlib.Core.Bool.{Bool, true, _&&_, _||_, not}
 use mathlib.Core.List.{List, [], _∷_, _++_}
 use Prim.Native.Nat.{ℕ, zero, suc}
 use lib.ListN.{getD}
-use Rattle.records.specs.paper.Sets.{has, union, allOf, anyOf, unionOf}
+use Rattle.sets.specs.paper.Sets.{has, union, allOf, anyOf, unionOf}
 use Rattle.records.specs.paper.Plan.{Plan, Node, literal, fact, conj, disj, neg}
-use Rattle.records.proofs.SetLaws.{in-union-l, in-union-r}
-use Rattle.records.proofs.Closing.{in-one}
+use Rattle.sets.proofs.SetLaws.{in-union-l, in-union-r}
+use Rattle.sets.proofs.Closing.{in-one}
 use Rattle.expressions.specs.paper.Nodes.{on, value, valuesFrom, values, uses, usesFrom, nodeUses}
 use Rattle.expressions.specs.paper.Influence.{usesAt}
 

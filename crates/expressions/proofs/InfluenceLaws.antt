@@ -7,10 +7,10 @@ use native.Mathlib.Nat.{lt-of-lt-of-le}
 use native.Mathlib.Omega.{arith}
 use lib.ListN.{length, take}
 use lib.Seq.{length-take-le, getD-take}
-use Rattle.records.specs.paper.Sets.{has, only, closeOf, below}
-use Rattle.records.proofs.SetLaws.{Within, has-not, has-none}
+use Rattle.sets.specs.paper.Sets.{has, only, closeOf, below}
+use Rattle.sets.proofs.SetLaws.{Within, has-not, has-none}
 use Rattle.records.proofs.Listing.{below-ext}
-use Rattle.records.proofs.Closing.{Closed, close-within, close-closed}
+use Rattle.sets.proofs.Closing.{Closed, close-within, close-closed}
 use Rattle.expressions.specs.paper.Rules.{ruleSets}
 use Rattle.expressions.specs.paper.Influence.{Frame, touch, decisionTouch}
 use Rattle.expressions.specs.paper.Bindings.{Bound, bindingAt}

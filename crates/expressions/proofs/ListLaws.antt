@@ -10,10 +10,9 @@ use lib.ListN.{length, getD, take, drop, set, replicate, length-take, drop-of-le
 use lib.Dec.{eqb}
 use lib.Seq.{ext-getD, getD-set-same, getD-set-other, take-suc-set, drop-cons, getD-take, take-suc, take-all, length-take-le}
 use borrow.Author.Tests.{eqb-true, eqb-false}
-use Rattle.records.specs.paper.Sets.{allOf, anyOf, numbers, below}
-use Rattle.records.specs.promises.Sound.{All}
-use Rattle.records.proofs.LoopLaws.{getD-below, getD-past, length-below, all-at}
-use Rattle.records.proofs.SetLaws.{lt-or-le}
+use Rattle.sets.specs.paper.Sets.{allOf, anyOf, numbers, below, All}
+use Rattle.sets.proofs.LoopLaws.{getD-below, getD-past, length-below, all-at}
+use Rattle.sets.proofs.SetLaws.{lt-or-le}
 use Rattle.records.proofs.ListLaws.{length-front, getD-front, take-min}
 use Rattle.records.proofs.Listing.{below-more}
 use Rattle.expressions.specs.code.Coded.{Holds}

@@ -8,8 +8,8 @@ use native.Mathlib.Numerals.{add-one}
 use native.Mathlib.Omega.{arith}
 use lib.Dec.{ltb}
 use borrow.Author.Tests.{eq-eqb, ne-eqb, lt-ltb, le-ltb}
-use Rattle.records.specs.paper.Sets.{has, one, union, only, unionBelow}
-use Rattle.records.proofs.SetLaws.{has-union, has-none, has-one, lt-or-le}
+use Rattle.sets.specs.paper.Sets.{has, one, union, only, unionBelow}
+use Rattle.sets.proofs.SetLaws.{has-union, has-none, has-one, lt-or-le}
 
 module _ (b : ℕ → Bool) where
   abbrev pub built : ℕ → ℕ

@@ -6,7 +6,7 @@ use mathlib.Core.List.{List, [], _∷_, _++_}
 use native.Mathlib.Nat.{add-zero}
 use native.Mathlib.Omega.{arith}
 use lib.ListN.{length, getD, set, length-append}
-use Rattle.records.specs.paper.Sets.{allOf, anyOf}
+use Rattle.sets.specs.paper.Sets.{allOf, anyOf}
 use Rattle.records.specs.paper.Plan.{Node, literal, fact, conj, disj, neg}
 use Rattle.records.specs.code.Decoded.{nodeBy, planOf}
 use Rattle.records.specs.declared.plan.Plan.{Plan}

@@ -11,10 +11,10 @@ use lib.ListN.{length, getD, take, length-append}
 use lib.Seq.{take-suc, take-length}
 use lib.Dec.{eqb}
 use borrow.Author.Tests.{eqb-true, ne-eqb}
-use Rattle.records.specs.paper.Sets.{below, anyOf}
+use Rattle.sets.specs.paper.Sets.{below, anyOf, All}
 use Rattle.records.specs.paper.Plan.{Plan, Decision, Cut, unresolvedIn, unresolved}
-use Rattle.records.specs.promises.Sound.{All, Sound}
-use Rattle.records.proofs.LoopLaws.{length-below, all-append}
+use Rattle.records.specs.promises.Sound.{Sound}
+use Rattle.sets.proofs.LoopLaws.{length-below, all-append}
 use Rattle.records.proofs.DecisionLaws.{unresolved-more}
 use Rattle.expressions.specs.paper.Rules.{noCut, cutCount, edgeCount}
 use Rattle.expressions.specs.paper.Influence.{Open, hasVerdict, openIn, openBelow, openDecisions, openDecision, openTouch, decisionTouch}

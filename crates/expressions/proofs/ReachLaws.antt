@@ -5,8 +5,8 @@ use mathlib.Core.List.{List, [], _∷_, _++_}
 use native.Mathlib.Omega.{arith}
 use lib.ListN.{length, take, length-take}
 use lib.Seq.{getD-take}
-use Rattle.records.specs.paper.Sets.{has, only, closeOf, below}
-use Rattle.records.proofs.LoopLaws.{getD-below}
+use Rattle.sets.specs.paper.Sets.{has, only, closeOf, below}
+use Rattle.sets.proofs.LoopLaws.{getD-below}
 use Rattle.records.proofs.Listing.{below-ext}
 use Rattle.records.specs.paper.Case.{CaseHeading, caseHeading}
 use Rattle.records.specs.code.Decoded.{planOf, caseOf, caseHeadingOf}

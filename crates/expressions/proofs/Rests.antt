@@ -4,8 +4,8 @@ use mathlib.Core.List.{List, [], _∷_, map}
 use Prim.Native.Nat.{ℕ, _+_, _≤_, _<_, min}
 use native.Mathlib.Omega.{arith}
 use lib.ListN.{length, getD, take, drop, drop-of-length-le}
-use Rattle.records.specs.paper.Sets.{below}
-use Rattle.records.proofs.LoopLaws.{length-below, getD-below}
+use Rattle.sets.specs.paper.Sets.{below}
+use Rattle.sets.proofs.LoopLaws.{length-below, getD-below}
 use Rattle.records.proofs.ListLaws.{length-front, getD-front}
 use Rattle.expressions.proofs.ListLaws.{rest-next}
 

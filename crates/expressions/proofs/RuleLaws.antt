@@ -6,9 +6,8 @@ use native.Mathlib.Nat.{add-zero, add-assoc, le-refl}
 use native.Mathlib.Omega.{arith}
 use lib.ListN.{length, getD, take, length-append}
 use lib.Seq.{take-length}
-use Rattle.records.specs.paper.Sets.{below}
+use Rattle.sets.specs.paper.Sets.{below, All}
 use Rattle.records.specs.paper.Plan.{Plan}
-use Rattle.records.specs.promises.Sound.{All}
 use Rattle.expressions.specs.paper.Rules.{ruleSets, pair, withAnchor, edge, cut, attachment, bar, endsOf, withAnchorOf}
 use Rattle.expressions.specs.code.Listed.{Rules, lists, Added, usesOf, personsOf, heldByCut, heldByBar}
 use Rattle.expressions.proofs.ListLaws.{below-map, front-below, made-next, made-all, made-each}

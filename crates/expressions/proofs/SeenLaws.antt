@@ -7,7 +7,7 @@ use native.Mathlib.Omega.{arith}
 use lib.ListN.{length, getD, take, drop, set, length-set}
 use lib.Dec.{eqb, eqb·suc-zero}
 use borrow.Author.Tests.{eqb-true, eqb-false, eq-eqb, ne-eqb}
-use Rattle.records.specs.paper.Sets.{allOf, below}
+use Rattle.sets.specs.paper.Sets.{allOf, below}
 use Rattle.records.specs.paper.Case as paper
 use Rattle.records.specs.paper.Case.{Observation}
 use Rattle.records.specs.code.Decoded.{booleanOf}

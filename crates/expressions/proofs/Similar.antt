@@ -7,10 +7,10 @@ use mathlib.Core.Logic.{_⊎_, inl, inr}
 use Prim.Native.Nat.{ℕ, _≤_, _<_}
 use lib.Dec.{eqb}
 use borrow.Author.Tests.{eqb-true}
-use Rattle.records.specs.paper.Sets.{has, one, union, only, closeOf}
+use Rattle.sets.specs.paper.Sets.{has, one, union, only, closeOf}
 use Rattle.records.specs.paper.Plan.{Plan}
-use Rattle.records.proofs.SetLaws.{has-union, has-none, has-one, lt-or-le}
-use Rattle.records.proofs.Local.{which, clash, Outside, Side, inside, outside, Twin, near, far, Twins, in-only, out-only, out-not, twin-near, twins-append, twins-below, close-in, close-out}
+use Rattle.sets.proofs.SetLaws.{has-union, has-none, has-one, lt-or-le}
+use Rattle.sets.proofs.Local.{which, clash, Outside, Side, inside, outside, Twin, near, far, Twins, in-only, out-only, out-not, twin-near, twins-append, twins-below, close-in, close-out}
 use Rattle.expressions.specs.paper.Rules.{factCount, ruleSets}
 use Rattle.expressions.specs.paper.Nodes.{on, values}
 use Rattle.expressions.specs.paper.Influence.{Frame, constraintUses, touch, touchesCircle, decisionCount, decisionTouch, usesAt}

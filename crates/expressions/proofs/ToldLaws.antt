@@ -7,7 +7,7 @@ use native.Mathlib.Omega.{arith}
 use lib.ListN.{length, getD, take}
 use lib.Dec.{eqb, ltb}
 use borrow.Author.Tests.{eqb-true, eqb-false, ltb-true}
-use Rattle.records.specs.paper.Sets.{has, below}
+use Rattle.sets.specs.paper.Sets.{has, below}
 use Rattle.records.specs.paper.Plan as paper
 use Rattle.records.specs.paper.Plan.{getFact, isBoolean}
 use Rattle.records.specs.paper.Case.{Case, Family, caseHeading}

@@ -3,7 +3,7 @@ use Prim.Native.Nat.{ℕ, zero, suc}
 use mathlib.Core.Path.{_≡_, refl, sym, ap, ap₂, _∙_, subst, fun-ext}
 use mathlib.Core.List.{List, [], _∷_, _++_, map, append-assoc}
 use lib.ListN.{length, getD}
-use Rattle.records.specs.paper.Sets.{has, one, union, only, setOf, below, numbers, unionBelow, unionOf}
+use Rattle.sets.specs.paper.Sets.{has, one, union, only, setOf, below, numbers, unionBelow, unionOf}
 use Rattle.records.specs.paper.Plan.{getFact}
 use Rattle.expressions.specs.paper.Rules.{edge, cut, attachment, bar, status, pair, withAnchor, endsOf, withAnchorOf}
 use Rattle.expressions.specs.paper.Influence.{Frame, usesAt, edgeUses, cutUses, attachmentUses, barUses, statusUses, usersOf, constraintUses, boundFacts, touched, touch, touches, edgeUsed}

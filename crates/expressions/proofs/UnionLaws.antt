@@ -3,8 +3,8 @@ use Prim.Native.Nat.{ℕ}
 use mathlib.Core.Path.{_≡_, refl, sym, ap, ap₂, _∙_}
 use mathlib.Core.Bool.{Bool, true, false, _||_, or-assoc, or-false, or-self}
 use mathlib.Core.List.{List, [], _∷_, _++_, flatMap}
-use Rattle.records.specs.paper.Sets.{has, one, union, only, setOf, unionOf}
-use Rattle.records.proofs.SetLaws.{ext, has-union, has-none}
+use Rattle.sets.specs.paper.Sets.{has, one, union, only, setOf, unionOf}
+use Rattle.sets.proofs.SetLaws.{ext, has-union, has-none}
 use Rattle.expressions.specs.code.Listed.{usersIn}
 
 pub union-assoc : (a b c : ℕ) → union (union a b) c ≡ union a (union b c)

@@ -11,7 +11,7 @@ ghost use mathlib.Core.List.{List, [], map};
 ghost use Prim.Native.Nat.{ℕ, _<_};
 ghost use lib.Dec.{eqb};
 ghost use lib.ListN.{length, take};
-ghost use Rattle.records.specs.paper.Sets.{anyOf};
+ghost use Rattle.sets.specs.paper.Sets.{anyOf};
 ghost use Rattle.records.specs.paper.Fields.{fine, firstFault};
 ghost use Rattle.records.specs.code.Decoded.{caseOf, familyOf, booleanOf, observationsOf};
 ghost use Rattle.records.specs.code.Check.{checkedOf};

@@ -1,13 +1,13 @@
 // A person's circle: that person and all who are reached by what joins persons.
 use crate::counts::upto;
 use crate::groups::Groups;
-use records::sets::bit;
-use records::sets::close;
+use sets::bit;
+use sets::close;
 ghost use mathlib.Core.Path.{_≡_};
 ghost use mathlib.Core.List.{_++_};
 ghost use Prim.Native.Nat.{_+_, _<_, _≤_};
 ghost use lib.ListN.{length, getD, take};
-ghost use Rattle.records.specs.paper.Sets.{one, below, closeOf};
+ghost use Rattle.sets.specs.paper.Sets.{one, below, closeOf};
 ghost use Rattle.expressions.specs.code.Joined.{joinsOf};
 ghost use Rattle.expressions.specs.code.Listed.{usedAt};
 

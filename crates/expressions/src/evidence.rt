@@ -7,15 +7,14 @@ use records::case::Booleans;
 use records::case::Case;
 use records::case::Observations;
 use records::case::Relations;
-use records::sets::bit;
-use records::sets::union;
+use sets::bit;
+use sets::union;
 ghost use mathlib.Core.Path.{_≡_};
 ghost use mathlib.Core.List.{map};
 ghost use Prim.Native.Nat.{ℕ, _<_};
 ghost use lib.Dec.{eqb};
 ghost use lib.ListN.{length, getD, take};
-ghost use Rattle.records.specs.paper.Sets.{one, union as both, only, unionOf};
-ghost use Rattle.records.specs.promises.Sound.{All};
+ghost use Rattle.sets.specs.paper.Sets.{one, union as both, only, unionOf, All};
 ghost use Rattle.records.specs.code.Decoded.{observationsOf, booleanOf, relationOf, caseOf};
 ghost use Rattle.expressions.specs.code.Evident.{evidenceMark, booleanEvidence, Evident, EvidentBoolean, EvidentRelation, ReadCase, EvidenceBy};
 

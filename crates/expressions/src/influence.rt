@@ -1,16 +1,16 @@
 // The influence of facts and decisions: whom they touch, closed under the rules.
 use crate::counts::upto;
 use crate::reach::Reach;
-use records::sets::bit;
-use records::sets::close;
-use records::sets::contains;
-use records::sets::union;
+use sets::bit;
+use sets::close;
+use sets::contains;
+use sets::union;
 ghost use mathlib.Core.Path.{_≡_};
 ghost use mathlib.Core.List.{_++_};
 ghost use Prim.Native.Nat.{ℕ, _+_, _<_, _≤_};
 ghost use lib.Dec.{leb};
 ghost use lib.ListN.{length, getD, take};
-ghost use Rattle.records.specs.paper.Sets.{has, below};
+ghost use Rattle.sets.specs.paper.Sets.{has, below};
 ghost use Rattle.expressions.specs.code.Influences.{setsOf, closedIf, influenceBy};
 
 // The sets of the facts, then those of the unresolved decisions.

@@ -5,7 +5,7 @@ ghost use mathlib.Core.List.{_++_, map};
 ghost use Prim.Native.Nat.{ℕ, _<_};
 ghost use lib.ListN.{length, getD, take};
 ghost use lib.Dec.{eqb};
-ghost use Rattle.records.specs.paper.Sets.{has};
+ghost use Rattle.sets.specs.paper.Sets.{has};
 ghost use Rattle.records.specs.code.Decoded.{observationsOf, booleanOf, relationOf};
 ghost use Rattle.expressions.specs.paper.Bindings.{unknownIn, observedInBooleans, observedInRelations};
 ghost use Rattle.expressions.specs.code.Sight.{nothing, lookAt, lookAll};
@@ -14,8 +14,8 @@ use crate::counts::wide;
 use records::case::Booleans;
 use records::case::Observations;
 use records::case::Relations;
-use records::sets::bit;
-use records::sets::union;
+use sets::bit;
+use sets::union;
 
 // What was seen of a fact so far: the first pair of value and evidence, whether another pair came, whether another value did.
 pub struct Sight {

@@ -8,7 +8,7 @@ use native.Mathlib.Omega.{arith}
 use lib.ListN.{length, getD, length-append}
 use lib.Dec.{eqb, ltb, leb}
 use borrow.Author.Tests.{leb-true, ltb-true, ltb-false}
-use Rattle.records.specs.paper.Sets.{odd}
+use Rattle.sets.specs.paper.Sets.{odd}
 use Rattle.records.specs.paper.Fields.{Range, upTo, number, Shape, bytes, list, most, Read, got, bad, andThen, byteAt, bytesAt, repeat, little, fieldAt, fieldsAt, Format, noFormat, Raw, formatOf, recordAt}
 use Rattle.listing.specs.Rooms.{shapeMost, shapesMost, recordMost, longestRecord}
 

@@ -7,7 +7,7 @@ use native.Mathlib.Omega.{arith}
 use lib.ListN.{length, getD, take}
 use lib.Dec.{eqb, ltb}
 use borrow.Author.Tests.{ltb-false}
-use Rattle.records.specs.paper.Sets.{allOf}
+use Rattle.sets.specs.paper.Sets.{allOf}
 use Rattle.records.specs.paper.Fields.{Raw, formatOf, Verdict, fine, refused, onFine, firstFault}
 use Rattle.records.specs.paper.Plan.{Plan, planFormats, planCounts, addToPlan, judgePlan, emptyPlan, planRecords, planFaults, checkedPlan, unresolved, factsRise, decidedOnce, headingFrom, factFrom, nodeFrom, edgeFrom, cutFrom, attachmentFrom, barFrom, statusFrom}
 use Rattle.records.specs.paper.Case.{Case, caseFormats, caseCounts, addToCase, judgeCase, emptyCase, caseRecords, readCase, caseHeading, booleansAt, caseNamingFaults, caseHeadingFrom, familyFrom, booleanFrom, relationFrom, constraintFrom}

@@ -7,7 +7,7 @@ use native.Mathlib.Omega.{arith}
 use lib.ListN.{length, length-append, length-map, replicate}
 use lib.Seq.{length-take-le}
 use lib.Dec.{ltb}
-use Rattle.records.specs.paper.Sets.{members, membersFrom, when}
+use Rattle.sets.specs.paper.Sets.{members, membersFrom, when}
 use Rattle.report.specs.paper.Line.{Line, lineBytes, bareLine}
 use Rattle.report.specs.paper.LineAt.{linesFrom}
 use Rattle.report.specs.paper.EventList.{eventLength}

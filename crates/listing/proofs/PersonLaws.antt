@@ -4,7 +4,7 @@ use mathlib.Core.Bool.{Bool, true, false, cond}
 use mathlib.Core.List.{List, [], _∷_, _++_}
 use Prim.Native.Nat.{ℕ, zero, suc, _+_, _-_, _/_, _%_, _≤_, _<_}
 use native.Mathlib.Omega.{arith}
-use Rattle.records.specs.paper.Sets.{membersFrom, when}
+use Rattle.sets.specs.paper.Sets.{membersFrom, when}
 use Rattle.listing.specs.Text.{decimal, further, persons}
 use Rattle.listing.specs.Page.{Page, putByte, puts}
 use Rattle.listing.proofs.PageLaws.{puts-append, puts-first}

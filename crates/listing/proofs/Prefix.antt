@@ -11,7 +11,7 @@ use lib.Dec.{eqb, ltb, leb}
 use borrow.Author.Tests.{lt-ltb, lt-leb, leb-true}
 use Rattle.records.specs.paper.Fields.{Read, got, bad, Format, noFormat, Raw, formatOf, recordAt, Verdict, fine, refused, readFrom}
 use Rattle.records.proofs.ReadLaws.{OnFine}
-use Rattle.records.proofs.SetLaws.{lt-or-le}
+use Rattle.sets.proofs.SetLaws.{lt-or-le}
 use mathlib.Core.Logic.{_⊎_, ⊎-elim}
 use Rattle.listing.specs.Rooms.{recordsMost, longestRecord, roomFor}
 use Rattle.listing.proofs.Alike.{Ended, Alike, Begins, Reaches, record-alike, longest-some}

@@ -5,7 +5,7 @@ use Prim.Native.Nat.{ℕ, _+_, _-_, _≤_, _<_}
 use native.Mathlib.Omega.{arith}
 use lib.ListN.{length}
 use lib.Seq.{length-take-le}
-use Rattle.records.specs.paper.Sets.{members}
+use Rattle.sets.specs.paper.Sets.{members}
 use Rattle.report.specs.paper.Line.{Line}
 use Rattle.report.specs.paper.LineAt.{lineAt, decoded, linesFrom}
 use Rattle.report.specs.paper.Units.{units}

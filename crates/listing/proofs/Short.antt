@@ -8,7 +8,7 @@ use native.Mathlib.Nat.{pow-suc}
 use lib.ListN.{length, getD, take, drop, length-append}
 use lib.Seq.{getD-take, getD-drop}
 use lib.Dec.{eqb}
-use Rattle.records.specs.paper.Sets.{members, membersFrom, when, anyOf}
+use Rattle.sets.specs.paper.Sets.{members, membersFrom, when, anyOf}
 use Rattle.report.specs.paper.Line.{Line, lineLength}
 use Rattle.report.specs.paper.LineAt.{lineAt, decoded, linesFrom}
 use Rattle.report.specs.paper.Units.{joinUnit, unitsWith, units}

@@ -4,7 +4,7 @@ use mathlib.Core.List.{List, [], _∷_, _++_}
 use Prim.Native.Nat.{ℕ, zero, suc, _+_, _/_, _%_}
 use lib.ListN.{length}
 use lib.Dec.{ltb}
-use Rattle.records.specs.paper.Sets.{members}
+use Rattle.sets.specs.paper.Sets.{members}
 use Rattle.report.specs.paper.Line.{Line}
 use Rattle.report.specs.paper.Units.{units}
 

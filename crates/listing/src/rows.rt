@@ -10,7 +10,7 @@ ghost use mathlib.Core.Bool.{cond};
 ghost use mathlib.Core.List.{_∷_};
 ghost use Prim.Native.Nat.{_+_, _*_, _≤_};
 ghost use lib.ListN.{length};
-ghost use Rattle.records.specs.paper.Sets.{members};
+ghost use Rattle.sets.specs.paper.Sets.{members};
 ghost use Rattle.report.specs.paper.LineAt.{linesFrom};
 ghost use Rattle.listing.specs.Text.{decimal, persons, cell, rowOf, rows, refusedRow};
 ghost use Rattle.listing.specs.Page.{puts};

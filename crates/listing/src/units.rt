@@ -5,7 +5,7 @@ ghost use mathlib.Core.List.{[]};
 ghost use Prim.Native.Nat.{_+_, _*_, _≤_, _<_};
 ghost use lib.ListN.{length, take};
 ghost use lib.Dec.{eqb};
-ghost use Rattle.records.specs.paper.Sets.{anyOf};
+ghost use Rattle.sets.specs.paper.Sets.{anyOf};
 ghost use Rattle.report.specs.paper.LineAt.{linesFrom};
 ghost use Rattle.report.specs.paper.Units.{joinUnit, units};
 ghost use Rattle.listing.specs.Shown.{IsUnits};

@@ -20,7 +20,7 @@ use Rattle.records.specs.declared.plan.reading.PlanRead.{PlanRead}
 use Rattle.records.specs.declared.case.reading.CaseRead.{CaseRead}
 use Rattle.records.proofs.Accepted.{accepted}
 use Rattle.records.proofs.AcceptedCase.{accepted-case}
-use Rattle.records.specs.paper.Sets.{has}
+use Rattle.sets.specs.paper.Sets.{has}
 use Rattle.expressions.specs.paper.Influence.{Frame, openDecisions, decisionCount}
 use Rattle.expressions.specs.paper.Variables.{isVariable, slotsBy, slots, booleansAmong, booleanCount, worldCount}
 use Rattle.expressions.specs.code.Codes.{boundOf}

@@ -6,11 +6,11 @@ use mathlib.Core.Logic.{inl, ⊎-elim}
 use Prim.Native.Nat.{ℕ, _<_, _^_}
 use native.Mathlib.Omega.{arith}
 use lib.ListN.{length, take, drop, take-append-drop}
+use Rattle.sets.specs.paper.Sets.{All}
 use Rattle.records.specs.paper.Fields.{fine}
 use Rattle.records.specs.paper.Plan.{Plan}
 use Rattle.records.specs.paper.Case.{Case, readCase, caseHeading}
-use Rattle.records.specs.promises.Sound.{All}
-use Rattle.records.proofs.Every.{all-parts, all-map}
+use Rattle.sets.proofs.Every.{all-parts, all-map}
 use Rattle.records.proofs.AcceptedCase.{accepted-case}
 use Rattle.expressions.specs.paper.Bindings.{Bound, frameOf}
 use Rattle.expressions.specs.paper.Variables.{worlds}

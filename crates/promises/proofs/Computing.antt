@@ -2,7 +2,7 @@
 use mathlib.Core.List.{List, flatMap}
 use Prim.Native.Nat.{ℕ}
 use lib.Count.{onesIn, trailingZeros}
-use Rattle.records.specs.paper.Sets.{has, one, union, meet, minus, disjoint, meets, subset, setOf, size, lowest, membersFrom, members, lexLess, risingLess, absorb, pass, passes, closeOf, numbers, below, anyBelow, unionBelow, foldBelow, allOf, anyOf, unionOf}
+use Rattle.sets.specs.paper.Sets.{has, one, union, meet, minus, disjoint, meets, subset, setOf, size, lowest, membersFrom, members, lexLess, risingLess, absorb, pass, passes, closeOf, numbers, below, anyBelow, unionBelow, foldBelow, allOf, anyOf, unionOf}
 use Rattle.records.specs.paper.Fields.{byteAt, bytesAt, repeat, little, fieldAt, fieldsAt, recordAt, readFrom, firstFault}
 use Rattle.records.specs.code.Check.{checkedOf}
 use Rattle.records.specs.paper.Plan.{planFormats, nodeFrom, electionFrom, decisionsFrom, addToPlan, planCounts, isBoolean, rises, factsRise, decidedOnce, unresolvedIn, unresolved, judgePlan, planRecords, eachFrom, getFact, nodeSound, edgeSound, electionSound, cutSound, attachmentSound, namingFaults, crosses, crossingsDecided, sameElection, electionFaults, planFaults, checkedPlan}

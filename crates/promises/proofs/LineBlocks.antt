@@ -8,11 +8,10 @@ use Prim.Native.Nat.{ℕ, _≤_}
 use native.Mathlib.Omega.{arith}
 use lib.Dec.{eqb}
 use borrow.Author.Tests.{eqb-true, eqb-false, eq-eqb}
-use Rattle.records.specs.paper.Sets.{has, allOf, unionOf}
+use Rattle.sets.specs.paper.Sets.{has, allOf, unionOf, All}
 use Rattle.records.specs.paper.Plan.{Plan}
-use Rattle.records.specs.promises.Sound.{All}
-use Rattle.records.proofs.SetLaws.{and-parts}
-use Rattle.records.proofs.Local.{clash}
+use Rattle.sets.proofs.SetLaws.{and-parts}
+use Rattle.sets.proofs.Local.{clash}
 use Rattle.expressions.specs.paper.Variables.{Influence}
 use Rattle.worlds.specs.paper.World.{World}
 use Rattle.worlds.specs.paper.View.{View, view}

@@ -7,10 +7,10 @@ use native.Mathlib.Nat.{pow-suc}
 use native.Mathlib.Omega.{arith}
 use lib.ListN.{length, getD, take, drop, replicate, take-append-drop, List·getD-eq-default}
 use lib.Seq.{take-at}
+use Rattle.sets.specs.paper.Sets.{All}
 use Rattle.records.specs.paper.Fields.{little}
-use Rattle.records.specs.promises.Sound.{All}
-use Rattle.records.proofs.SetLaws.{lt-or-le}
-use Rattle.records.proofs.Every.{all-parts, all-getD}
+use Rattle.sets.proofs.SetLaws.{lt-or-le}
+use Rattle.sets.proofs.Every.{all-parts, all-getD}
 use Rattle.worlds.specs.paper.Events.{littleBytes}
 use Rattle.report.specs.paper.Line.{Line, lineBytes, lineLength, bareLine}
 use Rattle.report.specs.paper.LineAt.{lineAt, decoded}

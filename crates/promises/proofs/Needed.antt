@@ -5,11 +5,10 @@ use mathlib.Core.List.{List, [], _∷_, map}
 use Prim.Native.Nat.{ℕ, _<_}
 use lib.ListN.{drop, getD, length, List·getD-map}
 use borrow.Author.Tests.{ltb-true, eqb-true, eq-eqb}
-use Rattle.records.specs.paper.Sets.{numbers, below}
+use Rattle.sets.specs.paper.Sets.{numbers, below, All}
 use Rattle.records.specs.paper.Plan.{Plan}
-use Rattle.records.specs.promises.Sound.{All}
-use Rattle.records.proofs.BelowLaws.{any-false}
-use Rattle.records.proofs.LoopLaws.{getD-below, all-at}
+use Rattle.sets.proofs.BelowLaws.{any-false}
+use Rattle.sets.proofs.LoopLaws.{getD-below, all-at}
 use Rattle.expressions.specs.paper.Rules.{factCount, withAnchor, ruleSets}
 use Rattle.expressions.specs.paper.Influence.{Frame, edgeUses, touched, touch, touches, joins, circle, touchesCircle}
 use Rattle.expressions.specs.paper.Bindings.{frameOf, conflict, unknown, known, unbound, Bound, both, just, bindingOf}

@@ -5,7 +5,7 @@ use Prim.Native.Nat.{ℕ, zero, suc, _/_, _%_, _≤_, _<_}
 use native.Mathlib.Omega.{arith}
 use native.Mathlib.Nat.{not-suc-le-zero, le-of-suc-le-suc}
 use lib.ListN.{length, getD}
-use Rattle.records.specs.paper.Sets.{when, members, membersFrom}
+use Rattle.sets.specs.paper.Sets.{when, members, membersFrom}
 
 -- the list goes on above p
 abbrev From : ℕ → ℕ → List ℕ → Type 0

@@ -10,11 +10,11 @@ use lib.ListN.{length, getD, replicate, length-map, List·getD-eq-default}
 use lib.Bits.{and-le-r}
 use lib.Pow.{pow-pos}
 use lib.Dec.{ltb}
-use Rattle.records.specs.paper.Sets.{has, meet, disjoint, members}
-use Rattle.records.proofs.SetLaws.{Within, has-none, has-high, antisym, in-meet, of-meet, apart, disjoint-false, lt-or-le}
+use Rattle.sets.specs.paper.Sets.{has, meet, disjoint, members}
+use Rattle.sets.proofs.SetLaws.{Within, has-none, has-high, antisym, in-meet, of-meet, apart, disjoint-false, lt-or-le}
 use Rattle.records.proofs.ListLaws.{getD-mapped}
-use Rattle.records.proofs.MemberLaws.{members-length, member-at, member-place}
-use Rattle.records.proofs.Local.{clash}
+use Rattle.sets.proofs.MemberLaws.{members-length, member-at, member-place}
+use Rattle.sets.proofs.Local.{clash}
 use Rattle.report.specs.paper.Line.{Line, lineBytes}
 use Rattle.report.specs.paper.EventList.{eventLength}
 use Rattle.report.specs.declared.Answer.{Answer}

@@ -6,14 +6,14 @@ use mathlib.Core.Logic.{_⊎_, inl, inr}
 use Prim.Native.Nat.{ℕ, _<_, _≤_}
 use lib.ListN.{getD, length}
 use lib.Dec.{eqb}
-use Rattle.records.specs.paper.Sets.{has, size, members, allOf, unionOf}
+use Rattle.sets.specs.paper.Sets.{has, size, members, allOf, unionOf}
 use Rattle.records.specs.paper.Fields.{fine}
 use Rattle.records.specs.paper.Plan.{Plan, checkedPlan}
 use Rattle.records.specs.paper.Case.{Case, readCase, caseHeading}
-use Rattle.records.proofs.SetLaws.{lt-or-le, has-high}
-use Rattle.records.proofs.MemberLaws.{member-place}
+use Rattle.sets.proofs.SetLaws.{lt-or-le, has-high}
+use Rattle.sets.proofs.MemberLaws.{member-place}
 use Rattle.records.proofs.AcceptedCase.{accepted-case}
-use Rattle.records.proofs.Local.{clash}
+use Rattle.sets.proofs.Local.{clash}
 use Rattle.expressions.specs.paper.Bindings.{bindings, frameOf}
 use Rattle.expressions.specs.paper.Variables.{Influence, influence, worlds}
 use Rattle.worlds.specs.paper.View.{View}

@@ -6,11 +6,11 @@ use mathlib.Core.List.{List, [], map}
 use Prim.Native.Nat.{ℕ, _<_}
 use lib.ListN.{length, getD, length-map, List·getD-map}
 use lib.Dec.{eqb}
-use Rattle.records.specs.paper.Sets.{has, size, members}
+use Rattle.sets.specs.paper.Sets.{has, size, members}
 use Rattle.records.specs.paper.Fields.{fine}
 use Rattle.records.specs.paper.Plan.{Plan, checkedPlan}
 use Rattle.records.specs.paper.Case.{Case, CaseHeading, readCase, caseHeading}
-use Rattle.records.proofs.MemberLaws.{members-length, member-at}
+use Rattle.sets.proofs.MemberLaws.{members-length, member-at}
 use Rattle.expressions.specs.paper.Rules.{factCount}
 use Rattle.expressions.specs.paper.Influence.{Frame, touchesCircle}
 use Rattle.expressions.specs.paper.Bindings.{unbound, bindingOf, bindings, frameOf}

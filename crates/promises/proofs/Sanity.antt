@@ -5,7 +5,7 @@ use mathlib.Core.List.{List, [], _∷_, _++_, map}
 use Prim.Native.Nat.{ℕ}
 use lib.ListN.{getD}
 use lib.Dec.{eqb, ltb}
-use Rattle.records.specs.paper.Sets.{has, size, lowest, members, anyBelow}
+use Rattle.sets.specs.paper.Sets.{has, size, lowest, members, anyBelow}
 use Rattle.records.specs.paper.Fields.{refused, fine, Verdict}
 use Rattle.records.specs.paper.Plan.{emptyPlan, Plan, unresolved, checkedPlan}
 use Rattle.records.specs.paper.Case.{emptyCase, CaseHeading, Case, readCase, caseHeading}

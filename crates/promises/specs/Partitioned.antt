@@ -6,7 +6,7 @@ use mathlib.Core.List.{List}
 use mathlib.Core.Logic.{_⊎_, _↔_, _≢_}
 use Prim.Native.Nat.{ℕ, _<_}
 use lib.ListN.{getD, take, drop}
-use Rattle.records.specs.paper.Sets.{has, disjoint}
+use Rattle.sets.specs.paper.Sets.{has, disjoint}
 use Rattle.records.specs.paper.Fields.{little}
 use Rattle.report.specs.paper.LineAt.{lineAt}
 

@@ -6,7 +6,7 @@ use mathlib.Core.Bool.{Bool, true}
 use mathlib.Core.List.{List}
 use Prim.Native.Nat.{ℕ, _<_}
 use lib.ListN.{getD}
-use Rattle.records.specs.paper.Sets.{size, members}
+use Rattle.sets.specs.paper.Sets.{size, members}
 use Rattle.records.specs.paper.Fields.{fine}
 use Rattle.records.specs.paper.Plan.{Plan, checkedPlan}
 use Rattle.records.specs.paper.Case.{Case, readCase, caseHeading}

@@ -3,7 +3,7 @@ use mathlib.Core.Bool.{Bool, not, cond}
 use mathlib.Core.List.{List, [], _++_}
 use Prim.Native.Nat.{ℕ}
 use lib.Dec.{eqb}
-use Rattle.records.specs.paper.Sets.{has, one, union, meet, meets, setOf, only, closeOf, below, unionOf}
+use Rattle.sets.specs.paper.Sets.{has, one, union, meet, meets, setOf, only, closeOf, below, unionOf}
 use Rattle.records.specs.paper.Plan.{Plan, getFact}
 use Rattle.expressions.specs.paper.Rules.{edgeCount, cutCount, attachmentCount, barCount, statusCount, factCount, edge, cut, attachment, bar, status, pair, withAnchor}
 use Rattle.expressions.specs.paper.Influence.{Frame, usesAt, cutUses, attachmentUses, barUses, statusUses, usersOf, constraintUses, boundFacts, decisionTouches}

@@ -8,11 +8,11 @@ use native.Mathlib.Omega.{arith}
 use lib.ListN.{length, getD}
 use lib.Dec.{eqb, ltb}
 use borrow.Author.Tests.{ltb-false, eqb-false}
-use Rattle.records.specs.paper.Sets.{allOf}
+use Rattle.sets.specs.paper.Sets.{allOf, All}
 use Rattle.records.specs.paper.Fields.{Raw, formatOf, fine, fault}
 use Rattle.records.specs.paper.Plan.{Plan, Cut, planFormats, nodeFrom, edgeFrom, cutFrom, attachmentFrom, addToPlan, planCounts, factsRise, decidedOnce, unresolved, judgePlan, emptyPlan, planRecords, eachFrom, faults, nodeSound, edgeSound, cutSound, attachmentSound, nodeNumber, namingFaults, crossingsDecided, electionFaults, electionRecords, nodesAt, cutsAt, planFaults, checkedPlan, headingFrom, factFrom, barFrom, statusFrom}
-use Rattle.records.specs.promises.Sound.{All, SoundEdge, SoundCut, SoundAttachment, SoundBar, SoundStatus, SoundHeading, SoundFact, Sound}
-use Rattle.records.proofs.Every.{all-any, exactly-one, all-both, all-parts, all-tested}
+use Rattle.records.specs.promises.Sound.{SoundEdge, SoundCut, SoundAttachment, SoundBar, SoundStatus, SoundHeading, SoundFact, Sound}
+use Rattle.sets.proofs.Every.{all-any, exactly-one, all-both, all-parts, all-tested}
 use Rattle.records.proofs.FieldLaws.{InFormat}
 use Rattle.records.proofs.PlanParts.{nodes-sound, edge-sound, cut-sound, attachment-sound, bar-sound, status-sound, fact-sound, heading-sound}
 use Rattle.records.proofs.ReadLaws.{fine-then, of-fine, past-faults, faultless, Judged, Kept, read-keeps, OfKind, kind-none, kind-joined, each-sound}

@@ -9,11 +9,12 @@ use lib.ListN.{length, getD}
 use lib.Dec.{eqb, ltb}
 use lib.Pow.{pow-pos}
 use borrow.Author.Tests.{ltb-false, eqb-false}
+use Rattle.sets.specs.paper.Sets.{All}
 use Rattle.records.specs.paper.Fields.{Raw, field, num, formatOf, number, evidence, upTo, list, fine}
 use Rattle.records.specs.paper.Plan.{Plan, booleanFact, faults}
 use Rattle.records.specs.paper.Case.{Case, Observation, caseFormats, observationsFrom, caseHeadingFrom, familyFrom, booleanFrom, relationFrom, constraintFrom, addToCase, caseCounts, judgeCase, emptyCase, caseRecords, relationSound, caseNamingFaults, booleansAt, readCase, caseHeading}
-use Rattle.records.specs.promises.Sound.{All, SoundCaseHeading, SoundFamily, SoundObservation, SoundBoolean, SoundRelation, SoundCase}
-use Rattle.records.proofs.Every.{all-any, exactly-one, all-less, all-parts, all-getD}
+use Rattle.records.specs.promises.Sound.{SoundCaseHeading, SoundFamily, SoundObservation, SoundBoolean, SoundRelation, SoundCase}
+use Rattle.sets.proofs.Every.{all-any, exactly-one, all-less, all-parts, all-getD}
 use Rattle.records.proofs.FieldLaws.{InFormat, Held, Fitting, held, byte-top, byte-numbers, mask-below, most-top, pairs, list-pairs}
 use Rattle.records.proofs.ReadLaws.{fine-then, of-fine, past-faults, faultless, Judged, Kept, read-keeps, OfKind, kind-none, kind-joined, each-sound}
 

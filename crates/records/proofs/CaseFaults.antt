@@ -8,7 +8,7 @@ use native.Mathlib.Omega.{arith}
 use lib.ListN.{length, getD, drop, drop-of-length-le}
 use lib.Seq.{drop-cons}
 use borrow.Author.Tests.{eq-eqb, ne-eqb, lt-ltb, le-ltb}
-use Rattle.records.specs.paper.Sets.{allOf, anyOf}
+use Rattle.sets.specs.paper.Sets.{allOf, anyOf}
 use Rattle.records.specs.paper.Fields.{Verdict, fine, refused, onFine, firstFault}
 use Rattle.records.specs.paper.Plan as paper
 use Rattle.records.specs.paper.Case as case

@@ -8,7 +8,7 @@ use native.Mathlib.Omega.{arith}
 use lib.ListN.{length}
 use lib.Dec.{eqb, leb}
 use borrow.Author.Tests.{eq-eqb, ne-eqb}
-use Rattle.records.specs.paper.Sets.{odd}
+use Rattle.sets.specs.paper.Sets.{odd}
 use Rattle.records.specs.paper.Fields.{Shape, bytes, list, most, number, Read, got, bad, andThen, Raw, Format, Range, byteAt, bytesAt, fieldAt, fieldsAt, formatOf, repeat, little}
 use Rattle.records.specs.code.Readers.{mapRead, fieldIf, first, bytesFrom}
 use Rattle.records.specs.code.Decoded.{ifGiven}

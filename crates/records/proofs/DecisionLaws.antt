@@ -8,7 +8,7 @@ use native.Mathlib.Omega.{arith}
 use lib.ListN.{getD}
 use lib.Dec.{eqb}
 use borrow.Author.Tests.{eq-eqb, ne-eqb}
-use Rattle.records.specs.paper.Sets.{numbers, below, anyOf, allOf}
+use Rattle.sets.specs.paper.Sets.{numbers, below, anyOf, allOf}
 use Rattle.records.specs.paper.Plan.{Cut, decidedOnce, unresolvedIn, unresolved}
 use Rattle.records.specs.code.Decoded.{decisionsOf}
 use Rattle.records.specs.code.PlanPasses.{decisionsLeft}

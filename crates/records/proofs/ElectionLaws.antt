@@ -10,7 +10,7 @@ use lib.Dec.{eqb}
 use lib.ListN.{length, getD, set, replicate, length-map, length-append, length-replicate, getD-replicate, List·getD-eq-default}
 use lib.Seq.{getD-set-same, getD-set-other}
 use borrow.Author.Tests.{eq-eqb, ne-eqb, eqb-true, eqb-false}
-use Rattle.records.specs.paper.Sets.{allOf}
+use Rattle.sets.specs.paper.Sets.{allOf}
 use Rattle.records.specs.paper.Fields.{fault}
 use Rattle.records.specs.paper.Plan as paper
 use Rattle.records.specs.code.Decoded.{ifGiven, electionOf, noElection, cutOf, attachmentOf, cutsOf, attachmentsOf}
@@ -23,7 +23,7 @@ use Rattle.records.specs.declared.plan.Attachments.{Attachments}
 use Rattle.records.proofs.ListLaws.{all-append, getD-mapped, getD-front, getD-stay, getD-past}
 use Rattle.records.proofs.NamingLaws.{all-given}
 use Rattle.records.proofs.FactLaws.{and-true}
-use Rattle.records.proofs.SetLaws.{lt-or-le, and-parts}
+use Rattle.sets.proofs.SetLaws.{lt-or-le, and-parts}
 
 -- ---- two elections that may be there
 

@@ -9,7 +9,7 @@ use native.Mathlib.Omega.{arith}
 use lib.ListN.{length, getD, take, drop}
 use lib.Dec.{eqb, ltb}
 use borrow.Author.Tests.{eq-eqb, ne-eqb}
-use Rattle.records.specs.paper.Sets.{lexLess}
+use Rattle.sets.specs.paper.Sets.{lexLess}
 use Rattle.records.specs.paper.Plan.{Fact, isBoolean, rises, factsRise}
 use Rattle.records.specs.code.Decoded.{ifGiven}
 

@@ -8,10 +8,10 @@ use native.Mathlib.Omega.{arith}
 use lib.ListN.{length, getD}
 use lib.Dec.{eqb, ltb, leb}
 use borrow.Author.Tests.{leb-true}
-use Rattle.records.specs.paper.Sets.{odd, has}
+use Rattle.sets.specs.paper.Sets.{odd, has, All}
 use Rattle.records.specs.paper.Fields.{Range, upTo, number, Shape, bytes, mask, list, most, Read, got, bad, andThen, byteAt, bytesAt, repeat, little, fieldAt, fieldsAt, Format, Raw, field, formatOf, recordAt}
-use Rattle.records.specs.promises.Sound.{All, Numbers}
-use Rattle.records.proofs.SetLaws.{has-zero, has-suc}
+use Rattle.records.specs.promises.Sound.{Numbers}
+use Rattle.sets.proofs.SetLaws.{has-zero, has-suc}
 
 -- ---- what holds of that which was read, if it was
 

@@ -11,7 +11,7 @@ use lib.Seq.{take-suc-set}
 use lib.Bits.{bitAnd}
 use lib.Dec.{eqb, ltb, leb}
 use borrow.Author.Tests.{eq-eqb, ne-eqb, eqb-true, leb-false}
-use Rattle.records.specs.paper.Sets.{odd, has, subset, allOf}
+use Rattle.sets.specs.paper.Sets.{odd, has, subset, allOf}
 use Rattle.records.specs.paper.Fields.{Raw, needs, single}
 use Rattle.records.specs.paper.Plan as paper
 use Rattle.records.specs.paper.Plan.{Plan, planFormats, addToPlan, planCounts, judgePlan, factBits, headingFrom, factFrom, barFrom, statusFrom}
@@ -23,7 +23,7 @@ use Rattle.records.specs.declared.plan.Decisions.{Decisions}
 use Rattle.records.specs.declared.plan.Numbers.{Numbers}
 use Rattle.records.specs.code.Passes.{Reading, judgement}
 use Rattle.records.specs.code.PlanPasses.{Clean, planReading, withHeadings, withFacts, withNodes, withCuts, withEdges, withAttachments, withBars, withStatuses}
-use Rattle.records.proofs.SetLaws.{has-zero, Within, antisym, of-meet, in-meet, subset-true, within-subset}
+use Rattle.sets.proofs.SetLaws.{has-zero, Within, antisym, of-meet, in-meet, subset-true, within-subset}
 use Rattle.records.proofs.Listing.{map-more}
 use Rattle.records.proofs.Chain.{raw, odd-test}
 use Rattle.records.proofs.Passing.{Kind}
@@ -60,7 +60,7 @@ bit0-off b n = has-zero b ∙ odd-not-one (b % 2) (mod-lt b (zero-lt-suc 1)) n
 
 -- `bits & m == m`
 pub needs-test : (b m : ℕ) → eqb (bitAnd b m) m ≡ needs m b
-unfolding Rattle.records.specs.paper.Sets.meet
+unfolding Rattle.sets.specs.paper.Sets.meet
 needs-test b m = pick (subset m b) refl
   where
     both : Within m b → bitAnd b m ≡ m

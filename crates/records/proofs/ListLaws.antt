@@ -8,7 +8,7 @@ use native.Mathlib.Numerals.{add-one}
 use native.Mathlib.Omega.{arith}
 use lib.ListN.{length, getD, take, drop, length-map, length-take, drop-of-length-le, List·getD-append}
 use lib.Seq.{drop-cons, getD-take, getD-append-add}
-use Rattle.records.specs.paper.Sets.{allOf, anyOf}
+use Rattle.sets.specs.paper.Sets.{allOf, anyOf}
 use Rattle.records.specs.paper.Fields.{Verdict, refused, firstFault}
 
 -- ---- the front of an array

@@ -6,7 +6,7 @@ use native.Mathlib.Numerals.{add-one}
 use native.Mathlib.Omega.{arith}
 use lib.ListN.{length, getD, set, take}
 use lib.Seq.{take-suc-set, getD-set-same, getD-set-other}
-use Rattle.records.specs.paper.Sets.{numbers, below}
+use Rattle.sets.specs.paper.Sets.{numbers, below}
 use Rattle.records.specs.paper.Plan.{Decision, decisionsFrom}
 use Rattle.records.specs.code.Readers.{bytesFrom}
 

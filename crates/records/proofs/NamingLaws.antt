@@ -7,7 +7,7 @@ use native.Mathlib.Nat.{le-of-suc-le-suc, not-suc-le-zero}
 use native.Mathlib.Omega.{arith}
 use lib.Dec.{eqb, ltb}
 use lib.ListN.{length, getD}
-use Rattle.records.specs.paper.Sets.{allOf, below, numbers}
+use Rattle.sets.specs.paper.Sets.{allOf, below, numbers}
 use Rattle.records.specs.paper.Plan as paper
 use Rattle.records.specs.code.Decoded.{ifGiven, nodeBy, factOf, decisionsOf}
 use Rattle.records.specs.code.Named.{allUnder}

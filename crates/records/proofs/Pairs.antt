@@ -5,7 +5,7 @@ use Prim.Native.Nat.{ℕ, zero, suc, _+_, _*_, _<_}
 use native.Mathlib.Omega.{arith}
 use lib.ListN.{length, getD, set}
 use lib.Seq.{getD-set-same, getD-set-other}
-use Rattle.records.specs.paper.Sets.{below}
+use Rattle.sets.specs.paper.Sets.{below}
 use Rattle.records.specs.code.Readers.{bytesFrom}
 use Rattle.records.proofs.Listing.{below-more, below-ext}
 

@@ -14,7 +14,7 @@ use Rattle.records.specs.code.Readers.{mapRead}
 use Rattle.records.specs.code.Passes.{rawOf, WithBits, withBits, Reading, readOn, after, Passed}
 use Rattle.records.proofs.Reading.{found, none, byte-next, byte-in, bad-got}
 use Rattle.records.proofs.Chain.{raw, raw-parts}
-use Rattle.records.proofs.SetLaws.{lt-or-le}
+use Rattle.sets.proofs.SetLaws.{lt-or-le}
 
 -- ---- the record at a place, by its first byte
 

@@ -5,7 +5,7 @@ use mathlib.Core.List.{List, [], _∷_}
 use Prim.Native.Nat.{ℕ, _≤_}
 use lib.ListN.{take}
 use lib.Dec.{eqb, ltb}
-use Rattle.records.specs.paper.Sets.{allOf}
+use Rattle.sets.specs.paper.Sets.{allOf}
 use Rattle.records.specs.paper.Plan.{Plan, Heading, Fact, Node, Edge, Cut, Attachment, Bar, emptyPlan, planRecords, factsRise, decidedOnce, unresolved}
 use Rattle.records.specs.code.Passes.{Passed}
 use Rattle.records.specs.code.PlanPasses.{Clean, planReading, withHeadings, withFacts, withNodes, withEdges, withCuts, withAttachments, withBars}

@@ -8,14 +8,17 @@ use native.Mathlib.Numerals.{add-one}
 use lib.ListN.{length}
 use lib.Dec.{eqb, ltb}
 use borrow.Author.Tests.{ltb-true, eqb-true}
-use Rattle.records.specs.paper.Sets.{has, allOf}
+use Rattle.sets.specs.paper.Sets.{has, allOf, All}
 use Rattle.records.specs.paper.Fields.{Raw, field, num, number, citation, person, actor, upTo, byte, election, list, fault}
 use Rattle.records.specs.paper.Plan.{Plan, Node, literal, fact, conj, disj, neg, Decision, planFormats, factBits, headingFrom, factFrom, nodeFrom, electionFrom, decisionsFrom, edgeFrom, cutFrom, attachmentFrom, barFrom, statusFrom, isBoolean, decidedOnce, eachFrom, booleanFact, nodeSound, edgeSound, electionSound, cutSound, attachmentSound, nodeNumber, crossingsDecided}
-use Rattle.records.specs.promises.Sound.{All, SoundNode, SoundNodes, SoundElection, SoundEdge, SoundDecision, SoundCut, SoundAttachment, SoundBar, SoundStatus, SoundHeading, SoundFact}
-use Rattle.records.proofs.Every.{all-both, all-tested, named}
-use Rattle.records.proofs.SetLaws.{and-parts, subset-true}
+use Rattle.records.specs.promises.Sound.{SoundNode, SoundNodes, SoundElection, SoundEdge, SoundDecision, SoundCut, SoundAttachment, SoundBar, SoundStatus, SoundHeading, SoundFact, Numbers}
+use Rattle.sets.proofs.Every.{all-both, all-tested, all-less}
+use Rattle.sets.proofs.SetLaws.{and-parts, subset-true}
 use Rattle.records.proofs.FieldLaws.{Ranged, Standing, Held, Fitting, stands, held, byte-in-range, byte-top, byte-numbers, list-numbers, mask-below, pairs, list-pairs}
 use Rattle.records.proofs.ReadLaws.{not-faulty, Made}
+
+named : (most bound top : ℕ) (v : List ℕ) → Numbers most top v → allOf (λ i. ltb i bound) v ≡ true → Numbers most bound v
+named most bound top v n e = (n .0, all-less bound v (all-tested (λ i. ltb i bound) v e))
 
 abbrev VerdictFits : Decision → Type 0
 VerdictFits d = (1 ≤ d .verdict) × (d .verdict < 4)

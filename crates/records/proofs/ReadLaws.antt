@@ -8,11 +8,11 @@ use native.Mathlib.Nat.{suc-ne-zero}
 use lib.ListN.{length, getD}
 use lib.Dec.{eqb, ltb, leb}
 use borrow.Author.Tests.{eqb-true, eqb-false}
+use Rattle.sets.specs.paper.Sets.{All}
 use Rattle.records.specs.paper.Fields.{Read, got, bad, Format, Raw, formatOf, recordAt, Verdict, fine, refused, onFine, readFrom, firstFault, fault}
 use Rattle.records.specs.paper.Plan.{joined, faults}
-use Rattle.records.specs.promises.Sound.{All}
-use Rattle.records.proofs.LoopLaws.{all-append}
-use Rattle.records.proofs.Every.{all-both, all-then, all-of-map}
+use Rattle.sets.proofs.LoopLaws.{all-append}
+use Rattle.sets.proofs.Every.{all-both, all-then, all-of-map}
 use Rattle.records.proofs.FieldLaws.{Gave, InFormat, Fitting, record-in}
 
 -- ---- what holds of the answer, if there is one

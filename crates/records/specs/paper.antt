@@ -1,5 +1,4 @@
 -- Document 01's own definitions, in its order: what a reader must believe.
-pub mod Sets
 pub mod Fields
 pub mod Plan
 pub mod Case

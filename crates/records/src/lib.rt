@@ -1,6 +1,5 @@
-// Bytes to plan and case, and the sets of persons that everything above uses.
+// Bytes to plan and case.
 pub mod case;
 pub mod checked;
 pub mod fields;
 pub mod plan;
-pub mod sets;

@@ -5,10 +5,9 @@ use mathlib.Core.List.{List, [], _∷_, _++_, map, flatMap}
 use mathlib.Core.Logic.{_⊎_, inl, inr}
 use Prim.Native.Nat.{ℕ, zero, suc, _+_, _<_, _≤_}
 use native.Mathlib.Omega.{arith}
-use Rattle.records.specs.paper.Sets.{numbers, anyOf}
-use Rattle.records.specs.promises.Sound.{All}
-use Rattle.records.proofs.SetLaws.{lt-or-le}
-use Rattle.records.proofs.Local.{clash}
+use Rattle.sets.specs.paper.Sets.{numbers, anyOf, All}
+use Rattle.sets.proofs.SetLaws.{lt-or-le}
+use Rattle.sets.proofs.Local.{clash}
 use Rattle.worlds.specs.paper.Events.{listed}
 
 abbrev pub Among : {A : Type 0} → A → List A → Type 0

@@ -14,9 +14,9 @@ use lib.ListN.{length, getD, set, take, drop, take-append-drop, length-append, l
 use lib.Seq.{drop-cons, take-suc, set-at, length-take-le, append-snoc, take-at, take-all, drop-append-add, drop-drop}
 use borrow.Author.Tests.{eq-eqb}
 use borrow.Rule.Slice.PartMut.{putMid}
-use Rattle.records.specs.paper.Sets.{odd, has, size, lowest, when, members, membersFrom, numbers}
-use Rattle.records.proofs.SetLaws.{has-zero, has-suc, has-none, lt-or-le}
-use Rattle.records.proofs.MemberLaws.{members-length}
+use Rattle.sets.specs.paper.Sets.{odd, has, size, lowest, when, members, membersFrom, numbers}
+use Rattle.sets.proofs.SetLaws.{has-zero, has-suc, has-none, lt-or-le}
+use Rattle.sets.proofs.MemberLaws.{members-length}
 use Rattle.expressions.proofs.ListLaws.{flat-append}
 use Rattle.records.specs.paper.Plan.{Plan, Election}
 use Rattle.records.specs.code.Decoded.{edgeOf, cutOf, attachmentOf, statusOf}

@@ -6,8 +6,8 @@ use Prim.Native.Nat.{ℕ, zero, suc, _+_, _*_, _-_, _≤_}
 use native.Mathlib.Omega.{arith}
 use lib.ListN.{length, drop, replicate, length-map, length-append}
 use borrow.Author.Tests.{le-ltb}
-use Rattle.records.specs.paper.Sets.{size, members}
-use Rattle.records.proofs.MemberLaws.{members-length}
+use Rattle.sets.specs.paper.Sets.{size, members}
+use Rattle.sets.proofs.MemberLaws.{members-length}
 use Rattle.report.specs.paper.Line.{Line, lineBytes, bareLine}
 use Rattle.report.specs.paper.Operations.{Outcome, filled, written}
 use Rattle.report.specs.code.Bare.{worldless, Worldless}

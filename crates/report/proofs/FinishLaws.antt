@@ -9,18 +9,17 @@ use lib.ListN.{length, take, drop, replicate, length-map, length-append, length-
 use lib.Seq.{take-at, drop-append-add}
 use lib.Dec.{eqb}
 use borrow.Author.Tests.{eq-eqb, ne-eqb, lt-ltb}
-use Rattle.records.specs.paper.Sets.{has, size, members, union, subset, allOf, anyOf, unionOf, unionBelow, lexLess}
-use Rattle.records.specs.promises.Sound.{All}
+use Rattle.sets.specs.paper.Sets.{has, size, members, union, subset, allOf, anyOf, unionOf, unionBelow, lexLess, All}
 use Rattle.records.specs.paper.Plan as paper
 use Rattle.records.specs.paper.Case as case
 use Rattle.records.specs.paper.Case.{caseHeading}
 use Rattle.records.specs.code.Decoded.{planOf, caseOf, caseHeadingOf}
 use Rattle.records.specs.declared.plan.Plan.{Plan}
 use Rattle.records.specs.declared.case.Case.{Case}
-use Rattle.records.proofs.SetLaws.{ext, has-union, has-none, member}
-use Rattle.records.proofs.Local.{clash}
-use Rattle.records.proofs.Every.{all-tested, all-map}
-use Rattle.records.proofs.MemberLaws.{members-same, members-length}
+use Rattle.sets.proofs.SetLaws.{ext, has-union, has-none, member}
+use Rattle.sets.proofs.Local.{clash}
+use Rattle.sets.proofs.Every.{all-tested, all-map}
+use Rattle.sets.proofs.MemberLaws.{members-same, members-length}
 use Rattle.expressions.specs.paper.Rules.{factCount, cutCount, rulePersons}
 use Rattle.expressions.specs.paper.Influence.{Frame}
 use Rattle.expressions.specs.paper.Variables.{Influence, Values}

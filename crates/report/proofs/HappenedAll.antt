@@ -7,11 +7,11 @@ use Prim.Native.Nat.{ℕ, _<_}
 use native.Mathlib.Omega.{arith}
 use lib.Dec.{eqb}
 use borrow.Author.Tests.{eqb-true, eq-eqb, not-true}
-use Rattle.records.specs.paper.Sets.{has, numbers, anyOf}
+use Rattle.sets.specs.paper.Sets.{has, numbers, anyOf}
 use Rattle.records.specs.paper.Plan.{Plan}
 use Rattle.records.specs.paper.Case.{Case, caseHeading}
-use Rattle.records.proofs.SetLaws.{and-parts}
-use Rattle.records.proofs.Local.{clash}
+use Rattle.sets.proofs.SetLaws.{and-parts}
+use Rattle.sets.proofs.Local.{clash}
 use Rattle.expressions.specs.paper.Rules.{edgeCount, cutCount, attachmentCount, barCount, statusCount, factCount}
 use Rattle.expressions.specs.paper.Nodes.{on}
 use Rattle.expressions.specs.paper.Bindings.{Bound, tookDefault}

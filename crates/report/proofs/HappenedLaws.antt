@@ -6,8 +6,8 @@ use native.Mathlib.Nat.{zero-add}
 use native.Mathlib.Omega.{arith}
 use lib.ListN.{length, getD, set, take, drop, take-append-drop, length-append, length-take, length-map, length-set, drop-of-length-le}
 use lib.Seq.{drop-cons, drop-drop, drop-set-lt, take-set-le, take-take, getD-set-same, getD-take, take-at, drop-at, length-take-le}
-use Rattle.records.specs.paper.Sets.{has, size, members, numbers}
-use Rattle.records.proofs.MemberLaws.{members-length}
+use Rattle.sets.specs.paper.Sets.{has, size, members, numbers}
+use Rattle.sets.proofs.MemberLaws.{members-length}
 use Rattle.records.specs.code.Decoded.{planOf, caseOf}
 use Rattle.records.specs.declared.plan.Plan.{Plan}
 use Rattle.records.specs.declared.case.Case.{Case}

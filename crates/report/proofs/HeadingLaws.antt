@@ -6,7 +6,7 @@ use Prim.Native.Nat.{ℕ, _+_, _*_, _<_, _≤_, min}
 use native.Mathlib.Omega.{arith}
 use lib.Dec.{eqb, ltb}
 use lib.ListN.{length, getD, take, drop, drop-of-length-le}
-use Rattle.records.specs.paper.Sets.{union, subset, size, below, unionBelow, unionOf}
+use Rattle.sets.specs.paper.Sets.{union, subset, size, below, unionBelow, unionOf}
 use Rattle.records.specs.paper.Plan.{Plan}
 use Rattle.records.specs.paper.Case.{CaseHeading}
 use Rattle.expressions.specs.paper.Rules.{edgeCount, cutCount, attachmentCount, barCount, statusCount, cut, bar, status, pair, withAnchor, ruleSets, rulePersons}

@@ -11,10 +11,9 @@ use lib.Seq.{drop-cons, length-take-le, take-at, drop-at, take-all, take-add, dr
 use lib.Dec.{eqb, ltb}
 use borrow.Author.Tests.{eqb-true, eq-eqb, lt-ltb, le-ltb}
 use borrow.Rule.Slice.PartMut.{putMid}
-use Rattle.records.specs.paper.Sets.{lexLess, anyOf, members}
-use Rattle.records.specs.promises.Sound.{All}
-use Rattle.records.proofs.SetLaws.{lt-or-le}
-use Rattle.records.proofs.Local.{clash}
+use Rattle.sets.specs.paper.Sets.{lexLess, anyOf, members, All}
+use Rattle.sets.proofs.SetLaws.{lt-or-le}
+use Rattle.sets.proofs.Local.{clash}
 use Rattle.worlds.specs.paper.Events.{event}
 use Rattle.worlds.specs.code.Over.{entry}
 use Rattle.report.specs.paper.EventList.{insert, rising}

@@ -8,7 +8,7 @@ use native.Mathlib.Nat.{suc-ne-zero}
 use native.Mathlib.Omega.{arith}
 use lib.ListN.{length}
 use lib.Dec.{eqb, ltb}
-use Rattle.records.specs.paper.Sets.{subset, size}
+use Rattle.sets.specs.paper.Sets.{subset, size}
 use Rattle.records.specs.paper.Fields.{Verdict, fine, refused}
 use Rattle.records.specs.paper.Plan.{Plan, checkedPlan}
 use Rattle.records.specs.paper.Case.{Case, CaseHeading, readCase, caseHeading, familiesAt, booleansAt}

@@ -10,11 +10,11 @@ use lib.ListN.{length, getD, replicate, length-replicate, length-take}
 use lib.Seq.{getD-take}
 use lib.Dec.{eqb, ltb}
 use borrow.Author.Tests.{eq-eqb, ne-eqb, ltb-true, ltb-false}
-use Rattle.records.specs.paper.Sets.{size, subset}
+use Rattle.sets.specs.paper.Sets.{size, subset, All}
 use Rattle.records.specs.paper.Fields.{Verdict, fine, refused}
 use Rattle.records.specs.paper.Plan.{Plan, Heading, checkedPlan}
 use Rattle.records.specs.paper.Case.{Case, CaseHeading, readCase, caseHeading}
-use Rattle.records.specs.promises.Sound.{All, Sound, SoundCase}
+use Rattle.records.specs.promises.Sound.{Sound, SoundCase}
 use Rattle.records.specs.code.Check.{checkedOf}
 use Rattle.records.specs.code.Decoded.{planOf, caseOf, caseHeadingOf, ifGiven}
 use Rattle.records.specs.code.PlanRead.{planReadOf}

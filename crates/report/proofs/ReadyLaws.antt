@@ -9,16 +9,15 @@ use lib.ListN.{length, getD, take, drop, replicate, length-map, length-append}
 use lib.Seq.{take-at, drop-at}
 use lib.Dec.{leb, ltb, eqb}
 use borrow.Author.Tests.{ltb-true, lt-ltb, eqb-false}
-use Rattle.records.specs.paper.Sets.{has, anyOf, subset, size}
+use Rattle.sets.specs.paper.Sets.{has, anyOf, subset, size, All}
 use Rattle.records.specs.paper.Plan as paper
 use Rattle.records.specs.paper.Case as paper-case
-use Rattle.records.specs.promises.Sound.{All}
 use Rattle.records.specs.code.Decoded.{planOf, caseOf, caseHeadingOf}
 use Rattle.records.specs.declared.plan.Plan.{Plan}
 use Rattle.records.specs.declared.case.Case.{Case}
-use Rattle.records.proofs.SetLaws.{and-parts, has-none}
-use Rattle.records.proofs.LoopLaws.{all-at, length-below}
-use Rattle.records.proofs.BelowLaws.{flag-set}
+use Rattle.sets.proofs.SetLaws.{and-parts, has-none}
+use Rattle.sets.proofs.LoopLaws.{all-at, length-below}
+use Rattle.sets.proofs.BelowLaws.{flag-set}
 use Rattle.expressions.specs.paper.Rules.{factCount, edgeCount, cutCount, attachmentCount, barCount, statusCount, edge, rulePersons}
 use Rattle.expressions.specs.paper.Nodes.{on}
 use Rattle.expressions.specs.paper.Influence.{Frame, openDecisions, decisionCount}

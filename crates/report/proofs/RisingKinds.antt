@@ -6,11 +6,10 @@ use mathlib.Core.Logic.{_⊎_, inl, inr}
 use Prim.Native.Nat.{ℕ, zero, suc, _<_, _≤_}
 use native.Mathlib.Nat.{not-suc-le-zero}
 use native.Mathlib.Omega.{arith}
-use Rattle.records.specs.paper.Sets.{has, numbers, lexLess}
-use Rattle.records.specs.promises.Sound.{All}
+use Rattle.sets.specs.paper.Sets.{has, numbers, lexLess, All}
 use Rattle.records.specs.paper.Plan.{Plan}
 use Rattle.records.specs.paper.Case.{Case}
-use Rattle.records.proofs.LoopLaws.{all-append}
+use Rattle.sets.proofs.LoopLaws.{all-append}
 use Rattle.worlds.specs.paper.Events.{littleBytes, event, listed}
 use Rattle.report.specs.code.Happened.{Rises, frozenOver, appliedOver, blockedOver, overlapOver, attachmentOver, barOver, statusOver, defaultOver, discretionOver, happened}
 use Rattle.report.proofs.AmongLaws.{Among, each-all, of-both, of-flat, of-map, of-numbers, of-if, of-listed}

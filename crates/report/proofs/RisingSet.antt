@@ -8,11 +8,10 @@ use native.Mathlib.Omega.{arith}
 use lib.Dec.{eqb, ltb}
 use lib.ListN.{length, getD}
 use borrow.Author.Tests.{eqb-true, eq-eqb, ne-eqb, ltb-true, lt-ltb}
-use Rattle.records.specs.paper.Sets.{lexLess}
-use Rattle.records.specs.promises.Sound.{All}
-use Rattle.records.proofs.SetLaws.{lt-or-le}
-use Rattle.records.proofs.Every.{all-then}
-use Rattle.records.proofs.Local.{clash}
+use Rattle.sets.specs.paper.Sets.{lexLess, All}
+use Rattle.sets.proofs.SetLaws.{lt-or-le}
+use Rattle.sets.proofs.Every.{all-then}
+use Rattle.sets.proofs.Local.{clash}
 use Rattle.report.specs.paper.EventList.{insert, rising}
 use Rattle.report.specs.code.Happened.{Rises}
 use Rattle.report.proofs.AmongLaws.{Among, all-each, each-all}

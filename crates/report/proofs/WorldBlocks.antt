@@ -4,10 +4,10 @@ use mathlib.Core.Bool.{Bool, true, false, cond}
 use mathlib.Core.Logic.{_⊎_, inl, inr, ⊎-elim}
 use Prim.Native.Nat.{ℕ, _≤_, _<_, _^_}
 use native.Mathlib.Omega.{arith}
-use Rattle.records.specs.paper.Sets.{has, subset}
+use Rattle.sets.specs.paper.Sets.{has, subset}
 use Rattle.records.specs.paper.Plan.{Plan}
-use Rattle.records.proofs.SetLaws.{has-none}
-use Rattle.records.proofs.Local.{clash}
+use Rattle.sets.proofs.SetLaws.{has-none}
+use Rattle.sets.proofs.Local.{clash}
 use Rattle.expressions.specs.paper.Rules.{rulePersons}
 use Rattle.expressions.specs.paper.Variables.{Influence}
 use Rattle.worlds.specs.paper.Active.{Active}

@@ -13,10 +13,9 @@ use lib.Bits.{bitAnd}
 use lib.Pow.{pow-pos}
 use borrow.Author.Tests.{eq-eqb, eqb-false}
 use borrow.Rule.Slice.PartMut.{putMid, same-len-mid}
-use Rattle.records.specs.paper.Sets.{has, one, only, size, lowest, members, anyOf, unionOf, unionBelow}
-use Rattle.records.specs.promises.Sound.{All}
-use Rattle.records.proofs.SetLaws.{one-lt, union-lt}
-use Rattle.records.proofs.MemberLaws.{members-length}
+use Rattle.sets.specs.paper.Sets.{has, one, only, size, lowest, members, anyOf, unionOf, unionBelow, All}
+use Rattle.sets.proofs.SetLaws.{one-lt, union-lt}
+use Rattle.sets.proofs.MemberLaws.{members-length}
 use Rattle.expressions.proofs.ListLaws.{flat-append}
 use Rattle.expressions.specs.paper.Variables.{Influence}
 use Rattle.worlds.specs.paper.Events.{littleBytes}

@@ -2,10 +2,10 @@
 use crate::Answer;
 use crate::line::write_bare;
 use crate::run::Wanted;
-use records::sets::size;
+use sets::size;
 ghost use Prim.Native.Nat.{_*_, _≤_};
 ghost use lib.ListN.{length};
-ghost use Rattle.records.specs.paper.Sets.{size as ones};
+ghost use Rattle.sets.specs.paper.Sets.{size as ones};
 ghost use Rattle.report.specs.code.Bare.{Worldless};
 
 // A line with nothing but its kind for each person of the roster; to show, there is no world.

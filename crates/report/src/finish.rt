@@ -14,11 +14,11 @@ use expressions::counts::upto;
 use expressions::influence::Influence;
 use records::case::Case;
 use records::plan::Plan;
-use records::sets::size;
+use sets::size;
 use worlds::tables::Noted;
 ghost use Prim.Native.Nat.{_+_, _*_, _≤_};
 ghost use lib.ListN.{length, take, drop};
-ghost use Rattle.records.specs.paper.Sets.{size as ones};
+ghost use Rattle.sets.specs.paper.Sets.{size as ones};
 ghost use Rattle.report.specs.code.Written.{LinesBy};
 ghost use Rattle.report.specs.code.Finish.{Ends, Finishes};
 

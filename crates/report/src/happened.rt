@@ -19,7 +19,7 @@ use expressions::counts::upto;
 use expressions::evidence::evidence_by_fact;
 use records::case::Case;
 use records::plan::Plan;
-use records::sets::size;
+use sets::size;
 use worlds::tables::BLOCKINGS;
 use worlds::tables::CLASHES;
 use worlds::tables::Noted;

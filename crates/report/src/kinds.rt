@@ -13,7 +13,7 @@ use worlds::over::others;
 ghost use mathlib.Core.Path.{_≡_};
 ghost use Prim.Native.Nat.{_+_, _*_, _≤_};
 ghost use lib.ListN.{length};
-ghost use Rattle.records.specs.paper.Sets.{size};
+ghost use Rattle.sets.specs.paper.Sets.{size};
 ghost use Rattle.records.specs.paper.Plan.{Plan as Paper};
 ghost use Rattle.records.specs.paper.Case.{Case as PaperCase};
 ghost use Rattle.records.specs.code.Decoded.{electionOf};

@@ -4,7 +4,7 @@ use worlds::over::others;
 ghost use mathlib.Core.Path.{_≡_};
 ghost use mathlib.Core.List.{_++_, flatMap};
 ghost use Prim.Native.Nat.{_*_, _≤_};
-ghost use Rattle.records.specs.paper.Sets.{size, members};
+ghost use Rattle.sets.specs.paper.Sets.{size, members};
 ghost use lib.ListN.{length, drop};
 ghost use Rattle.worlds.specs.paper.Events.{littleBytes};
 ghost use Rattle.report.specs.paper.Line.{lineBytes, bareLine};

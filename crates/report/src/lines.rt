@@ -10,14 +10,14 @@ use crate::sums::ROLES;
 use crate::sums::STANDING;
 use crate::sums::Sums;
 use crate::sums::TALLY;
-use records::sets::bit;
-use records::sets::contains;
+use sets::bit;
+use sets::contains;
 use worlds::over::low;
 use worlds::over::others;
 ghost use mathlib.Core.Path.{_≡_};
 ghost use Prim.Native.Nat.{_*_, _≤_, _<_, _%_};
 ghost use lib.ListN.{length};
-ghost use Rattle.records.specs.paper.Sets.{size};
+ghost use Rattle.sets.specs.paper.Sets.{size};
 ghost use Rattle.report.specs.paper.Line.{holding as holdingOf};
 ghost use Rattle.report.specs.code.Written.{LineBy, LinesBy};
 

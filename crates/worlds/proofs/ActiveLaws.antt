@@ -9,12 +9,12 @@ use lib.ListN.{length, getD, take}
 use lib.Seq.{getD-take, length-take-le}
 use lib.Dec.{ltb}
 use borrow.Author.Tests.{ltb-true, lt-ltb}
-use Rattle.records.specs.paper.Sets.{has, union, minus, meets, below, anyOf}
+use Rattle.sets.specs.paper.Sets.{has, union, minus, meets, below, anyOf, All}
 use Rattle.records.specs.paper.Plan.{Plan}
-use Rattle.records.specs.promises.Sound.{All, Sound, SoundNodes, SoundEdge, SoundCut, SoundAttachment, SoundBar, SoundStatus}
-use Rattle.records.proofs.SetLaws.{has-union, has-minus, has-none, lt-or-le, meeting}
-use Rattle.records.proofs.LoopLaws.{getD-below, getD-past, all-at}
-use Rattle.records.proofs.BelowLaws.{flag-set}
+use Rattle.records.specs.promises.Sound.{Sound, SoundNodes, SoundEdge, SoundCut, SoundAttachment, SoundBar, SoundStatus}
+use Rattle.sets.proofs.SetLaws.{has-union, has-minus, has-none, lt-or-le, meeting}
+use Rattle.sets.proofs.LoopLaws.{getD-below, getD-past, all-at}
+use Rattle.sets.proofs.BelowLaws.{flag-set}
 use Rattle.expressions.specs.paper.Rules.{edgeCount, cutCount, attachmentCount, barCount, statusCount, edge, cut, attachment, bar, status}
 use Rattle.expressions.specs.paper.Nodes.{on, values, nodeUses}
 use Rattle.expressions.specs.code.Coded.{Holds}

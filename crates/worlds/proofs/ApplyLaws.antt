@@ -6,12 +6,12 @@ use mathlib.Core.Logic.{_⊎_, inl, inr}
 use Prim.Native.Nat.{ℕ, _^_, _<_}
 use lib.Dec.{eqb, ltb}
 use borrow.Author.Tests.{ltb-true, lt-ltb, eqb-true, eqb-false, eq-eqb, ne-eqb, not-true}
-use Rattle.records.specs.paper.Sets.{has, one, disjoint, meets, union, minus, only, members, anyBelow}
+use Rattle.sets.specs.paper.Sets.{has, one, disjoint, meets, union, minus, only, members, anyBelow}
 use Rattle.records.specs.paper.Plan.{Plan}
-use Rattle.records.proofs.SetLaws.{has-none, has-minus, has-one, in-union-l, in-union-r, member, meeting, disjoint-false, and-parts}
-use Rattle.records.proofs.LoopLaws.{getD-below}
-use Rattle.records.proofs.BelowLaws.{flag-set, of-only, in-only}
-use Rattle.records.proofs.Local.{which, clash}
+use Rattle.sets.proofs.SetLaws.{has-none, has-minus, has-one, in-union-l, in-union-r, member, meeting, disjoint-false, and-parts}
+use Rattle.sets.proofs.LoopLaws.{getD-below}
+use Rattle.sets.proofs.BelowLaws.{flag-set, of-only, in-only}
+use Rattle.sets.proofs.Local.{which, clash}
 use Rattle.expressions.specs.paper.Rules.{edgeCount, cutCount, edge, cut, pair}
 use Rattle.expressions.specs.paper.Nodes.{on}
 use Rattle.expressions.specs.paper.Variables.{Influence}

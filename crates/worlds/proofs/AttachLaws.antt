@@ -11,12 +11,12 @@ use lib.ListN.{length, set}
 use lib.Seq.{getD-set-same, getD-set-other}
 use lib.Dec.{eqb, ltb}
 use borrow.Author.Tests.{eqb-true, eqb-false, eq-eqb, ne-eqb, lt-ltb, le-ltb}
-use Rattle.records.specs.paper.Sets.{odd, has, one, union, meet, minus, disjoint, meets, subset, lowest, when, members, membersFrom, allOf, unionOf, foldBelow}
+use Rattle.sets.specs.paper.Sets.{odd, has, one, union, meet, minus, disjoint, meets, subset, lowest, when, members, membersFrom, allOf, unionOf, foldBelow}
 use Rattle.records.specs.paper.Plan.{Plan}
-use Rattle.records.proofs.SetLaws.{Within, within-refl, thru, ext, empty, in-meet, of-meet, within-subset, one-lt, trailing-member, apart, meeting, has-zero, has-suc, has-none, has-one, has-union, has-minus, antisym, in-union-l, in-union-r, of-union, in-minus, of-minus, subset-true, and-parts, lt-or-le}
-use Rattle.records.proofs.Closing.{in-one}
-use Rattle.records.proofs.BelowLaws.{fold-keeps}
-use Rattle.records.proofs.MemberLaws.{members-same}
+use Rattle.sets.proofs.SetLaws.{Within, within-refl, thru, ext, empty, in-meet, of-meet, within-subset, one-lt, trailing-member, apart, meeting, has-zero, has-suc, has-none, has-one, has-union, has-minus, antisym, in-union-l, in-union-r, of-union, in-minus, of-minus, subset-true, and-parts, lt-or-le}
+use Rattle.sets.proofs.Closing.{in-one}
+use Rattle.sets.proofs.BelowLaws.{fold-keeps}
+use Rattle.sets.proofs.MemberLaws.{members-same}
 use Rattle.expressions.specs.paper.Rules.{attachmentCount, attachment, rulePersons}
 use Rattle.expressions.specs.paper.Nodes.{on}
 use Rattle.expressions.specs.paper.Variables.{Influence}

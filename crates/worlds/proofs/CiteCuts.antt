@@ -3,11 +3,11 @@ use mathlib.Core.Path.{_≡_, ap₂}
 use mathlib.Core.Bool.{Bool, true, _&&_, _||_}
 use mathlib.Core.Logic.{_⊎_, inl, inr, ⊎-elim}
 use Prim.Native.Nat.{ℕ, _<_}
-use Rattle.records.specs.paper.Sets.{has, one, union, meets, only, unionBelow}
+use Rattle.sets.specs.paper.Sets.{has, one, union, meets, only, unionBelow}
 use Rattle.records.specs.paper.Plan.{Plan}
-use Rattle.records.proofs.SetLaws.{antisym, in-union-l, in-union-r, of-union, and-parts}
-use Rattle.records.proofs.Closing.{in-one}
-use Rattle.records.proofs.BelowLaws.{union-find, in-below, of-only, in-only}
+use Rattle.sets.proofs.SetLaws.{antisym, in-union-l, in-union-r, of-union, and-parts}
+use Rattle.sets.proofs.Closing.{in-one}
+use Rattle.sets.proofs.BelowLaws.{union-find, in-below, of-only, in-only}
 use Rattle.expressions.specs.paper.Rules.{edgeCount, cutCount, edge, cut, pair}
 use Rattle.expressions.specs.paper.Nodes.{on}
 use Rattle.worlds.specs.paper.World.{World, about}

@@ -12,9 +12,9 @@ use lib.Dec.{eqb}
 use lib.Bits.{bitAnd, xor-add-and}
 use lib.Count.{trailingZeros, under}
 use borrow.Author.Tests.{eqb-true, eqb-false, eq-eqb, not-true}
-use Rattle.records.specs.paper.Sets.{odd, has, union, minus, disjoint, meets, only, lowest, members, unionOf}
-use Rattle.records.proofs.SetLaws.{has-zero, has-suc, has-none, has-and, ext, has-high, member, in-minus, of-minus, meeting, disjoint-false, lt-or-le, trailing-least}
-use Rattle.records.proofs.Local.{clash}
+use Rattle.sets.specs.paper.Sets.{odd, has, union, minus, disjoint, meets, only, lowest, members, unionOf}
+use Rattle.sets.proofs.SetLaws.{has-zero, has-suc, has-none, has-and, ext, has-high, member, in-minus, of-minus, meeting, disjoint-false, lt-or-le, trailing-least}
+use Rattle.sets.proofs.Local.{clash}
 use Rattle.expressions.proofs.UnionLaws.{union-none, union-assoc, union-first, union-end}
 use Rattle.worlds.specs.code.Over.{entry}
 use Rattle.worlds.specs.code.Blocks.{Parted}

@@ -9,12 +9,12 @@ use native.Mathlib.Omega.{arith}
 use lib.ListN.{length, getD}
 use lib.Dec.{eqb, ltb}
 use borrow.Author.Tests.{ltb-true, lt-ltb, eqb-true}
-use Rattle.records.specs.paper.Sets.{has, one, union, meet, meets, subset, only, lowest, members, anyBelow, unionBelow, unionOf}
-use Rattle.records.proofs.SetLaws.{has-none, has-one, antisym, ext, has-union, in-meet, of-meet, in-union-l, in-union-r, of-union, and-parts, subset-true, within-subset}
-use Rattle.records.proofs.Closing.{in-one}
-use Rattle.records.proofs.BelowLaws.{any-false, union-find, in-below, of-only, in-only}
-use Rattle.records.proofs.MemberLaws.{member-at, member-place, members-length}
-use Rattle.records.proofs.Local.{which, clash}
+use Rattle.sets.specs.paper.Sets.{has, one, union, meet, meets, subset, only, lowest, members, anyBelow, unionBelow, unionOf}
+use Rattle.sets.proofs.SetLaws.{has-none, has-one, antisym, ext, has-union, in-meet, of-meet, in-union-l, in-union-r, of-union, and-parts, subset-true, within-subset}
+use Rattle.sets.proofs.Closing.{in-one}
+use Rattle.sets.proofs.BelowLaws.{any-false, union-find, in-below, of-only, in-only}
+use Rattle.sets.proofs.MemberLaws.{member-at, member-place, members-length}
+use Rattle.sets.proofs.Local.{which, clash}
 use Rattle.expressions.proofs.UnionLaws.{union-none}
 use Rattle.worlds.proofs.OverLaws.{members-none}
 use Rattle.worlds.proofs.CiteLaws.{both-ways, meets-in, meets-of, lowest-in, lowest-below}

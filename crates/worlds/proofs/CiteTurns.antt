@@ -9,9 +9,9 @@ use lib.Seq.{getD-set-same, getD-set-other}
 use lib.Dec.{eqb}
 use lib.Count.{trailingZeros}
 use borrow.Author.Tests.{eqb-true, eqb-false, eq-eqb, ne-eqb}
-use Rattle.records.specs.paper.Sets.{has, union, meets, subset, only, lowest, members}
-use Rattle.records.proofs.SetLaws.{has-none, has-union, empty, in-union-l, in-union-r, ext, and-parts, subset-true}
-use Rattle.records.proofs.Local.{which}
+use Rattle.sets.specs.paper.Sets.{has, union, meets, subset, only, lowest, members}
+use Rattle.sets.proofs.SetLaws.{has-none, has-union, empty, in-union-l, in-union-r, ext, and-parts, subset-true}
+use Rattle.sets.proofs.Local.{which}
 use Rattle.expressions.proofs.UnionLaws.{union-none}
 use Rattle.worlds.specs.code.Over.{entry}
 use Rattle.worlds.specs.code.Blocks.{Parted}
@@ -133,7 +133,7 @@ pub far-same : (s more r : ℕ) → members s ≡ lowest s ∷ members more → 
 far-same s more r e n z = z ∙ sym (far-next s more r e ∙ ap (λ (xs : List ℕ). getD xs 0 (lowest s)) (members-none more n))
 
 none-far : far 0 ≡ 64
-unfolding far members Rattle.records.specs.paper.Sets.membersFrom lowest trailingZeros
+unfolding far members Rattle.sets.specs.paper.Sets.membersFrom lowest trailingZeros
 none-far = refl
 
 abbrev pub ends-cite : ℕ → (ℕ → ℕ) → ℕ → ℕ

@@ -10,14 +10,14 @@ use lib.ListN.{getD}
 use lib.Dec.{eqb}
 use lib.Bits.{bitAnd}
 use borrow.Author.Tests.{eqb-true, ne-eqb}
-use Rattle.records.specs.paper.Sets.{has, one, union, meet, minus, meets, subset, only, lowest, members, unionOf, unionBelow}
+use Rattle.sets.specs.paper.Sets.{has, one, union, meet, minus, meets, subset, only, lowest, members, unionOf, unionBelow}
 use Rattle.records.specs.paper.Plan.{Plan}
 use Rattle.records.specs.promises.Sound.{SoundEdge, SoundAttachment}
-use Rattle.records.proofs.SetLaws.{has-none, has-one, empty, of-meet, in-minus, of-minus, in-union-l, in-union-r, of-union, union-lt, one-lt}
-use Rattle.records.proofs.Closing.{in-one}
-use Rattle.records.proofs.LoopLaws.{all-at}
-use Rattle.records.proofs.BelowLaws.{flag-set}
-use Rattle.records.proofs.Local.{which}
+use Rattle.sets.proofs.SetLaws.{has-none, has-one, empty, of-meet, in-minus, of-minus, in-union-l, in-union-r, of-union, union-lt, one-lt}
+use Rattle.sets.proofs.Closing.{in-one}
+use Rattle.sets.proofs.LoopLaws.{all-at}
+use Rattle.sets.proofs.BelowLaws.{flag-set}
+use Rattle.sets.proofs.Local.{which}
 use Rattle.expressions.proofs.UnionLaws.{none-union, union-none, union-assoc}
 use Rattle.expressions.specs.paper.Rules.{edgeCount, cutCount, attachmentCount, barCount, statusCount, edge, attachment, bar, status, pair}
 use Rattle.expressions.specs.paper.Nodes.{on}

@@ -6,10 +6,10 @@ use mathlib.Core.Logic.{_⊎_, inl, inr}
 use Prim.Native.Nat.{ℕ, _<_}
 use lib.Dec.{ltb}
 use borrow.Author.Tests.{lt-ltb, eqb-true, eq-eqb}
-use Rattle.records.specs.paper.Sets.{has, meets, union, meet, anyBelow, lexLess, risingLess, members}
+use Rattle.sets.specs.paper.Sets.{has, meets, union, meet, anyBelow, lexLess, risingLess, members}
 use Rattle.records.specs.paper.Plan.{Plan}
-use Rattle.records.proofs.SetLaws.{has-union, of-meet, in-meet, and-parts}
-use Rattle.records.proofs.Local.{which, clash}
+use Rattle.sets.proofs.SetLaws.{has-union, of-meet, in-meet, and-parts}
+use Rattle.sets.proofs.Local.{which, clash}
 use Rattle.expressions.specs.paper.Rules.{cutCount, cut}
 use Rattle.expressions.specs.paper.Nodes.{on}
 use Rattle.expressions.specs.paper.Variables.{Influence}

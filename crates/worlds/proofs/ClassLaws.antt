@@ -10,9 +10,9 @@ use lib.ListN.{length, getD, set, take}
 use lib.Seq.{getD-set-same, getD-set-other, take-suc, take-all}
 use lib.Dec.{eqb}
 use borrow.Author.Tests.{eqb-true, eqb-false}
-use Rattle.records.specs.paper.Sets.{has, one, union, minus, subset, lowest, members, closeOf, allOf, unionOf}
-use Rattle.records.proofs.SetLaws.{Within, has-none, has-high, has-not, antisym, along, thru, in-minus, of-minus, subset-true, within-subset, and-parts, lt-or-le}
-use Rattle.records.proofs.Closing.{Takes, Closed, close-closed, close-within, close-least, close-mono, close-same, close-sym, close-union, closed-minus, in-one, one-within}
+use Rattle.sets.specs.paper.Sets.{has, one, union, minus, subset, lowest, members, closeOf, allOf, unionOf}
+use Rattle.sets.proofs.SetLaws.{Within, has-none, has-high, has-not, antisym, along, thru, in-minus, of-minus, subset-true, within-subset, and-parts, lt-or-le}
+use Rattle.sets.proofs.Closing.{Takes, Closed, close-closed, close-within, close-least, close-mono, close-same, close-sym, close-union, closed-minus, in-one, one-within}
 use Rattle.records.proofs.ListLaws.{all-append}
 use Rattle.worlds.specs.code.Over.{entry, Marked}
 use Rattle.worlds.specs.code.Classes.{Alone, ClassesBy, Joins, joinable}

@@ -8,11 +8,11 @@ use native.Mathlib.Omega.{arith}
 use lib.Bits.{bitAnd, bitOr, or-add-and, and-comm, and-le-l}
 use lib.Dec.{eqb}
 use borrow.Author.Tests.{eqb-true}
-use Rattle.records.specs.paper.Sets.{has, one, union, only, unionOf, members, allOf, subset, closeOf}
-use Rattle.records.proofs.SetLaws.{Within, has-none, has-one, antisym, along, in-union-l, in-union-r, of-union}
-use Rattle.records.proofs.Closing.{Closed, close-closed, close-within, close-least, in-one, one-within}
-use Rattle.records.proofs.BelowLaws.{of-only, in-only}
-use Rattle.records.proofs.Local.{which, clash}
+use Rattle.sets.specs.paper.Sets.{has, one, union, only, unionOf, members, allOf, subset, closeOf}
+use Rattle.sets.proofs.SetLaws.{Within, has-none, has-one, antisym, along, in-union-l, in-union-r, of-union}
+use Rattle.sets.proofs.Closing.{Closed, close-closed, close-within, close-least, in-one, one-within}
+use Rattle.sets.proofs.BelowLaws.{of-only, in-only}
+use Rattle.sets.proofs.Local.{which, clash}
 use Rattle.worlds.specs.code.Over.{entry}
 use Rattle.worlds.specs.code.Discretion.{near, looseBy, joinedTo, Leads, Component, Heads, HeadsBy, Renewed, LooseParts}
 use Rattle.worlds.proofs.OverLaws.{union-has, has-union-of}

@@ -6,8 +6,8 @@ use Prim.Native.Nat.{ℕ, _<_, _^_}
 use native.Mathlib.Nat.{lt-trans}
 use lib.Dec.{eqb}
 use borrow.Author.Tests.{eqb-true, eq-eqb}
-use Rattle.records.specs.paper.Sets.{has, union, meet, minus, lowest, members, unionOf}
-use Rattle.records.proofs.SetLaws.{has-none, has-union, has-minus, ext}
+use Rattle.sets.specs.paper.Sets.{has, union, meet, minus, lowest, members, unionOf}
+use Rattle.sets.proofs.SetLaws.{has-none, has-union, has-minus, ext}
 use Rattle.worlds.specs.code.Over.{entry, Marked}
 use Rattle.worlds.specs.code.Blocks.{CutInto}
 use Rattle.worlds.proofs.OverLaws.{members-none, member-has}

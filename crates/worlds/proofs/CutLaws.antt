@@ -7,10 +7,10 @@ use Prim.Native.Nat.{ℕ, _^_, _≤_, _<_}
 use native.Mathlib.Omega.{arith}
 use lib.Dec.{eqb, ltb}
 use borrow.Author.Tests.{ltb-true, lt-ltb}
-use Rattle.records.specs.paper.Sets.{has, meets, union, meet, minus, members, below, anyBelow, unionOf}
+use Rattle.sets.specs.paper.Sets.{has, meets, union, meet, minus, members, below, anyBelow, unionOf}
 use Rattle.records.specs.paper.Plan.{Plan}
-use Rattle.records.proofs.SetLaws.{has-union, has-meet, has-minus, has-one, and-parts, lt-or-le}
-use Rattle.records.proofs.LoopLaws.{getD-below, getD-past}
+use Rattle.sets.proofs.SetLaws.{has-union, has-meet, has-minus, has-one, and-parts, lt-or-le}
+use Rattle.sets.proofs.LoopLaws.{getD-below, getD-past}
 use Rattle.expressions.specs.paper.Rules.{edgeCount, cutCount, edge, cut}
 use Rattle.expressions.specs.paper.Nodes.{on}
 use Rattle.expressions.specs.paper.Influence.{decisionCount, openDecision}

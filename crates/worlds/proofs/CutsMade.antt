@@ -5,11 +5,11 @@ use mathlib.Core.List.{List}
 use mathlib.Core.Logic.{⊎-elim}
 use Prim.Native.Nat.{ℕ, _^_, _<_}
 use native.Mathlib.Omega.{arith}
-use Rattle.records.specs.paper.Sets.{has, one, meets, meet, minus, only, members, unionBelow, unionOf}
+use Rattle.sets.specs.paper.Sets.{has, one, meets, meet, minus, only, members, unionBelow, unionOf}
 use Rattle.records.specs.paper.Plan.{Plan}
-use Rattle.records.proofs.SetLaws.{Within, has-minus, has-high, antisym, lt-or-le}
-use Rattle.records.proofs.BelowLaws.{union-find, in-below, of-only, in-only, flag-set}
-use Rattle.records.proofs.Local.{clash}
+use Rattle.sets.proofs.SetLaws.{Within, has-minus, has-high, antisym, lt-or-le}
+use Rattle.sets.proofs.BelowLaws.{union-find, in-below, of-only, in-only, flag-set}
+use Rattle.sets.proofs.Local.{clash}
 use Rattle.expressions.specs.paper.Rules.{cutCount, cut}
 use Rattle.expressions.specs.paper.Nodes.{on}
 use Rattle.expressions.specs.paper.Variables.{Influence}

@@ -5,10 +5,10 @@ use mathlib.Core.List.{List}
 use Prim.Native.Nat.{ℕ, _<_}
 use lib.Dec.{eqb}
 use borrow.Author.Tests.{eqb-true}
-use Rattle.records.specs.paper.Sets.{has, one, meets, below, anyOf, unionOf}
+use Rattle.sets.specs.paper.Sets.{has, one, meets, below, anyOf, unionOf}
 use Rattle.records.specs.paper.Plan.{Plan}
-use Rattle.records.proofs.SetLaws.{Within, in-union-r}
-use Rattle.records.proofs.Local.{Inside, Side, inside, outside, Flag, ins, meets-out, any-same, any-none}
+use Rattle.sets.proofs.SetLaws.{Within, in-union-r}
+use Rattle.sets.proofs.Local.{Inside, Side, inside, outside, Flag, ins, meets-out, any-same, any-none}
 use Rattle.expressions.specs.paper.Rules.{edgeCount, cutCount, attachmentCount, barCount, statusCount, edge, cut, attachment, bar, status, pair, withAnchor}
 use Rattle.expressions.specs.paper.Nodes.{on, values}
 use Rattle.expressions.specs.paper.Influence.{Frame, touch, usesAt, edgeUses, cutUses, attachmentUses, barUses, statusUses, says, decisionCount, openDecision, decisionTouch}

@@ -8,13 +8,13 @@ use native.Mathlib.Omega.{arith}
 use lib.Dec.{eqb, ltb}
 use lib.ListN.{getD}
 use borrow.Author.Tests.{eqb-true, eq-eqb, ltb-true, lt-ltb, not-true}
-use Rattle.records.specs.paper.Sets.{has, one, union, meet, only, subset, size, numbers, below, unionBelow, allOf, anyOf, unionOf, members, closeOf}
+use Rattle.sets.specs.paper.Sets.{has, one, union, meet, only, subset, size, numbers, below, unionBelow, allOf, anyOf, unionOf, members, closeOf}
 use Rattle.records.specs.paper.Plan.{Plan}
-use Rattle.records.proofs.SetLaws.{Within, has-none, has-meet, has-high, antisym, in-union-l, subset-true, and-parts, lt-or-le}
-use Rattle.records.proofs.Closing.{Takes, Closed, close-within, close-least, in-one, one-within}
-use Rattle.records.proofs.BelowLaws.{union-find, in-below, of-only, closed-below}
-use Rattle.records.proofs.LoopLaws.{getD-below}
-use Rattle.records.proofs.Local.{which, clash}
+use Rattle.sets.proofs.SetLaws.{Within, has-none, has-meet, has-high, antisym, in-union-l, subset-true, and-parts, lt-or-le}
+use Rattle.sets.proofs.Closing.{Takes, Closed, close-within, close-least, in-one, one-within}
+use Rattle.sets.proofs.BelowLaws.{union-find, in-below, of-only, closed-below}
+use Rattle.sets.proofs.LoopLaws.{getD-below}
+use Rattle.sets.proofs.Local.{which, clash}
 use Rattle.expressions.proofs.ListLaws.{below-last}
 use Rattle.expressions.proofs.UnionLaws.{union-append, union-none}
 use Rattle.expressions.specs.paper.Rules.{edgeCount, edge, pair, chained, rulePersons}

@@ -5,7 +5,7 @@ use mathlib.Core.Logic.{_⊎_, inl, inr, ⊎-elim}
 use mathlib.Core.List.{List}
 use Prim.Native.Nat.{ℕ}
 use native.Mathlib.Omega.{arith}
-use Rattle.records.specs.paper.Sets.{has}
+use Rattle.sets.specs.paper.Sets.{has}
 use Rattle.records.specs.paper.Plan.{Plan}
 use Rattle.expressions.specs.paper.Variables.{Influence}
 use Rattle.worlds.specs.paper.Active as paper

@@ -6,10 +6,10 @@ use Prim.Native.Nat.{ℕ, zero, suc, _/_, _^_, _≤_, _<_}
 use native.Mathlib.Omega.{arith}
 use lib.Dec.{ltb}
 use borrow.Author.Tests.{ltb-true, lt-ltb}
-use Rattle.records.specs.paper.Sets.{has, minus, disjoint, meets, members, anyBelow, unionOf}
-use Rattle.records.proofs.SetLaws.{has-suc, has-minus, antisym, empty, disjoint-false, disjoint-true, and-parts}
-use Rattle.records.proofs.BelowLaws.{any-false}
-use Rattle.records.proofs.Local.{which, clash, any-none}
+use Rattle.sets.specs.paper.Sets.{has, minus, disjoint, meets, members, anyBelow, unionOf}
+use Rattle.sets.proofs.SetLaws.{has-suc, has-minus, antisym, empty, disjoint-false, disjoint-true, and-parts}
+use Rattle.sets.proofs.BelowLaws.{any-false}
+use Rattle.sets.proofs.Local.{which, clash, any-none}
 use Rattle.worlds.proofs.OverLaws.{union-has, has-union-of}
 
 -- two answers, each yes where the other is

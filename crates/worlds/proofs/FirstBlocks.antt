@@ -5,12 +5,12 @@ use mathlib.Core.List.{List}
 use Prim.Native.Nat.{ℕ, _<_, _^_}
 use lib.ListN.{getD}
 use borrow.Author.Tests.{eqb-true, not-true, not-false}
-use Rattle.records.specs.paper.Sets.{has, one, minus, only, meets, subset, closeOf, below, anyBelow}
+use Rattle.sets.specs.paper.Sets.{has, one, minus, only, meets, subset, closeOf, below, anyBelow}
 use Rattle.records.specs.paper.Plan.{Plan}
-use Rattle.records.proofs.SetLaws.{Within, has-none, has-minus, has-high, antisym, thru, in-minus, of-minus, empty, subset-true, meeting, and-parts}
-use Rattle.records.proofs.Closing.{Closed, close-closed, close-within, close-least, close-sym, in-one, one-within}
-use Rattle.records.proofs.LoopLaws.{getD-below}
-use Rattle.records.proofs.BelowLaws.{any-false, union-find, in-below, of-only, in-only, flag-set, getD-below-all, closed-below}
+use Rattle.sets.proofs.SetLaws.{Within, has-none, has-minus, has-high, antisym, thru, in-minus, of-minus, empty, subset-true, meeting, and-parts}
+use Rattle.sets.proofs.Closing.{Closed, close-closed, close-within, close-least, close-sym, in-one, one-within}
+use Rattle.sets.proofs.LoopLaws.{getD-below}
+use Rattle.sets.proofs.BelowLaws.{any-false, union-find, in-below, of-only, in-only, flag-set, getD-below-all, closed-below}
 use Rattle.expressions.specs.paper.Rules.{edgeCount, cutCount, cut, pair}
 use Rattle.expressions.specs.paper.Nodes.{on}
 use Rattle.worlds.specs.paper.Active.{Active}

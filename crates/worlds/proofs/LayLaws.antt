@@ -16,10 +16,9 @@ use mir.Val.{Val}
 use base.Fml.{Fml}
 use denote.Shadow.{shadow}
 use denote.Array.{each, inArray}
-use Rattle.records.specs.paper.Sets.{has, one, union, anyOf, below}
-use Rattle.records.specs.promises.Sound.{All}
-use Rattle.records.proofs.SetLaws.{has-one, has-union, lt-or-le}
-use Rattle.records.proofs.LoopLaws.{getD-below, length-below, all-at}
+use Rattle.sets.specs.paper.Sets.{has, one, union, anyOf, below, All}
+use Rattle.sets.proofs.SetLaws.{has-one, has-union, lt-or-le}
+use Rattle.sets.proofs.LoopLaws.{getD-below, length-below, all-at}
 use Rattle.records.proofs.Listing
 use Rattle.expressions.proofs.ListLaws.{any-last}
 use Rattle.worlds.specs.code.Tables.{row}

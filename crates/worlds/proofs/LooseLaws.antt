@@ -12,10 +12,10 @@ use lib.Dec.{eqb, ltb}
 use lib.ListN.{length, set}
 use lib.Seq.{getD-set-same, getD-set-other}
 use borrow.Author.Tests.{eqb-true, eqb-false, eq-eqb, lt-ltb, le-ltb}
-use Rattle.records.specs.paper.Sets.{has, one, union, meet, minus, only, subset, size, unionOf, allOf, members, lowest, closeOf}
-use Rattle.records.proofs.SetLaws.{Within, has-none, has-one, has-meet, has-minus, ext, within-refl, along, in-union-l, in-union-r, of-union, of-minus, subset-true, within-subset, and-parts, and-not, ones-size}
-use Rattle.records.proofs.Closing.{Closed, close-least, close-same, in-one, one-within}
-use Rattle.records.proofs.Local.{which, clash}
+use Rattle.sets.specs.paper.Sets.{has, one, union, meet, minus, only, subset, size, unionOf, allOf, members, lowest, closeOf}
+use Rattle.sets.proofs.SetLaws.{Within, has-none, has-one, has-meet, has-minus, ext, within-refl, along, in-union-l, in-union-r, of-union, of-minus, subset-true, within-subset, and-parts, and-not, ones-size}
+use Rattle.sets.proofs.Closing.{Closed, close-least, close-same, in-one, one-within}
+use Rattle.sets.proofs.Local.{which, clash}
 use Rattle.expressions.proofs.UnionLaws.{union-assoc, union-none}
 use Rattle.worlds.specs.code.Over.{entry}
 use Rattle.worlds.specs.code.Classes.{Alone, ClassesBy, Joins, joinable}

@@ -10,14 +10,14 @@ use lib.Pow.{pow-pos}
 use lib.ListN.{length, getD, set, take, replicate}
 use lib.Dec.{eqb, ltb}
 use borrow.Author.Tests.{eqb-true, eqb-false, lt-ltb, le-ltb, ltb-true}
-use Rattle.records.specs.paper.Sets.{has, one, union, minus, disjoint, meets, subset, risingLess, only, setOf, members, absorb, pass, passes, closeOf, unionBelow, foldBelow, anyOf, unionOf}
-use Rattle.records.proofs.SetLaws.{has-none, has-union, has-one, has-minus, has-high, has-not, disjoint-true, disjoint-false, of-union, in-union-l, in-union-r, union-lt, one-lt, antisym, lt-or-le}
-use Rattle.records.proofs.Closing.{passes-next, in-one}
-use Rattle.records.proofs.BelowLaws.{union-find, in-below, of-only, in-only}
-use Rattle.records.proofs.LoopLaws.{all-at}
-use Rattle.records.proofs.Every.{all-then}
+use Rattle.sets.specs.paper.Sets.{has, one, union, minus, disjoint, meets, subset, risingLess, only, setOf, members, absorb, pass, passes, closeOf, unionBelow, foldBelow, anyOf, unionOf, All}
+use Rattle.sets.proofs.SetLaws.{has-none, has-union, has-one, has-minus, has-high, has-not, disjoint-true, disjoint-false, of-union, in-union-l, in-union-r, union-lt, one-lt, antisym, lt-or-le}
+use Rattle.sets.proofs.Closing.{passes-next, in-one}
+use Rattle.sets.proofs.BelowLaws.{union-find, in-below, of-only, in-only}
+use Rattle.sets.proofs.LoopLaws.{all-at}
+use Rattle.sets.proofs.Every.{all-then}
 use Rattle.records.specs.paper.Plan.{Plan, Cut, Heading}
-use Rattle.records.specs.promises.Sound.{All, Sound, SoundEdge, SoundDecision, SoundCut, SoundAttachment, SoundBar, SoundStatus}
+use Rattle.records.specs.promises.Sound.{Sound, SoundEdge, SoundDecision, SoundCut, SoundAttachment, SoundBar, SoundStatus}
 use Rattle.records.specs.code.Decoded.{ifGiven, planOf}
 use Rattle.records.specs.declared.plan.Plan.{Plan as Coded}
 use Rattle.expressions.specs.paper.Rules.{edgeCount, cutCount, edge, cut, pair, chained, ruleSets, rulePersons}

@@ -5,11 +5,10 @@ use mathlib.Core.List.{List, [], _∷_, _++_}
 use mathlib.Core.Logic.{_⊎_, inl, inr}
 use Prim.Native.Nat.{ℕ}
 use lib.Dec.{ltb}
-use Rattle.records.specs.paper.Sets.{has, one, union, subset, only, size, unionOf, closeOf}
+use Rattle.sets.specs.paper.Sets.{has, one, union, subset, only, size, unionOf, closeOf, All}
 use Rattle.records.specs.paper.Plan.{Plan}
-use Rattle.records.specs.promises.Sound.{All}
-use Rattle.records.proofs.MemberLaws.{members-same}
-use Rattle.records.proofs.Local.{which, Inside, Outside, outer, Agree, Twin, near, far, Twins, Weak, weak, weak-only, in-only, in-single, out-only, out-not, agree-refl, agree-twin, agree-same, twin-only, twin-near, twins-below, twins-self, below-all, union-agree, unionOf-agree, close-in, close-out, close-agree}
+use Rattle.sets.proofs.MemberLaws.{members-same}
+use Rattle.sets.proofs.Local.{which, Inside, Outside, outer, Agree, Twin, near, far, Twins, Weak, weak, weak-only, in-only, in-single, out-only, out-not, agree-refl, agree-twin, agree-same, twin-only, twin-near, twins-below, twins-self, below-all, union-agree, unionOf-agree, close-in, close-out, close-agree}
 use Rattle.expressions.specs.paper.Rules.{edgeCount, cutCount, edge, ruleSets, chained}
 use Rattle.expressions.specs.paper.Nodes.{on}
 use Rattle.expressions.specs.paper.Variables.{Influence}

@@ -7,8 +7,8 @@ use lib.ListN.{length, set}
 use lib.Seq.{getD-set-same, getD-set-other}
 use lib.Dec.{eqb}
 use borrow.Author.Tests.{eqb-true, eqb-false, eq-eqb, ne-eqb}
-use Rattle.records.specs.paper.Sets.{has, union, only, lowest, members, unionOf}
-use Rattle.records.proofs.SetLaws.{has-none}
+use Rattle.sets.specs.paper.Sets.{has, union, only, lowest, members, unionOf}
+use Rattle.sets.proofs.SetLaws.{has-none}
 use Rattle.expressions.proofs.UnionLaws.{union-none, union-first}
 use Rattle.worlds.specs.code.Over.{entry}
 use Rattle.worlds.proofs.OverLaws.{union-twice}

@@ -13,8 +13,8 @@ use lib.Arith.{lt-one, digits-div, digits-mod}
 use lib.Bits.{bitAnd, and-step, and-le-r}
 use lib.Count.{trailingZeros, under}
 use borrow.Author.Tests.{eqb-true, eqb-false, eq-eqb, ne-eqb}
-use Rattle.records.specs.paper.Sets.{odd, has, one, union, minus, disjoint, meet, meets, lowest, when, members, membersFrom, anyOf, unionOf}
-use Rattle.records.proofs.SetLaws.{has-zero, has-suc, has-none, has-and, has-minus, has-one, has-union, ext, of-union, in-union-l, in-union-r}
+use Rattle.sets.specs.paper.Sets.{odd, has, one, union, minus, disjoint, meet, meets, lowest, when, members, membersFrom, anyOf, unionOf}
+use Rattle.sets.proofs.SetLaws.{has-zero, has-suc, has-none, has-and, has-minus, has-one, has-union, ext, of-union, in-union-l, in-union-r}
 use Rattle.expressions.proofs.UnionLaws.{union-assoc, union-self}
 use Rattle.worlds.specs.code.Over.{entry}
 

@@ -5,10 +5,10 @@ use mathlib.Core.Logic.{_⊎_, inl, inr, ⊎-elim}
 use Prim.Native.Nat.{ℕ, _≤_, _<_, _^_}
 use lib.ListN.{List·getD-eq-default}
 use lib.Dec.{eqb}
-use Rattle.records.specs.paper.Sets.{has, one, union, minus, disjoint, subset, unionBelow}
+use Rattle.sets.specs.paper.Sets.{has, one, union, minus, disjoint, subset, unionBelow}
 use Rattle.records.specs.paper.Plan.{Plan, Cut, Attachment}
-use Rattle.records.proofs.SetLaws.{Within, has-none, has-high, thru, in-union-l, in-union-r, of-union, in-minus, of-minus, empty, subset-true, disjoint-false, lt-or-le}
-use Rattle.records.proofs.BelowLaws.{in-below, getD-below-all, fold-keeps}
+use Rattle.sets.proofs.SetLaws.{Within, has-none, has-high, thru, in-union-l, in-union-r, of-union, in-minus, of-minus, empty, subset-true, disjoint-false, lt-or-le}
+use Rattle.sets.proofs.BelowLaws.{in-below, getD-below-all, fold-keeps}
 use Rattle.expressions.specs.paper.Rules.{edgeCount, cutCount, attachmentCount, barCount, statusCount, cut, attachment, bar, status, pair, withAnchor, rulePersons}
 use Rattle.expressions.specs.paper.Nodes.{on}
 use Rattle.expressions.specs.paper.Variables.{Influence}

@@ -10,11 +10,11 @@ use lib.Bits.{bitAnd, xor-lt, and-le-l}
 use lib.Dec.{eqb}
 use lib.ListN.{getD}
 use borrow.Author.Tests.{eqb-true, eq-eqb}
-use Rattle.records.specs.paper.Sets.{has, one, union, meet, minus, only, subset, members, numbers, below, closeOf, allOf, anyOf, unionOf}
+use Rattle.sets.specs.paper.Sets.{has, one, union, meet, minus, only, subset, members, numbers, below, closeOf, allOf, anyOf, unionOf}
 use Rattle.records.specs.paper.Plan.{Plan}
-use Rattle.records.proofs.SetLaws.{Within, has-none, has-union, has-meet, has-minus, antisym, in-meet, of-meet, in-minus, of-minus, within-subset, and-parts}
-use Rattle.records.proofs.Closing.{Takes, Closed, close-same}
-use Rattle.records.proofs.BelowLaws.{of-only, closed-below}
+use Rattle.sets.proofs.SetLaws.{Within, has-none, has-union, has-meet, has-minus, antisym, in-meet, of-meet, in-minus, of-minus, within-subset, and-parts}
+use Rattle.sets.proofs.Closing.{Takes, Closed, close-same}
+use Rattle.sets.proofs.BelowLaws.{of-only, closed-below}
 use Rattle.expressions.specs.paper.Rules.{edgeCount, cut, pair}
 use Rattle.expressions.specs.paper.Nodes.{on}
 use Rattle.expressions.specs.paper.Variables.{Influence}

@@ -13,9 +13,9 @@ use lib.Seq.{getD-set-same, getD-set-other}
 use lib.Dec.{eqb, ltb}
 use borrow.Author.Count.{below-more}
 use borrow.Author.Tests.{eqb-true, eqb-false, lt-ltb, le-ltb}
-use Rattle.records.specs.paper.Sets.{odd, has, one, union, minus, disjoint, meets, risingLess, foldBelow, anyOf, unionOf, members}
-use Rattle.records.proofs.SetLaws.{has-zero, has-suc, has-none, has-one, has-and, has-minus, disjoint-true, disjoint-false, lt-or-le}
-use Rattle.records.proofs.Closing.{in-one}
+use Rattle.sets.specs.paper.Sets.{odd, has, one, union, minus, disjoint, meets, risingLess, foldBelow, anyOf, unionOf, members}
+use Rattle.sets.proofs.SetLaws.{has-zero, has-suc, has-none, has-one, has-and, has-minus, disjoint-true, disjoint-false, lt-or-le}
+use Rattle.sets.proofs.Closing.{in-one}
 use Rattle.worlds.specs.code.Over.{entry}
 use Rattle.worlds.specs.code.Tables.{row}
 use Rattle.worlds.specs.code.Laid.{Laid, Same}

@@ -7,12 +7,12 @@ use native.Mathlib.Omega.{arith}
 use lib.ListN.{length, getD, set, length-set}
 use lib.Seq.{getD-set-same, getD-set-other}
 use lib.Dec.{eqb}
-use Rattle.records.specs.paper.Sets.{has, one, union, meet, minus, disjoint, meets, subset, only, members, unionBelow, unionOf}
+use Rattle.sets.specs.paper.Sets.{has, one, union, meet, minus, disjoint, meets, subset, only, members, unionBelow, unionOf}
 use Rattle.records.specs.paper.Plan.{Plan}
 use Rattle.records.specs.promises.Sound.{SoundBar}
-use Rattle.records.proofs.SetLaws.{and-not, and-parts, antisym}
-use Rattle.records.proofs.BelowLaws.{union-find, in-below, of-only, in-only}
-use Rattle.records.proofs.LoopLaws.{all-at}
+use Rattle.sets.proofs.SetLaws.{and-not, and-parts, antisym}
+use Rattle.sets.proofs.BelowLaws.{union-find, in-below, of-only, in-only}
+use Rattle.sets.proofs.LoopLaws.{all-at}
 use Rattle.expressions.specs.paper.Rules.{barCount, statusCount, bar, status}
 use Rattle.expressions.specs.paper.Nodes.{on}
 use Rattle.expressions.specs.paper.Variables.{Influence}

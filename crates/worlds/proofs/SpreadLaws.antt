@@ -4,10 +4,10 @@ use mathlib.Core.Bool.{true, false≢true}
 use mathlib.Core.List.{List, [], _∷_, _++_}
 use Prim.Native.Nat.{ℕ, _<_, _^_}
 use borrow.Author.Tests.{eqb-true, eq-eqb}
-use Rattle.records.specs.paper.Sets.{has, one, union, members, unionOf, closeOf}
+use Rattle.sets.specs.paper.Sets.{has, one, union, members, unionOf, closeOf}
 use Rattle.records.specs.paper.Plan.{Plan}
-use Rattle.records.proofs.SetLaws.{has-none, has-one, antisym}
-use Rattle.records.proofs.Closing.{Closed, close-same, close-union}
+use Rattle.sets.proofs.SetLaws.{has-none, has-one, antisym}
+use Rattle.sets.proofs.Closing.{Closed, close-same, close-union}
 use Rattle.expressions.specs.paper.Rules.{ruleSets}
 use Rattle.expressions.specs.paper.Variables.{Influence}
 use Rattle.worlds.specs.paper.World.{spread}

@@ -7,12 +7,11 @@ use Prim.Native.Nat.{ℕ, _<_, _≤_}
 use lib.ListN.{getD}
 use lib.Dec.{eqb}
 use borrow.Author.Tests.{not-true, eqb-true}
-use Rattle.records.specs.paper.Sets.{has, one, union, minus, subset, only, below, closeOf}
+use Rattle.sets.specs.paper.Sets.{has, one, union, minus, subset, only, below, closeOf, All}
 use Rattle.records.specs.paper.Plan.{Plan}
-use Rattle.records.specs.promises.Sound.{All}
-use Rattle.records.proofs.SetLaws.{lt-or-le, has-union, has-one}
-use Rattle.records.proofs.LoopLaws.{getD-below, getD-past}
-use Rattle.records.proofs.Local.{clash, Inside, Outside, outer, Agree, Twins, Side, inside, outside, Flag, Weak, weak, weak-only, ins, in-zero, in-only, in-union, in-less, in-cond, in-not, in-left, in-right, at-single, out-not, agree-refl, agree-sym, agree-union, agree-minus, agree-twin, agree-frame, minus-near, minus-far, subset-near, twin-only, twins-below, below-all, below-two, union-in, union-same, union-agree, fold-two, single-side}
+use Rattle.sets.proofs.SetLaws.{lt-or-le, has-union, has-one}
+use Rattle.sets.proofs.LoopLaws.{getD-below, getD-past}
+use Rattle.sets.proofs.Local.{clash, Inside, Outside, outer, Agree, Twins, Side, inside, outside, Flag, Weak, weak, weak-only, ins, in-zero, in-only, in-union, in-less, in-cond, in-not, in-left, in-right, at-single, out-not, agree-refl, agree-sym, agree-union, agree-minus, agree-twin, agree-frame, minus-near, minus-far, subset-near, twin-only, twins-below, below-all, below-two, union-in, union-same, union-agree, fold-two, single-side}
 use Rattle.expressions.specs.paper.Rules.{edgeCount, cutCount, attachmentCount, barCount, statusCount, cut, attachment, status, pair, withAnchor}
 use Rattle.expressions.specs.paper.Nodes.{on}
 use Rattle.expressions.proofs.Circles.{Uncrossed, edge-side, cut-side, span-side, bar-side}

@@ -5,9 +5,9 @@ use mathlib.Core.Bool.{Bool, true, false, _&&_, _||_, cond, and-false}
 use mathlib.Core.List.{List, _++_}
 use mathlib.Core.Logic.{_⊎_, inl, inr}
 use Prim.Native.Nat.{ℕ}
-use Rattle.records.specs.paper.Sets.{has, one, union, meets, only}
+use Rattle.sets.specs.paper.Sets.{has, one, union, meets, only}
 use Rattle.records.specs.paper.Plan.{Plan}
-use Rattle.records.proofs.Local.{which, Inside, Outside, Agree, Twins, Side, inside, outside, Flag, ins, in-not, in-left, in-right, at-single, out-not, agree-union, agree-minus, agree-meet, meets-near, meets-out, union-same}
+use Rattle.sets.proofs.Local.{which, Inside, Outside, Agree, Twins, Side, inside, outside, Flag, ins, in-not, in-left, in-right, at-single, out-not, agree-union, agree-minus, agree-meet, meets-near, meets-out, union-same}
 use Rattle.expressions.specs.paper.Rules.{edgeCount, cutCount, barCount, statusCount, edge, cut, bar, status, pair}
 use Rattle.expressions.specs.paper.Nodes.{on}
 use Rattle.expressions.specs.paper.Influence.{Frame}

@@ -4,13 +4,13 @@ use crate::over::low;
 use crate::over::others;
 use crate::over::put;
 use crate::over::whole;
-use records::sets::bit;
-use records::sets::subset;
+use sets::bit;
+use sets::subset;
 ghost use mathlib.Core.Path.{_≡_};
 ghost use Prim.Native.Nat.{ℕ, _<_};
 ghost use lib.ListN.{getD};
 ghost use mathlib.Core.List.{[], _∷_, map};
-ghost use Rattle.records.specs.paper.Sets.{one, closeOf, members};
+ghost use Rattle.sets.specs.paper.Sets.{one, closeOf, members};
 ghost use Rattle.worlds.specs.code.Over.{entry};
 ghost use Rattle.worlds.specs.code.Classes.{Alone, Joins, joinable};
 

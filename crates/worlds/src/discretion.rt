@@ -4,12 +4,12 @@ use crate::over::give;
 use crate::over::low;
 use crate::over::others;
 use crate::over::whole;
-use records::sets::bit;
-use records::sets::minus;
-use records::sets::subset;
+use sets::bit;
+use sets::minus;
+use sets::subset;
 ghost use mathlib.Core.Path.{_≡_};
 ghost use Prim.Native.Nat.{ℕ, _<_};
-ghost use Rattle.records.specs.paper.Sets.{has, one, union, only, unionOf, members};
+ghost use Rattle.sets.specs.paper.Sets.{has, one, union, only, unionOf, members};
 ghost use Rattle.worlds.specs.code.Over.{entry};
 ghost use Rattle.worlds.specs.code.Discretion.{near, cliqueBy, looseBy, Component, HeadsBy, Renewed, LooseParts};
 

@@ -1,11 +1,11 @@
 // Loops over the numbers of a set, lowest first.
-use records::sets::bit;
+use sets::bit;
 ghost use mathlib.Core.Path.{_≡_};
 ghost use mathlib.Core.Bool.{_&&_, cond};
 ghost use mathlib.Core.List.{_∷_};
 ghost use Prim.Native.Nat.{ℕ, _<_};
 ghost use lib.ListN.{getD, length};
-ghost use Rattle.records.specs.paper.Sets.{has, union, meets, members, unionOf, lowest};
+ghost use Rattle.sets.specs.paper.Sets.{has, union, meets, members, unionOf, lowest};
 ghost use Rattle.worlds.specs.code.Over.{entry, Marked, Given};
 
 // The lowest number of a set that is not empty.

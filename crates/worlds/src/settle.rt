@@ -16,7 +16,7 @@ use crate::tables::SPREAD;
 use crate::tables::STATUSES;
 use crate::tables::Settled;
 use crate::tables::Tables;
-use records::sets::minus;
+use sets::minus;
 ghost use mathlib.Core.List.{[]};
 ghost use lib.ListN.{getD};
 ghost use Rattle.worlds.specs.code.Settled.{Settles};

@@ -3,7 +3,7 @@ use mathlib.Core.Path.{_≡_}
 use mathlib.Core.List.{List, map}
 use Prim.Native.Nat.{ℕ, _<_}
 use lib.ListN.{getD, take}
-use Rattle.records.specs.promises.Sound.{All}
+use Rattle.sets.specs.paper.Sets.{All}
 use Rattle.records.specs.paper.Plan.{Fact, Node, literal, fact, conj, disj, neg, Edge, Cut, Attachment, Bar, Status}
 use Rattle.records.specs.code.Decoded.{factOf, nodeOf, edgeOf, cutOf, attachmentOf, barOf, statusOf, planOf}
 use Rattle.expressions.specs.paper.Influence.{Frame}

@@ -3,10 +3,10 @@ use mathlib.Core.Path.{_≡_}
 use mathlib.Core.List.{List}
 use Prim.Native.Nat.{ℕ, _<_}
 use lib.ListN.{getD}
-use Rattle.records.specs.paper.Sets.{one, union, unionOf}
+use Rattle.sets.specs.paper.Sets.{one, union, unionOf, All}
 use Rattle.records.specs.paper.Plan.{Plan}
 use Rattle.records.specs.paper.Case.{Case, Boolean, Relation, Observation}
-use Rattle.records.specs.promises.Sound.{All, SoundCase}
+use Rattle.records.specs.promises.Sound.{SoundCase}
 use Rattle.expressions.specs.paper.Bindings.{evidenceOf}
 
 abbrev pub evidenceMark : Observation → ℕ

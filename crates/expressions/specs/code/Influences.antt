@@ -2,7 +2,7 @@
 use mathlib.Core.List.{List, _++_}
 use Prim.Native.Nat.{ℕ}
 use lib.ListN.{getD, take}
-use Rattle.records.specs.paper.Sets.{has, only, closeOf, below}
+use Rattle.sets.specs.paper.Sets.{has, only, closeOf, below}
 use Rattle.expressions.specs.declared.reach.Reach.{Reach}
 use Rattle.expressions.specs.declared.influence.Influence.{Influence}
 

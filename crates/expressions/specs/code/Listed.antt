@@ -3,7 +3,7 @@ use mathlib.Core.Path.{_≡_}
 use mathlib.Core.List.{List, [], _∷_, _++_, map}
 use Prim.Native.Nat.{ℕ, _+_, _≤_}
 use lib.ListN.{length, getD, take}
-use Rattle.records.specs.paper.Sets.{one, union, has, only, below}
+use Rattle.sets.specs.paper.Sets.{one, union, has, only, below}
 use Rattle.records.specs.paper.Plan.{Plan, Fact, Cut, Attachment, Bar, Status}
 use Rattle.expressions.specs.paper.Rules.{ruleSets}
 use Rattle.expressions.specs.paper.Influence.{edgeUsed, touchedWith}

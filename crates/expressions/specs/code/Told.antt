@@ -5,7 +5,7 @@ use mathlib.Core.List.{List, [], _∷_}
 use Prim.Native.Nat.{ℕ, _<_}
 use lib.ListN.{length, getD, take}
 use lib.Dec.{eqb, ltb}
-use Rattle.records.specs.paper.Sets.{has}
+use Rattle.sets.specs.paper.Sets.{has}
 use Rattle.records.specs.paper.Plan as paper
 use Rattle.records.specs.paper.Case.{Case, Family}
 use Rattle.records.specs.code.Decoded.{electionOf, noElection}

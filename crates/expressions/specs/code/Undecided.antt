@@ -2,7 +2,7 @@
 use mathlib.Core.List.{List}
 use Prim.Native.Nat.{ℕ, _<_}
 use lib.ListN.{getD}
-use Rattle.records.specs.paper.Sets.{below}
+use Rattle.sets.specs.paper.Sets.{below}
 use Rattle.expressions.specs.paper.Influence.{Open}
 use Rattle.expressions.specs.declared.decisions.Undecided.{Undecided}
 

@@ -4,7 +4,7 @@ use mathlib.Core.List.{List, [], _∷_, _++_, flatMap}
 use Prim.Native.Nat.{ℕ, _+_}
 use lib.ListN.{length, getD}
 use lib.Dec.{eqb}
-use Rattle.records.specs.paper.Sets.{has, one, union, below, allOf, anyOf, unionOf, setOf}
+use Rattle.sets.specs.paper.Sets.{has, one, union, below, allOf, anyOf, unionOf, setOf}
 use Rattle.records.specs.paper.Fields.{Verdict, fine, firstFault, fault}
 use Rattle.records.specs.paper.Plan.{Plan, Election, getFact, isBoolean, electionRecords}
 use Rattle.records.specs.paper.Case.{Case, Family, Boolean, Relation, Observation, caseHeading, familiesAt, booleansAt}

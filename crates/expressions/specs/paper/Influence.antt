@@ -4,7 +4,7 @@ use mathlib.Core.List.{List, [], _∷_, _++_}
 use Prim.Native.Nat.{ℕ, zero, suc}
 use lib.ListN.{length, getD}
 use lib.Dec.{eqb}
-use Rattle.records.specs.paper.Sets.{has, one, union, setOf, only, closeOf, below, unionBelow, anyOf, unionOf, meets}
+use Rattle.sets.specs.paper.Sets.{has, one, union, setOf, only, closeOf, below, unionBelow, anyOf, unionOf, meets}
 use Rattle.records.specs.paper.Plan.{Plan, Fact, Edge, Cut, Decision, getFact}
 use Rattle.expressions.specs.paper.Rules.{noCut, edgeCount, cutCount, attachmentCount, barCount, statusCount, factCount, edge, cut, attachment, bar, status, pair, withAnchor, ruleSets}
 use Rattle.expressions.specs.paper.Nodes.{nodeUses}

@@ -4,7 +4,7 @@ use mathlib.Core.List.{List, [], _∷_, _++_}
 use Prim.Native.Nat.{ℕ}
 use lib.ListN.{getD}
 use lib.Dec.{eqb}
-use Rattle.records.specs.paper.Sets.{has, one, allOf, anyOf, unionOf}
+use Rattle.sets.specs.paper.Sets.{has, one, allOf, anyOf, unionOf}
 use Rattle.records.specs.paper.Plan.{Plan, Node, literal, fact, conj, disj, neg}
 
 -- the answer at a number of a list of answers; no for a number past it

@@ -4,7 +4,7 @@ use mathlib.Core.List.{List, [], _++_}
 use Prim.Native.Nat.{ℕ}
 use lib.ListN.{length, getD}
 use lib.Dec.{eqb}
-use Rattle.records.specs.paper.Sets.{one, union, below, unionBelow}
+use Rattle.sets.specs.paper.Sets.{one, union, below, unionBelow}
 use Rattle.records.specs.paper.Plan.{Plan, Edge, Cut, Attachment, Bar, Status}
 
 -- past the last edge, and past the last cut

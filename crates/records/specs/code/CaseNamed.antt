@@ -6,7 +6,7 @@ use mathlib.Core.List.{List, [], _∷_}
 use Prim.Native.Nat.{ℕ, _≤_}
 use lib.Dec.{eqb, ltb}
 use lib.ListN.{length}
-use Rattle.records.specs.paper.Sets.{allOf}
+use Rattle.sets.specs.paper.Sets.{allOf}
 use Rattle.records.specs.paper.Plan as paper
 use Rattle.records.specs.paper.Case as case
 use Rattle.records.specs.code.Decoded.{relationOf, factsOf, familiesOf, booleansOf, relationsOf, constraintsOf}

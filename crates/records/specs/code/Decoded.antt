@@ -3,7 +3,7 @@ use mathlib.Core.Bool.{Bool, false, cond, not}
 use mathlib.Core.List.{List, [], _∷_, map}
 use Prim.Native.Nat.{ℕ, zero, suc}
 use lib.ListN.{getD, take}
-use Rattle.records.specs.paper.Sets.{below}
+use Rattle.sets.specs.paper.Sets.{below}
 use Rattle.records.specs.paper.Plan as paper
 use Rattle.records.specs.paper.Case as case
 use Rattle.records.specs.declared.plan.Numbers.{Numbers}

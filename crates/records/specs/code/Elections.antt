@@ -3,7 +3,7 @@ use mathlib.Core.Bool.{Bool}
 use mathlib.Core.List.{List, [], _++_}
 use Prim.Native.Nat.{ℕ, zero, suc}
 use lib.ListN.{getD}
-use Rattle.records.specs.paper.Sets.{allOf}
+use Rattle.sets.specs.paper.Sets.{allOf}
 use Rattle.records.specs.paper.Plan.{Plan, Election, sameElection, electionFaults, electionRecords}
 
 -- the elections of the records before number k, the latest first

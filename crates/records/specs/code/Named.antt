@@ -5,7 +5,7 @@ use mathlib.Core.List.{List}
 use Prim.Native.Nat.{ℕ, _≤_}
 use lib.Dec.{ltb}
 use lib.ListN.{length}
-use Rattle.records.specs.paper.Sets.{allOf}
+use Rattle.sets.specs.paper.Sets.{allOf}
 use Rattle.records.specs.paper.Plan as paper
 use Rattle.records.specs.paper.Fields.{fault, fine, firstFault}
 use Rattle.records.specs.code.Check.{checkedOf}

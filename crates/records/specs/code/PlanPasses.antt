@@ -5,7 +5,7 @@ use mathlib.Core.List.{List, map}
 use Prim.Native.Nat.{ℕ, _+_, _-_, _*_, _/_, _%_, _≤_}
 use lib.ListN.{length, getD}
 use lib.Dec.{eqb, ltb}
-use Rattle.records.specs.paper.Sets.{has, allOf, numbers}
+use Rattle.sets.specs.paper.Sets.{has, allOf, numbers}
 use Rattle.records.specs.paper.Fields.{Read, got, bad}
 use Rattle.records.specs.paper.Plan.{Plan, Heading, Fact, Node, literal, conj, disj, neg, Edge, Decision, Cut, Attachment, Bar, Status, planFormats, addToPlan, judgePlan, factsRise, decidedOnce, unresolved, decisionsFrom}
 use Rattle.records.specs.paper.Plan as paper

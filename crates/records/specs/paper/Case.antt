@@ -4,7 +4,7 @@ use mathlib.Core.List.{List, [], _∷_, _++_}
 use Prim.Native.Nat.{ℕ, _+_, _-_}
 use lib.ListN.{length, getD}
 use lib.Dec.{eqb, ltb}
-use Rattle.records.specs.paper.Sets.{has, allOf, anyOf}
+use Rattle.sets.specs.paper.Sets.{has, allOf, anyOf}
 use Rattle.records.specs.paper.Fields.{upTo, evidence, number, byte, bytes, mask, list, most, Format, needs, Raw, field, num, wide, formatOf, Verdict, fine, onFine, readFrom, firstFault}
 use Rattle.records.specs.paper.Plan.{Plan, getFact, isBoolean, booleanFact, joined, faults}
 

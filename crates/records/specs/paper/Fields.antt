@@ -6,7 +6,7 @@ use mathlib.Core.List.{List, [], _∷_, _++_}
 use Prim.Native.Nat.{ℕ, zero, suc, _+_, _*_, _/_, _%_, _-_}
 use lib.ListN.{length, getD}
 use lib.Dec.{eqb, ltb, leb}
-use Rattle.records.specs.paper.Sets.{odd, subset, size}
+use Rattle.sets.specs.paper.Sets.{odd, subset, size}
 
 -- what a byte may hold
 pub record Range : Type 0 where

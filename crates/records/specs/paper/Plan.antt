@@ -4,7 +4,7 @@ use mathlib.Core.List.{List, [], _∷_, _++_, map}
 use Prim.Native.Nat.{ℕ, _+_, _-_}
 use lib.ListN.{length, getD}
 use lib.Dec.{eqb, ltb}
-use Rattle.records.specs.paper.Sets.{has, lexLess, allOf, anyOf}
+use Rattle.sets.specs.paper.Sets.{has, lexLess, allOf, anyOf}
 use Rattle.records.specs.paper.Fields.{upTo, person, citation, number, actor, byte, bytes, mask, election, list, Format, needs, single, Raw, field, num, wide, formatOf, Verdict, fine, onFine, readFrom, firstFault, fault}
 
 -- ---- what a plan holds

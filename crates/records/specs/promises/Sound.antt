@@ -6,13 +6,9 @@ use mathlib.Core.Bool.{true}
 use mathlib.Core.List.{List, [], _∷_}
 use Prim.Native.Nat.{ℕ, suc, _^_, _≤_, _<_}
 use lib.ListN.{length}
+use Rattle.sets.specs.paper.Sets.{All}
 use Rattle.records.specs.paper.Plan.{Plan, Heading, Fact, Node, literal, fact, conj, disj, neg, Edge, Election, Decision, Cut, Attachment, Bar, Status, isBoolean, factsRise, decidedOnce, unresolved, booleanFact, crossingsDecided, electionFaults, electionRecords}
 use Rattle.records.specs.paper.Case.{Case, CaseHeading, Family, Boolean, Relation, Observation, relationSound}
-
--- of each entry of a list
-abbrev pub All : {A : Type 0} → (A → Type 0) → List A → Type 0
-All Q [] = Unit {0}
-All Q (x ∷ xs) = Q x × All Q xs
 
 -- so many at most, each below a bound
 abbrev pub Numbers : ℕ → ℕ → List ℕ → Type 0

@@ -15,7 +15,7 @@ use crate::plan::counts::least;
 use crate::plan::counts::wide;
 ghost use mathlib.Core.Path.{_≡_};
 ghost use Prim.Native.Nat.{_≤_};
-ghost use Rattle.records.specs.paper.Sets.{anyOf};
+ghost use Rattle.sets.specs.paper.Sets.{anyOf};
 ghost use Rattle.records.specs.paper.Fields.{fine, firstFault};
 ghost use Rattle.records.specs.paper.Case.{caseNamingFaults, booleansAt};
 ghost use Rattle.records.specs.code.Decoded.{planOf, caseOf, familiesOf};

@@ -4,7 +4,7 @@ use mathlib.Core.Bool.{Bool, cond}
 use mathlib.Core.List.{List, [], map}
 use Prim.Native.Nat.{ℕ}
 use lib.ListN.{length, replicate}
-use Rattle.records.specs.paper.Sets.{members}
+use Rattle.sets.specs.paper.Sets.{members}
 use Rattle.report.specs.paper.Line.{bareLine}
 use Rattle.report.specs.paper.Operations.{Outcome, written, refusal}
 use Rattle.report.specs.declared.Answer.{Answer}

@@ -4,7 +4,7 @@ use mathlib.Core.Bool.{true}
 use mathlib.Core.List.{List, [], _∷_, _++_, flatMap}
 use Prim.Native.Nat.{ℕ, zero, suc, _+_, _*_, _^_, _<_}
 use lib.ListN.{length, take, drop}
-use Rattle.records.specs.paper.Sets.{has, size, members}
+use Rattle.sets.specs.paper.Sets.{has, size, members}
 use mathlib.Core.List.{map}
 use Rattle.worlds.specs.paper.Events.{event}
 use Rattle.report.specs.declared.event.Event.{Event}

@@ -3,7 +3,7 @@ use mathlib.Core.Path.{_≡_}
 use mathlib.Core.List.{List, [], _++_, flatMap}
 use Prim.Native.Nat.{ℕ, _+_, _*_, _≤_}
 use lib.ListN.{length, take, drop}
-use Rattle.records.specs.paper.Sets.{size}
+use Rattle.sets.specs.paper.Sets.{size}
 use Rattle.records.specs.paper.Plan as paper
 use Rattle.records.specs.paper.Case as case
 use Rattle.records.specs.promises.Sound.{Sound}

@@ -4,8 +4,8 @@ use mathlib.Core.Bool.{Bool, true, false, cond}
 use mathlib.Core.List.{List}
 use Prim.Native.Nat.{ℕ, _+_, _*_, _<_, _≤_}
 use lib.ListN.{length, take, drop, replicate}
-use Rattle.records.specs.paper.Sets.{has, size}
-use Rattle.records.specs.promises.Sound.{All, Sound, SoundCase}
+use Rattle.sets.specs.paper.Sets.{has, size, All}
+use Rattle.records.specs.promises.Sound.{Sound, SoundCase}
 use Rattle.records.specs.paper.Plan as paper
 use Rattle.records.specs.code.Decoded.{planOf, caseOf}
 use Rattle.records.specs.declared.plan.Plan.{Plan}

@@ -5,8 +5,7 @@ use mathlib.Core.List.{List, [], _∷_, _++_, map, flatMap}
 use Prim.Native.Nat.{ℕ, _+_, _*_, _-_, _<_, _≤_}
 use lib.ListN.{length, replicate, drop}
 use lib.Dec.{eqb, ltb}
-use Rattle.records.specs.paper.Sets.{anyOf, members}
-use Rattle.records.specs.promises.Sound.{All}
+use Rattle.sets.specs.paper.Sets.{anyOf, members, All}
 use Rattle.worlds.specs.paper.Events.{event}
 use Rattle.worlds.specs.code.Over.{entry}
 use Rattle.report.specs.paper.EventList.{insert, rising}

@@ -4,7 +4,7 @@ use mathlib.Core.Bool.{Bool, true, false, cond}
 use mathlib.Core.List.{List}
 use Prim.Native.Nat.{ℕ, _*_, _≤_}
 use lib.ListN.{length, getD, replicate}
-use Rattle.records.specs.paper.Sets.{size, subset}
+use Rattle.sets.specs.paper.Sets.{size, subset}
 use Rattle.records.specs.promises.Sound.{Sound, SoundCase}
 use Rattle.records.specs.code.Decoded.{planOf, caseOf}
 use Rattle.records.specs.declared.plan.Plan.{Plan}

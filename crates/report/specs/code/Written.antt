@@ -4,8 +4,7 @@ use mathlib.Core.Bool.{true}
 use mathlib.Core.List.{List, _∷_, _++_, flatMap}
 use Prim.Native.Nat.{ℕ, _*_, _<_}
 use lib.ListN.{drop}
-use Rattle.records.specs.paper.Sets.{has, size, members, unionOf}
-use Rattle.records.specs.promises.Sound.{All}
+use Rattle.sets.specs.paper.Sets.{has, size, members, unionOf, All}
 use Rattle.expressions.specs.paper.Variables.{Influence}
 use Rattle.worlds.specs.paper.View.{View}
 use Rattle.worlds.specs.code.Tables.{row}

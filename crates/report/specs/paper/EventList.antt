@@ -2,7 +2,7 @@
 use mathlib.Core.Bool.{Bool, true, false, cond}
 use mathlib.Core.List.{List, [], _∷_}
 use Prim.Native.Nat.{ℕ}
-use Rattle.records.specs.paper.Sets.{lexLess}
+use Rattle.sets.specs.paper.Sets.{lexLess}
 use Rattle.records.specs.paper.Plan.{Plan, Election}
 use Rattle.records.specs.paper.Case.{Case}
 use Rattle.expressions.specs.paper.Rules.{factCount}

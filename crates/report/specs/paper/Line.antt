@@ -4,7 +4,7 @@ use mathlib.Core.List.{List, [], _∷_, _++_}
 use Prim.Native.Nat.{ℕ}
 use lib.ListN.{length, getD}
 use lib.Dec.{eqb}
-use Rattle.records.specs.paper.Sets.{has, one, only, unionBelow, unionOf, allOf}
+use Rattle.sets.specs.paper.Sets.{has, one, only, unionBelow, unionOf, allOf}
 use Rattle.expressions.specs.paper.Variables.{Influence}
 use Rattle.worlds.specs.paper.Events.{littleBytes}
 use Rattle.worlds.specs.paper.View.{View}

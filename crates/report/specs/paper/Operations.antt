@@ -4,7 +4,7 @@ use mathlib.Core.List.{List, [], _∷_, _++_, map, flatMap}
 use Prim.Native.Nat.{ℕ, zero, suc, _+_, _*_, _-_}
 use lib.ListN.{length, getD, replicate, drop}
 use lib.Dec.{eqb, ltb}
-use Rattle.records.specs.paper.Sets.{subset, size, members}
+use Rattle.sets.specs.paper.Sets.{subset, size, members}
 use Rattle.records.specs.paper.Fields.{Verdict, fine, refused}
 use Rattle.records.specs.paper.Plan.{Plan, checkedPlan}
 use Rattle.records.specs.code.Check.{checkedOf}

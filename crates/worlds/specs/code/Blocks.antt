@@ -3,7 +3,7 @@ use mathlib.Core.Path.{_≡_}
 use mathlib.Core.Bool.{true, false, cond}
 use mathlib.Core.List.{List}
 use Prim.Native.Nat.{ℕ, _<_}
-use Rattle.records.specs.paper.Sets.{has, meet, minus, union, subset, unionOf, members}
+use Rattle.sets.specs.paper.Sets.{has, meet, minus, union, subset, unionOf, members}
 use Rattle.records.specs.paper.Plan.{Plan}
 use Rattle.expressions.specs.paper.Rules.{edgeCount}
 use Rattle.expressions.specs.paper.Nodes.{on}

@@ -5,7 +5,7 @@ use mathlib.Core.List.{List}
 use Prim.Native.Nat.{ℕ, _<_, _^_}
 use lib.ListN.{getD}
 use lib.Dec.{eqb}
-use Rattle.records.specs.paper.Sets.{has, union, minus, only, lowest, unionOf, members}
+use Rattle.sets.specs.paper.Sets.{has, union, minus, only, lowest, unionOf, members}
 use Rattle.records.specs.paper.Plan.{Plan}
 use Rattle.expressions.specs.paper.Rules.{edgeCount}
 use Rattle.expressions.specs.paper.Nodes.{on}

@@ -3,7 +3,7 @@ use mathlib.Core.Path.{_≡_}
 use mathlib.Core.Bool.{true, false, cond}
 use mathlib.Core.List.{List, _++_}
 use Prim.Native.Nat.{ℕ, _<_, _^_}
-use Rattle.records.specs.paper.Sets.{has, one, only, subset, allOf, closeOf}
+use Rattle.sets.specs.paper.Sets.{has, one, only, subset, allOf, closeOf}
 use Rattle.worlds.specs.code.Over.{entry}
 
 -- each person of a set alone, the others as they were

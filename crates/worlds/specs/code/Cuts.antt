@@ -4,7 +4,7 @@ use mathlib.Core.Bool.{not, cond}
 use mathlib.Core.List.{List}
 use Prim.Native.Nat.{ℕ}
 use lib.Dec.{eqb}
-use Rattle.records.specs.paper.Sets.{has, union, meet, minus, only, unionOf, members}
+use Rattle.sets.specs.paper.Sets.{has, union, meet, minus, only, unionOf, members}
 use Rattle.worlds.specs.code.Over.{entry}
 use Rattle.worlds.specs.code.Tables.{row}
 

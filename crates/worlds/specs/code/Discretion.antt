@@ -4,7 +4,7 @@ use mathlib.Core.Bool.{Bool, true, false, _&&_, not}
 use mathlib.Core.List.{List, map}
 use Prim.Native.Nat.{ℕ, _<_, _^_}
 use lib.Dec.{ltb}
-use Rattle.records.specs.paper.Sets.{has, one, union, only, subset, size, unionOf, allOf, members, closeOf}
+use Rattle.sets.specs.paper.Sets.{has, one, union, only, subset, size, unionOf, allOf, members, closeOf}
 use Rattle.worlds.specs.code.Over.{entry}
 
 -- all to whom one of these edges leads from a person, with the person

@@ -4,9 +4,8 @@ use mathlib.Core.Bool.{false, _&&_, cond}
 use mathlib.Core.List.{List, [], _∷_}
 use Prim.Native.Nat.{ℕ, _<_}
 use lib.Dec.{eqb, ltb}
-use Rattle.records.specs.paper.Sets.{has, one, anyOf}
+use Rattle.sets.specs.paper.Sets.{has, one, anyOf, All}
 use Rattle.records.specs.paper.Plan.{Plan, Edge, Cut, Attachment, Bar, Status}
-use Rattle.records.specs.promises.Sound.{All}
 use Rattle.records.specs.declared.plan.Edges.{Edges}
 use Rattle.records.specs.declared.plan.Cuts.{Cuts}
 use Rattle.records.specs.declared.plan.Attachments.{Attachments}

@@ -5,7 +5,7 @@ use mathlib.Core.List.{List, [], _∷_, _++_}
 use Prim.Native.Nat.{ℕ, _≤_}
 use lib.ListN.{take}
 use lib.Dec.{ltb}
-use Rattle.records.specs.paper.Sets.{has, one, subset, closeOf}
+use Rattle.sets.specs.paper.Sets.{has, one, subset, closeOf}
 use Rattle.records.specs.paper.Plan as paper
 use Rattle.records.specs.promises.Sound.{Sound}
 use Rattle.records.specs.code.Decoded.{planOf}

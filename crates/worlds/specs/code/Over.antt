@@ -4,7 +4,7 @@ use mathlib.Core.Bool.{cond}
 use mathlib.Core.List.{List}
 use Prim.Native.Nat.{ℕ}
 use lib.ListN.{getD}
-use Rattle.records.specs.paper.Sets.{has, union}
+use Rattle.sets.specs.paper.Sets.{has, union}
 
 -- the entry at a number; 0 past the table
 abbrev pub entry : List ℕ → ℕ → ℕ

@@ -4,9 +4,8 @@ use mathlib.Core.Bool.{true, false, _&&_, not}
 use mathlib.Core.List.{List, [], _∷_}
 use Prim.Native.Nat.{ℕ, _<_, _-_, _^_}
 use lib.Dec.{eqb, ltb}
-use Rattle.records.specs.paper.Sets.{has, union, meets, setOf, risingLess, unionOf, members, foldBelow}
+use Rattle.sets.specs.paper.Sets.{has, union, meets, setOf, risingLess, unionOf, members, foldBelow, All}
 use Rattle.records.specs.paper.Plan.{Plan, Cut}
-use Rattle.records.specs.promises.Sound.{All}
 use Rattle.records.specs.declared.plan.Cuts.{Cuts}
 use Rattle.expressions.specs.paper.Rules.{cutCount, cut}
 use Rattle.expressions.specs.code.Coded.{cutsOf}

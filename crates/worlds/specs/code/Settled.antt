@@ -3,7 +3,7 @@ use mathlib.Core.Path.{_≡_}
 use mathlib.Core.Bool.{Bool, true, _&&_, _||_}
 use mathlib.Core.List.{List}
 use Prim.Native.Nat.{ℕ, _<_}
-use Rattle.records.specs.paper.Sets.{has, meets, risingLess}
+use Rattle.sets.specs.paper.Sets.{has, meets, risingLess}
 use Rattle.records.specs.paper.Plan.{Plan}
 use Rattle.expressions.specs.paper.Rules.{cut}
 use Rattle.expressions.specs.paper.Nodes.{on}

@@ -5,7 +5,7 @@ use mathlib.Core.List.{List, []}
 use Prim.Native.Nat.{ℕ, _<_, _^_}
 use lib.ListN.{getD}
 use lib.Dec.{eqb, ltb}
-use Rattle.records.specs.paper.Sets.{has, one, meets, subset, risingLess}
+use Rattle.sets.specs.paper.Sets.{has, one, meets, subset, risingLess}
 use Rattle.records.specs.paper.Plan.{Plan}
 use Rattle.records.specs.promises.Sound.{Sound}
 use Rattle.expressions.specs.paper.Rules.{edgeCount, cutCount, attachmentCount, barCount, statusCount, edge, cut, attachment, bar, status, pair, chained, rulePersons}

@@ -3,7 +3,7 @@ use mathlib.Core.Bool.{Bool, _&&_, _||_, not}
 use mathlib.Core.List.{List}
 use Prim.Native.Nat.{ℕ}
 use lib.Dec.{eqb}
-use Rattle.records.specs.paper.Sets.{has, below, anyBelow, anyOf}
+use Rattle.sets.specs.paper.Sets.{has, below, anyBelow, anyOf}
 use Rattle.records.specs.paper.Plan.{Plan}
 use Rattle.expressions.specs.paper.Rules.{edgeCount, cutCount, attachmentCount, barCount, statusCount, edge, cut, attachment, bar, status}
 use Rattle.expressions.specs.paper.Nodes.{on, values}

@@ -3,7 +3,7 @@ use mathlib.Core.Bool.{Bool, _&&_, not, cond}
 use mathlib.Core.List.{List, [], _∷_, _++_, flatMap}
 use Prim.Native.Nat.{ℕ, zero, suc, _/_, _%_}
 use lib.Dec.{eqb}
-use Rattle.records.specs.paper.Sets.{has, meets, risingLess, anyBelow, numbers}
+use Rattle.sets.specs.paper.Sets.{has, meets, risingLess, anyBelow, numbers}
 use Rattle.records.specs.paper.Plan.{Plan, Election}
 use Rattle.records.specs.paper.Case.{Case}
 use Rattle.expressions.specs.paper.Rules.{edgeCount, cutCount, attachmentCount, barCount, statusCount, edge, cut, attachment, status}

@@ -1,7 +1,7 @@
 -- What one world says of a person. Document 01: the roles and kinds of "Line and event", and "Citations".
 use mathlib.Core.Bool.{Bool, _&&_, _||_, cond}
 use Prim.Native.Nat.{ℕ}
-use Rattle.records.specs.paper.Sets.{has, one, union, meet, minus, only, meets, unionBelow}
+use Rattle.sets.specs.paper.Sets.{has, one, union, meet, minus, only, meets, unionBelow}
 use Rattle.records.specs.paper.Plan.{Plan}
 use Rattle.expressions.specs.paper.Rules.{edgeCount, cutCount, attachmentCount, barCount, statusCount, edge, cut, attachment, bar, status, pair}
 use Rattle.expressions.specs.paper.Nodes.{on}

@@ -4,7 +4,7 @@ use mathlib.Core.List.{List, _++_}
 use Prim.Native.Nat.{ℕ}
 use lib.ListN.{getD}
 use lib.Dec.{eqb, ltb}
-use Rattle.records.specs.paper.Sets.{has, one, union, minus, only, meets, subset, size, setOf, members, closeOf, below, anyBelow, unionBelow, foldBelow, allOf, unionOf}
+use Rattle.sets.specs.paper.Sets.{has, one, union, minus, only, meets, subset, size, setOf, members, closeOf, below, anyBelow, unionBelow, foldBelow, allOf, unionOf}
 use Rattle.records.specs.paper.Plan.{Plan}
 use Rattle.expressions.specs.paper.Rules.{edgeCount, cutCount, attachmentCount, barCount, statusCount, edge, cut, attachment, bar, status, pair, ruleSets, chained}
 use Rattle.expressions.specs.paper.Nodes.{on}

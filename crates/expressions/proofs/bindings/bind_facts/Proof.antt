@@ -7,7 +7,7 @@ use native.Mathlib.Omega.{arith}
 use mathlib.Core.List.{map}
 use lib.ListN.{length, getD, take, length-map, length-set}
 use borrow.Author.Needs.{needs}
-use Rattle.records.specs.paper.Sets.{has, one, union, only, unionBelow}
+use Rattle.sets.specs.paper.Sets.{has, one, union, only, unionBelow}
 use Rattle.records.specs.code.Decoded.{planOf, caseOf, familyOf}
 use Rattle.expressions.specs.code.Coded.{cutsOf, attachmentsOf}
 use Rattle.expressions.specs.code.Told.{TellsFact, bindingFrom, defaultFrom}

@@ -4,7 +4,7 @@ use native.Mathlib.Omega.{arith}
 use lib.ListN.{length, length-map}
 use lib.Seq.{length-take-le}
 use borrow.Author.Needs.{needs}
-use Rattle.records.specs.paper.Sets.{closeOf}
+use Rattle.sets.specs.paper.Sets.{closeOf}
 use Rattle.expressions.specs.code.Joined.{joinsOf}
 use Rattle.expressions.proofs.ListLaws.{used-take}
 use Rattle.expressions.proofs.circle.circle_of.Statement.{statement}

@@ -2,8 +2,8 @@
 use mathlib.Core.Path.{refl, sym, ap, _∙_, subst}
 use mathlib.Core.List.{map}
 use native.Mathlib.Omega.{arith}
+use Rattle.sets.specs.paper.Sets.{All}
 use Rattle.records.specs.code.Decoded.{planOf}
-use Rattle.records.specs.promises.Sound.{All}
 use Rattle.expressions.specs.paper.Rules.{cutCount, edgeCount}
 use Rattle.expressions.specs.paper.Influence.{openDecisions, openTouch}
 use Rattle.expressions.specs.code.Coded.{Holds, cutsOf, edgesOf}

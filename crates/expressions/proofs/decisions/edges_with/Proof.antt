@@ -7,11 +7,11 @@ use native.Mathlib.Omega.{arith}
 use borrow.Author.Needs.{needs}
 use lib.ListN.{length, getD, length-map, List·getD-eq-default}
 use lib.Dec.{eqb}
-use Rattle.records.specs.paper.Sets.{has, below, numbers, anyOf}
+use Rattle.sets.specs.paper.Sets.{has, below, numbers, anyOf}
 use Rattle.records.specs.paper.Plan.{Decision}
 use Rattle.records.specs.code.Decoded.{decisionsOf}
 use Rattle.records.specs.declared.plan.Decisions.{Decisions}
-use Rattle.records.proofs.SetLaws.{has-none, lt-or-le}
+use Rattle.sets.proofs.SetLaws.{has-none, lt-or-le}
 use Rattle.expressions.proofs.DecisionLaws.{any-more, any-past, other-verdict}
 use Rattle.expressions.proofs.decisions.edges_with.Statement.{statement}
 use Rattle.expressions.proofs.decisions.edges_with.Tie as tie

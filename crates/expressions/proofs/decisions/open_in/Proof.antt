@@ -1,7 +1,7 @@
 -- `decisions::open_in`: after e edges the list has the open decisions on them behind it.
 use Prim.Native.Nat.{ℕ, _+_, _≤_, _<_, _-_}
 use lib.ListN.{length, set, length-map, length-set}
-use Rattle.records.specs.paper.Sets.{has, below}
+use Rattle.sets.specs.paper.Sets.{has, below}
 use Rattle.records.specs.paper.Plan.{Decision}
 use Rattle.expressions.specs.declared.decisions.Undecided.{Undecided}
 use Rattle.expressions.proofs.DecisionLaws.{open-next}

@@ -7,7 +7,7 @@ use native.Mathlib.Omega.{arith}
 use lib.ListN.{length, getD, length-map}
 use borrow.Author.Needs.{needs}
 use Rattle.records.proofs.plan.Cut.{the-type}
-use Rattle.records.specs.paper.Sets.{below, numbers}
+use Rattle.sets.specs.paper.Sets.{below, numbers}
 use Rattle.records.specs.paper.Plan.{Cut}
 use Rattle.records.specs.code.Decoded.{cutOf, decisionsOf}
 use Rattle.expressions.specs.paper.Influence.{Open, openIn, openBelow}

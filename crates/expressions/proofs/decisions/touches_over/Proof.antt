@@ -6,7 +6,7 @@ use mathlib.Core.Bool.{false}
 use mathlib.Core.List.{[]}
 use lib.ListN.{length, getD, length-map, length-set}
 use borrow.Author.Needs.{needs}
-use Rattle.records.specs.paper.Sets.{union, below, numbers}
+use Rattle.sets.specs.paper.Sets.{union, below, numbers}
 use Rattle.records.specs.paper.Plan.{Plan}
 use Rattle.records.specs.code.Decoded.{edgeOf}
 use Rattle.records.specs.declared.plan.Cut.{Cut}

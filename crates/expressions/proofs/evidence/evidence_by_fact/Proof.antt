@@ -2,7 +2,7 @@
 use Prim.Native.Nat.{ℕ}
 use mathlib.Core.Path.{ap, _∙_}
 use lib.Dec.{eqb}
-use Rattle.records.specs.paper.Sets.{union, only, unionOf}
+use Rattle.sets.specs.paper.Sets.{union, only, unionOf}
 use Rattle.records.specs.code.Decoded.{caseOf}
 use Rattle.expressions.specs.code.Evident.{evidenceMark, booleanEvidence}
 use Rattle.expressions.proofs.ListLaws.{filled-at}

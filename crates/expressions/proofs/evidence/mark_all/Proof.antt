@@ -7,7 +7,7 @@ use Rattle.expressions.proofs.UnionLaws.{union-first, union-end}
 use Rattle.expressions.proofs.EvidenceLaws.{evident-at, observations-next, observations-none}
 use Rattle.expressions.specs.code.Evident.{evidenceMark}
 use Rattle.records.specs.code.Decoded.{observationsOf}
-use Rattle.records.specs.paper.Sets.{one, union, unionOf}
+use Rattle.sets.specs.paper.Sets.{one, union, unionOf}
 use Rattle.expressions.proofs.evidence.mark_all.Statement.{statement}
 use Rattle.expressions.proofs.evidence.mark_all.Tie as tie
 

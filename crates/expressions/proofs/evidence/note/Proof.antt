@@ -5,7 +5,7 @@ use native.Mathlib.Omega.{arith}
 use lib.Dec.{eqb}
 use lib.ListN.{getD}
 use borrow.Author.Needs.{needs}
-use Rattle.records.specs.paper.Sets.{union, only}
+use Rattle.sets.specs.paper.Sets.{union, only}
 use Rattle.expressions.proofs.EvidenceLaws.{note-at}
 use Rattle.expressions.proofs.evidence.note.Statement.{statement}
 use Rattle.expressions.proofs.evidence.note.Tie as tie

@@ -10,7 +10,7 @@ use native.Mathlib.Omega.{arith}
 use lib.ListN.{length, take, set, length-set}
 use lib.Seq.{take-suc-set}
 use borrow.Author.Needs.{needs}
-use Rattle.records.specs.paper.Sets.{only, below, numbers}
+use Rattle.sets.specs.paper.Sets.{only, below, numbers}
 use Rattle.expressions.specs.code.Influences.{closed, closedIf}
 use Rattle.expressions.proofs.ListLaws.{behind-next}
 use Rattle.expressions.proofs.influence.close_each.Statement.{statement}

@@ -5,7 +5,7 @@ use mathlib.Core.Bool.{Bool, Bool·beq}
 use mathlib.Core.List.{_∷_}
 use lib.ListN.{length, drop, length-map}
 use borrow.Author.Needs.{needs}
-use Rattle.records.specs.paper.Sets.{anyOf}
+use Rattle.sets.specs.paper.Sets.{anyOf}
 use Rattle.records.specs.code.Decoded.{numbersOf}
 use Rattle.expressions.specs.paper.Nodes.{on}
 use Rattle.expressions.proofs.ListLaws.{used-next, used-end, any-go, any-stop}

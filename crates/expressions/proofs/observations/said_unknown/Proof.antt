@@ -5,9 +5,9 @@ use mathlib.Core.Bool.{Bool, _||_, or-false}
 use mathlib.Core.List.{map}
 use lib.ListN.{length, take, drop, length-map}
 use borrow.Author.Needs.{needs}
-use Rattle.records.specs.paper.Sets.{has}
+use Rattle.sets.specs.paper.Sets.{has}
 use Rattle.records.specs.code.Decoded.{booleanOf}
-use Rattle.records.proofs.SetLaws.{has-none}
+use Rattle.sets.proofs.SetLaws.{has-none}
 use Rattle.expressions.proofs.SeenLaws.{said, said-next, said-none}
 use Rattle.expressions.proofs.observations.said_unknown.Statement.{statement}
 use Rattle.expressions.proofs.observations.said_unknown.Tie as tie

@@ -5,8 +5,8 @@ use native.Mathlib.Omega.{arith}
 use lib.Dec.{eqb}
 use borrow.Author.Tests.{not-true, not-false, ne-eqb}
 use borrow.Author.Needs.{needs}
-use Rattle.records.specs.paper.Sets.{has}
-use Rattle.records.proofs.SetLaws.{has-union, has-one}
+use Rattle.sets.specs.paper.Sets.{has}
+use Rattle.sets.proofs.SetLaws.{has-union, has-one}
 use Rattle.expressions.proofs.observations.with_number.Statement.{statement}
 use Rattle.expressions.proofs.observations.with_number.Tie as tie
 

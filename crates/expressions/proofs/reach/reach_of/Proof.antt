@@ -5,7 +5,7 @@ use mathlib.Core.List.{List}
 use native.Mathlib.Omega.{arith}
 use lib.Seq.{length-take-le}
 use borrow.Author.Needs.{needs}
-use Rattle.records.specs.paper.Sets.{union, unionOf}
+use Rattle.sets.specs.paper.Sets.{union, unionOf}
 use Rattle.records.specs.code.Decoded.{planOf}
 use Rattle.expressions.specs.paper.Nodes.{nodeUses}
 use Rattle.expressions.specs.paper.Influence.{usesAt, constraintUses, boundFacts, openDecisions, decisionTouches}

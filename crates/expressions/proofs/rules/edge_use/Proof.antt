@@ -1,7 +1,7 @@
 -- `rules::edge_use`: the facts of the condition and of the defeaters.
 use mathlib.Core.Path.{ap₂, ap, _∙_}
 use borrow.Author.Needs.{needs}
-use Rattle.records.specs.paper.Sets.{union}
+use Rattle.sets.specs.paper.Sets.{union}
 use Rattle.records.specs.code.Decoded.{edgeOf}
 use Rattle.expressions.specs.code.Listed.{usedAt}
 use Rattle.expressions.proofs.rules.edge_use.Statement.{statement}

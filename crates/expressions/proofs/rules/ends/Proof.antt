@@ -1,7 +1,7 @@
 -- `rules::ends`: the union of two persons.
 use mathlib.Core.Path.{ap₂, _∙_}
 use borrow.Author.Needs.{needs}
-use Rattle.records.specs.paper.Sets.{union}
+use Rattle.sets.specs.paper.Sets.{union}
 use Rattle.records.specs.code.Decoded.{edgeOf}
 use Rattle.expressions.proofs.rules.ends.Statement.{statement}
 use Rattle.expressions.proofs.rules.ends.Tie as tie

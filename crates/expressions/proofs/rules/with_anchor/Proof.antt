@@ -1,7 +1,7 @@
 -- `rules::with_anchor`: the members, and the anchor as a person.
 use mathlib.Core.Path.{ap, _∙_}
 use borrow.Author.Needs.{needs}
-use Rattle.records.specs.paper.Sets.{union}
+use Rattle.sets.specs.paper.Sets.{union}
 use Rattle.records.specs.code.Decoded.{attachmentOf}
 use Rattle.expressions.proofs.rules.with_anchor.Statement.{statement}
 use Rattle.expressions.proofs.rules.with_anchor.Tie as tie

@@ -3,7 +3,7 @@ use Prim.Native.Nat.{ℕ, _+_, _≤_, _-_}
 use mathlib.Core.Path.{_≡_, refl, sym, _∙_}
 use lib.ListN.{length, drop, getD, drop-of-length-le}
 use borrow.Author.Needs.{needs}
-use Rattle.records.specs.paper.Sets.{union, unionOf}
+use Rattle.sets.specs.paper.Sets.{union, unionOf}
 use Rattle.expressions.proofs.ListLaws.{rest-next}
 use Rattle.expressions.proofs.UnionLaws.{union-first, union-end}
 use Rattle.expressions.proofs.touch.bound_facts.Statement.{statement}

@@ -2,7 +2,7 @@
 use mathlib.Core.Path.{_≡_, sym, ap, _∙_}
 use lib.ListN.{length, length-map}
 use borrow.Author.Needs.{needs}
-use Rattle.records.specs.paper.Sets.{unionOf}
+use Rattle.sets.specs.paper.Sets.{unionOf}
 use Rattle.records.specs.code.Decoded.{numbersOf}
 use Rattle.expressions.specs.code.Listed.{usedAt}
 use Rattle.expressions.proofs.ListLaws.{used-take}

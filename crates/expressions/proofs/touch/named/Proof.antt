@@ -4,7 +4,7 @@ use mathlib.Core.Path.{_≡_, refl, sym, ap, _∙_}
 use mathlib.Core.List.{List}
 use lib.ListN.{length, drop, getD, length-map}
 use borrow.Author.Needs.{needs}
-use Rattle.records.specs.paper.Sets.{one, union, unionOf}
+use Rattle.sets.specs.paper.Sets.{one, union, unionOf}
 use Rattle.records.specs.code.Decoded.{factOf}
 use Rattle.expressions.proofs.ListLaws.{used-next, used-end, used-each}
 use Rattle.expressions.proofs.UnionLaws.{union-go, union-none, none-union, set-union}

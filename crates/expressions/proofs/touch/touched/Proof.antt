@@ -3,7 +3,7 @@ use mathlib.Core.Path.{_≡_, sym, ap, ap₂, _∙_}
 use mathlib.Core.Bool.{Bool}
 use mathlib.Core.Logic.{⊎-elim}
 use borrow.Author.Needs.{needs}
-use Rattle.records.specs.paper.Sets.{has, union, only}
+use Rattle.sets.specs.paper.Sets.{has, union, only}
 use Rattle.expressions.specs.code.Listed.{touchedBy}
 use Rattle.expressions.proofs.touch.touched.Statement.{statement}
 use Rattle.expressions.proofs.touch.touched.Tie as tie

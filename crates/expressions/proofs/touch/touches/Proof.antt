@@ -8,7 +8,7 @@ use native.Mathlib.Omega.{arith}
 use lib.ListN.{length, getD, length-map, length-set}
 use borrow.Author.Needs.{needs}
 use Rattle.records.proofs.plan.Fact.{the-type}
-use Rattle.records.specs.paper.Sets.{has, only, below, numbers}
+use Rattle.sets.specs.paper.Sets.{has, only, below, numbers}
 use Rattle.records.specs.paper.Plan.{Fact}
 use Rattle.records.specs.code.Decoded.{factOf}
 use Rattle.expressions.specs.code.Coded.{Holds, TupleFits, factsOf}

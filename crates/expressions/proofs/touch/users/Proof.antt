@@ -6,7 +6,7 @@ use mathlib.Core.List.{List}
 use native.Mathlib.Omega.{arith}
 use lib.ListN.{length, drop, getD, drop-of-length-le}
 use borrow.Author.Needs.{needs}
-use Rattle.records.specs.paper.Sets.{has, union, only}
+use Rattle.sets.specs.paper.Sets.{has, union, only}
 use Rattle.expressions.specs.code.Listed.{usersIn}
 use Rattle.expressions.proofs.ListLaws.{rest-next}
 use Rattle.expressions.proofs.UnionLaws.{users-go, union-none, none-union, joined-if, left-if}

@@ -4,7 +4,7 @@ use mathlib.Core.Path.{_≡_, sym, ap, _∙_}
 use mathlib.Core.List.{List, _∷_}
 use lib.ListN.{length, drop, getD, length-map}
 use borrow.Author.Needs.{needs}
-use Rattle.records.specs.paper.Sets.{union, unionOf}
+use Rattle.sets.specs.paper.Sets.{union, unionOf}
 use Rattle.records.specs.code.Decoded.{numbersOf}
 use Rattle.expressions.proofs.ListLaws.{used-next, used-end}
 use Rattle.expressions.proofs.UnionLaws.{union-go, union-none, none-union}

@@ -4,7 +4,7 @@ use mathlib.Core.Logic.{⊎-elim}
 use Prim.Native.Nat.{_≤_, _-_, zero-le}
 use lib.ListN.{length}
 use borrow.Author.Needs.{needs}
-use Rattle.records.specs.paper.Sets.{members}
+use Rattle.sets.specs.paper.Sets.{members}
 use Rattle.listing.specs.Text.{persons}
 use Rattle.listing.specs.Page.{Page, puts}
 use Rattle.listing.proofs.PageLaws.{puts-length, page}

@@ -8,7 +8,7 @@ use crate::plan::checks::naming::entry;
 use crate::plan::counts::Counts;
 use crate::plan::counts::count_records;
 use crate::plan::counts::wide;
-use crate::sets::contains;
+use sets::contains;
 ghost use mathlib.Core.Path.{_≡_};
 ghost use Prim.Native.Nat.{ℕ, _<_, _≤_};
 ghost use Rattle.records.specs.paper.Fields.{fine, firstFault};

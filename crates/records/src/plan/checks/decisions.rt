@@ -4,7 +4,7 @@ use crate::plan::Decisions;
 ghost use mathlib.Core.Path.{_≡_};
 ghost use Prim.Native.Nat.{_≤_, _-_, _+_};
 ghost use lib.Dec.{eqb};
-ghost use Rattle.records.specs.paper.Sets.{anyOf, numbers};
+ghost use Rattle.sets.specs.paper.Sets.{anyOf, numbers};
 ghost use Rattle.records.specs.paper.Plan.{decidedOnce, unresolvedIn};
 ghost use Rattle.records.specs.code.Decoded.{decisionsOf};
 ghost use Rattle.records.specs.code.PlanPasses.{decisionsLeft};

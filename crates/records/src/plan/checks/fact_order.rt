@@ -5,7 +5,7 @@ ghost use mathlib.Core.Path.{_≡_};
 ghost use mathlib.Core.Bool.{true};
 ghost use Prim.Native.Nat.{_≤_};
 ghost use lib.ListN.{take};
-ghost use Rattle.records.specs.paper.Sets.{lexLess};
+ghost use Rattle.sets.specs.paper.Sets.{lexLess};
 ghost use Rattle.records.specs.paper.Plan.{rises};
 ghost use Rattle.records.specs.code.Decoded.{factOf};
 

@@ -14,7 +14,7 @@ ghost use mathlib.Core.Path.{_≡_};
 ghost use Prim.Native.Nat.{ℕ, _<_, _≤_};
 ghost use lib.Dec.{ltb};
 ghost use lib.ListN.{getD};
-ghost use Rattle.records.specs.paper.Sets.{allOf};
+ghost use Rattle.sets.specs.paper.Sets.{allOf};
 ghost use Rattle.records.specs.code.Decoded.{numbersOf, decisionsOf};
 ghost use Rattle.records.specs.code.Named.{allUnder, allDecide, NodeSound, EdgeSound, BooleanFact, ElectionSound, CutSound, AttachmentSound};
 

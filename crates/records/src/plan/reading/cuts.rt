@@ -26,7 +26,7 @@ ghost use mathlib.Core.List.{[]};
 ghost use Prim.Native.Nat.{_≤_};
 ghost use lib.ListN.{length};
 ghost use lib.Dec.{ltb};
-ghost use Rattle.records.specs.paper.Sets.{allOf};
+ghost use Rattle.sets.specs.paper.Sets.{allOf};
 ghost use Rattle.records.specs.paper.Plan as paper;
 ghost use Rattle.records.specs.code.Readers.{mapRead};
 ghost use Rattle.records.specs.code.Passes.{rawOf, withBits, Passed};

@@ -2,8 +2,8 @@
 use mathlib.Core.Path.{_≡_, subst, sym}
 use Prim.Native.Nat.{ℕ, _≤_}
 use native.Mathlib.Omega.{arith}
-use Rattle.records.specs.paper.Sets.{size}
-use Rattle.records.proofs.SetLaws.{size-le}
+use Rattle.sets.specs.paper.Sets.{size}
+use Rattle.sets.proofs.SetLaws.{size-le}
 use Rattle.report.specs.code.EventsWritten.{eventCount}
 use borrow.Author.Needs.{needs}
 use Rattle.report.proofs.happened.count_events.Statement.{statement}

@@ -6,10 +6,10 @@ use Prim.Native.Nat.{ℕ, _*_, _≤_}
 use native.Mathlib.Omega.{arith}
 use lib.Dec.{ltb}
 use borrow.Author.Tests.{not-true, not-false, eq-eqb, ne-eqb, lt-ltb, le-ltb}
-use Rattle.records.specs.paper.Sets.{subset}
+use Rattle.sets.specs.paper.Sets.{subset}
 use Rattle.records.specs.paper.Plan.{Plan}
 use Rattle.records.specs.code.Decoded.{caseHeadingOf}
-use Rattle.records.proofs.SetLaws.{size-le}
+use Rattle.sets.proofs.SetLaws.{size-le}
 use Rattle.expressions.specs.paper.Rules.{rulePersons}
 use Rattle.report.specs.paper.Operations.{relationOf, mismatched}
 use Rattle.report.proofs.HeadingLaws.{other-relation, no-scope, no-segment, no-roster, by-persons, fault-8, fault-9, fault-last}

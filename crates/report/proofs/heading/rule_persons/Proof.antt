@@ -3,7 +3,7 @@ use mathlib.Core.Path.{_≡_, sym, ap, ap₂, _∙_}
 use native.Mathlib.Omega.{arith}
 use lib.ListN.{length, length-map}
 use lib.Seq.{length-take-le}
-use Rattle.records.specs.paper.Sets.{union, unionOf}
+use Rattle.sets.specs.paper.Sets.{union, unionOf}
 use Rattle.expressions.specs.code.Listed.{heldByStatus}
 use Rattle.expressions.proofs.ListLaws.{used-take}
 use Rattle.report.specs.code.Opening.{itself}

@@ -4,7 +4,7 @@ use mathlib.Core.Path.{_≡_, refl, sym, _∙_}
 use lib.ListN.{length, drop, length-map}
 use borrow.Author.Needs.{needs}
 use Rattle.records.proofs.plan.Status.{the-type}
-use Rattle.records.specs.paper.Sets.{union, unionOf}
+use Rattle.sets.specs.paper.Sets.{union, unionOf}
 use Rattle.records.specs.code.Decoded.{statusOf}
 use Rattle.expressions.specs.code.Coded.{statusesOf, PersonFits}
 use Rattle.expressions.specs.code.Listed.{heldByStatus}

@@ -3,7 +3,7 @@ use mathlib.Core.Path.{_≡_, refl, sym, _∙_}
 use Prim.Native.Nat.{_-_, _≤_}
 use lib.ListN.{length, drop, drop-of-length-le}
 use borrow.Author.Needs.{needs}
-use Rattle.records.specs.paper.Sets.{union, unionOf}
+use Rattle.sets.specs.paper.Sets.{union, unionOf}
 use Rattle.expressions.proofs.ListLaws.{rest-next}
 use Rattle.expressions.proofs.UnionLaws.{none-union, union-first, union-end}
 use Rattle.report.specs.code.Opening.{itself}

@@ -6,7 +6,7 @@ use native.Mathlib.Omega.{arith}
 use lib.ListN.{length, length-take, length-drop}
 use borrow.Author.Needs.{needs}
 use denote.Ref.{now}
-use Rattle.records.specs.paper.Sets.{members}
+use Rattle.sets.specs.paper.Sets.{members}
 use Rattle.report.specs.paper.Line.{lineBytes, bareLine}
 use Rattle.report.proofs.WriteLaws.{Filled, fill-none, fill-room, fill-next, fill-end, line-length}
 use Rattle.report.proofs.line.write_bare.Statement.{statement}

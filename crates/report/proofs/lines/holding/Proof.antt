@@ -7,7 +7,7 @@ use native.Mathlib.Numerals.{add-one}
 use lib.ListN.{length, getD}
 use borrow.Author.Needs.{needs}
 use denote.Ref.{now}
-use Rattle.records.specs.paper.Sets.{has, one, only, union, unionBelow}
+use Rattle.sets.specs.paper.Sets.{has, one, only, union, unionBelow}
 use Rattle.expressions.proofs.UnionLaws.{joined-if, left-if}
 use Rattle.report.specs.paper.Line.{holding}
 use Rattle.report.proofs.lines.holding.Statement.{statement}

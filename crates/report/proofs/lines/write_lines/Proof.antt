@@ -7,7 +7,7 @@ use native.Mathlib.Omega.{arith}
 use lib.ListN.{length, length-take, length-drop}
 use borrow.Author.Needs.{needs}
 use denote.Ref.{now}
-use Rattle.records.specs.paper.Sets.{has, members}
+use Rattle.sets.specs.paper.Sets.{has, members}
 use Rattle.worlds.specs.paper.View.{View}
 use Rattle.report.specs.paper.Line.{lineBytes, lineOver}
 use Rattle.report.specs.code.Written.{SumsOf, lineFrom}

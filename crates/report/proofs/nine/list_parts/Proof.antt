@@ -2,7 +2,7 @@
 use mathlib.Core.Path.{ap}
 use native.Mathlib.Omega.{arith}
 use denote.Ref.{now}
-use Rattle.records.specs.paper.Sets.{members, lowest}
+use Rattle.sets.specs.paper.Sets.{members, lowest}
 use Rattle.worlds.specs.code.Over.{entry}
 use Rattle.worlds.proofs.OverLaws.{members-none}
 use Rattle.report.proofs.NineLaws.{Turns, turns-start, turns-next, turns-end}

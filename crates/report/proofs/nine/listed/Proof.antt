@@ -8,7 +8,7 @@ use lib.ListN.{take, drop}
 use denote.Ref.{now}
 use borrow.Author.Needs.{needs}
 use borrow.Author.Tests.{eq-eqb, ne-eqb}
-use Rattle.records.specs.paper.Sets.{anyOf}
+use Rattle.sets.specs.paper.Sets.{anyOf}
 use Rattle.report.specs.code.EventBytes.{chunks}
 use Rattle.report.specs.code.Nine.{order, stands}
 use Rattle.report.proofs.NineLaws.{rest-is, stands-step}

@@ -3,7 +3,7 @@ use mathlib.Core.Path.{_≡_, refl, sym, ap, ap₂, _∙_}
 use Prim.Native.Nat.{ℕ, _+_, _-_, _*_, _≤_}
 use native.Mathlib.Omega.{arith}
 use borrow.Author.Needs.{needs}
-use Rattle.records.proofs.SetLaws.{size-le}
+use Rattle.sets.proofs.SetLaws.{size-le}
 use Rattle.worlds.specs.code.Over.{entry}
 use Rattle.report.specs.code.EventBytes.{sizes}
 use Rattle.report.proofs.EventLaws.{sizes-more}

@@ -1,6 +1,6 @@
 -- `active::active_rules`: what is known with what is found of what is asked.
 use borrow.Author.Needs.{needs}
-use Rattle.records.specs.paper.Sets.{union}
+use Rattle.sets.specs.paper.Sets.{union}
 use Rattle.worlds.proofs.ActiveLaws.{active-by}
 use Rattle.worlds.proofs.active.active_rules.Statement.{statement}
 use Rattle.worlds.proofs.active.active_rules.Tie as tie

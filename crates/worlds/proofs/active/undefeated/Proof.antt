@@ -8,8 +8,8 @@ use native.Mathlib.Nat.{lt-trans}
 use native.Mathlib.Omega.{arith}
 use borrow.Author.Needs.{needs}
 use lib.ListN.{getD, take}
-use Rattle.records.specs.paper.Sets.{has, union, anyOf}
-use Rattle.records.proofs.SetLaws.{has-none}
+use Rattle.sets.specs.paper.Sets.{has, union, anyOf}
+use Rattle.sets.proofs.SetLaws.{has-none}
 use Rattle.expressions.specs.paper.Nodes.{on}
 use Rattle.worlds.specs.code.Over.{entry}
 use Rattle.worlds.proofs.OverLaws.{turn-has, found-in, found-out}

@@ -8,7 +8,7 @@ use native.Mathlib.Omega.{arith}
 use lib.ListN.{length, length-set}
 use lib.Dec.{eqb}
 use borrow.Author.Tests.{eqb-true, eq-eqb, ne-eqb}
-use Rattle.records.specs.paper.Sets.{union, minus, only}
+use Rattle.sets.specs.paper.Sets.{union, minus, only}
 use Rattle.worlds.specs.code.Over.{entry}
 use Rattle.worlds.specs.code.Citing.{CitesIn}
 use Rattle.worlds.proofs.OverLaws.{turn-has}

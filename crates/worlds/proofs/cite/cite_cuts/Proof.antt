@@ -3,7 +3,7 @@ use mathlib.Core.Path.{_≡_, sym, _∙_, subst}
 use mathlib.Core.Logic.{⊎-elim}
 use Prim.Native.Nat.{ℕ, _<_, _^_}
 use native.Mathlib.Omega.{arith}
-use Rattle.records.specs.paper.Sets.{has, union, only, lowest}
+use Rattle.sets.specs.paper.Sets.{has, union, only, lowest}
 use Rattle.worlds.specs.code.Over.{entry}
 use Rattle.worlds.specs.code.Citing.{CitesIn, far, through}
 use Rattle.worlds.proofs.CiteLaws.{Left, left-all, left-next, left-none}

@@ -5,7 +5,7 @@ use mathlib.Core.Logic.{⊎-elim}
 use native.Mathlib.Omega.{arith}
 use borrow.Author.Needs.{needs}
 use lib.ListN.{length, length-set}
-use Rattle.records.specs.paper.Sets.{union, meets, subset, only}
+use Rattle.sets.specs.paper.Sets.{union, meets, subset, only}
 use Rattle.worlds.specs.code.Tables.{row}
 use Rattle.worlds.specs.code.Citing.{CitesIn}
 use Rattle.worlds.proofs.CiteLaws.{stored, Left, left-all, left-next, left-none}

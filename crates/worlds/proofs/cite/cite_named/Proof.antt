@@ -2,7 +2,7 @@
 use mathlib.Core.Path.{sym, subst}
 use mathlib.Core.Logic.{⊎-elim}
 use native.Mathlib.Omega.{arith}
-use Rattle.records.specs.paper.Sets.{meet, meets, only}
+use Rattle.sets.specs.paper.Sets.{meet, meets, only}
 use Rattle.worlds.specs.code.Over.{entry}
 use Rattle.worlds.specs.code.Citing.{CitesIn}
 use Rattle.worlds.proofs.CiteLaws.{Left, left-all, left-next, left-none}

@@ -1,7 +1,7 @@
 -- `cite::cite_one`: what is cited is added at the lowest person of the block, where there is one.
 use mathlib.Core.Path.{refl}
 use native.Mathlib.Omega.{arith}
-use Rattle.records.specs.paper.Sets.{union}
+use Rattle.sets.specs.paper.Sets.{union}
 use Rattle.worlds.proofs.CiteTurns.{one-added, one-none}
 use Rattle.worlds.proofs.cite.cite_one.Statement.{statement}
 use Rattle.worlds.proofs.cite.cite_one.Tie as tie

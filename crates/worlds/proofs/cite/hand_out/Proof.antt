@@ -6,7 +6,7 @@ use Prim.Native.Nat.{ℕ, _<_, _^_}
 use native.Mathlib.Nat.{lt-trans}
 use native.Mathlib.Omega.{arith}
 use lib.ListN.{length, length-set}
-use Rattle.records.specs.paper.Sets.{union}
+use Rattle.sets.specs.paper.Sets.{union}
 use Rattle.worlds.specs.code.Over.{entry}
 use Rattle.worlds.proofs.OverLaws.{turn-has}
 use Rattle.worlds.proofs.CiteTurns.{handed, hand-next, hand-skip, hand-end}

@@ -3,7 +3,7 @@ use mathlib.Core.Path.{_≡_, refl, sym, ap, _∙_}
 use Prim.Native.Nat.{ℕ}
 use native.Mathlib.Omega.{arith}
 use borrow.Author.Needs.{needs}
-use Rattle.records.specs.paper.Sets.{has, union, only, members}
+use Rattle.sets.specs.paper.Sets.{has, union, only, members}
 use Rattle.expressions.proofs.UnionLaws.{union-first, union-end}
 use Rattle.worlds.specs.code.Over.{entry}
 use Rattle.worlds.specs.code.Tables.{row}

@@ -2,8 +2,8 @@
 use borrow.Author.Needs.{needs}
 use mathlib.Core.Path.{sym, ap, _∙_}
 use borrow.Author.Tests.{not-false}
-use Rattle.records.specs.paper.Sets.{has, lowest}
-use Rattle.records.proofs.SetLaws.{trailing-member}
+use Rattle.sets.specs.paper.Sets.{has, lowest}
+use Rattle.sets.proofs.SetLaws.{trailing-member}
 use Rattle.worlds.proofs.ClassLaws.{joins-nobody, joins-inside, joins-whole}
 use Rattle.worlds.proofs.classes.join.Statement.{statement}
 use Rattle.worlds.proofs.classes.join.Tie as tie

@@ -5,7 +5,7 @@ use mathlib.Core.Logic.{⊎-elim}
 use Prim.Native.Nat.{ℕ, _<_, _^_}
 use native.Mathlib.Nat.{lt-trans}
 use native.Mathlib.Omega.{arith}
-use Rattle.records.specs.paper.Sets.{members}
+use Rattle.sets.specs.paper.Sets.{members}
 use Rattle.worlds.specs.code.Classes.{Joins, joinable}
 use Rattle.worlds.proofs.ClassLaws.{pairs-next, pairs-end, pair-joined, pair-left}
 use Rattle.worlds.proofs.classes.join_pairs.Statement.{statement}

@@ -4,7 +4,7 @@ use mathlib.Core.List.{List, []}
 use Prim.Native.Nat.{ℕ, _<_}
 use borrow.Author.Needs.{needs}
 use lib.ListN.{getD, take}
-use Rattle.records.specs.paper.Sets.{anyOf}
+use Rattle.sets.specs.paper.Sets.{anyOf}
 use Rattle.records.specs.paper.Plan.{Plan}
 use Rattle.records.specs.code.Decoded.{planOf}
 use Rattle.records.specs.declared.plan.Edges.{Edges}

@@ -5,7 +5,7 @@ use Prim.Native.Nat.{ℕ, _+_, _≤_, _-_}
 use native.Mathlib.Omega.{arith}
 use borrow.Author.Needs.{needs}
 use lib.ListN.{length, getD, length-map}
-use Rattle.records.specs.paper.Sets.{anyOf}
+use Rattle.sets.specs.paper.Sets.{anyOf}
 use Rattle.records.specs.paper.Plan.{Cut}
 use Rattle.records.specs.code.Decoded.{cutOf}
 use Rattle.records.specs.declared.plan.Cut.{Cut as Coded}

@@ -10,7 +10,7 @@ use borrow.Author.Tests.{ne-eqb}
 use lib.Dec.{eqb}
 use lib.ListN.{length, getD, take, set, length-map, length-set}
 use lib.Seq.{getD-set-same, getD-set-other}
-use Rattle.records.specs.paper.Sets.{anyOf}
+use Rattle.sets.specs.paper.Sets.{anyOf}
 use Rattle.records.specs.paper.Plan.{Edge}
 use Rattle.records.specs.code.Decoded.{edgeOf, numbersOf}
 use Rattle.records.specs.declared.plan.Edge.{Edge as Coded}

@@ -5,7 +5,7 @@ use Prim.Native.Nat.{ℕ, _<_, _^_}
 use native.Mathlib.Nat.{lt-trans}
 use native.Mathlib.Omega.{arith}
 use lib.ListN.{length, length-set}
-use Rattle.records.specs.paper.Sets.{union, members}
+use Rattle.sets.specs.paper.Sets.{union, members}
 use Rattle.expressions.proofs.UnionLaws.{none-union, union-end}
 use Rattle.worlds.specs.code.Tables.{row}
 use Rattle.worlds.specs.code.Cuts.{blockers, blockedTwins}

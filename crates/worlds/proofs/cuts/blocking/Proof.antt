@@ -2,7 +2,7 @@
 use mathlib.Core.Path.{ap, _∙_}
 use Prim.Native.Nat.{ℕ}
 use lib.Bits.{bitAnd, bitOr}
-use Rattle.records.specs.paper.Sets.{union, meet, members, unionOf}
+use Rattle.sets.specs.paper.Sets.{union, meet, members, unionOf}
 use Rattle.worlds.specs.code.Tables.{row}
 use Rattle.worlds.specs.code.Cuts.{blockers}
 use borrow.Author.Needs.{needs}

@@ -4,7 +4,7 @@ use Prim.Native.Nat.{ℕ, _<_, _^_}
 use native.Mathlib.Nat.{lt-trans}
 use native.Mathlib.Omega.{arith}
 use lib.ListN.{length, length-set}
-use Rattle.records.specs.paper.Sets.{union, meet}
+use Rattle.sets.specs.paper.Sets.{union, meet}
 use Rattle.worlds.specs.code.Tables.{row}
 use Rattle.worlds.proofs.OverLaws.{turn-has}
 use Rattle.worlds.proofs.NoteLaws.{noting, note-store, note-end}

@@ -7,7 +7,7 @@ use native.Mathlib.Nat.{lt-trans}
 use native.Mathlib.Omega.{arith}
 use lib.Bits.{bitOr}
 use borrow.Author.Tests.{not-true, not-false}
-use Rattle.records.specs.paper.Sets.{one, union, subset, lowest, allOf, members}
+use Rattle.sets.specs.paper.Sets.{one, union, subset, lowest, allOf, members}
 use Rattle.worlds.specs.code.Over.{entry}
 use Rattle.worlds.specs.code.Discretion.{cliqueBy}
 use Rattle.worlds.proofs.LooseLaws.{all-next, all-fails, all-none}

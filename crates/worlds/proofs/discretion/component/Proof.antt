@@ -2,7 +2,7 @@
 use Prim.Native.Nat.{ℕ, _-_, _<_, _^_}
 use native.Mathlib.Omega.{arith}
 use lib.Bits.{bitOr, or-lt}
-use Rattle.records.specs.paper.Sets.{union}
+use Rattle.sets.specs.paper.Sets.{union}
 use Rattle.worlds.proofs.ComponentLaws.{Grown, grown-one, grown-more, grown-all, or-grows}
 use Rattle.worlds.proofs.discretion.component.Statement.{statement}
 use Rattle.worlds.proofs.discretion.component.Tie as tie

@@ -7,7 +7,7 @@ use native.Mathlib.Nat.{lt-trans}
 use native.Mathlib.Omega.{arith}
 use lib.ListN.{length, length-set}
 use lib.Seq.{getD-set-same, getD-set-other}
-use Rattle.records.specs.paper.Sets.{union, minus}
+use Rattle.sets.specs.paper.Sets.{union, minus}
 use Rattle.worlds.specs.code.Over.{entry}
 use Rattle.worlds.specs.code.Discretion.{looseBy, joinedTo, Leads, Renewed}
 use Rattle.worlds.proofs.OverLaws.{turn-has}

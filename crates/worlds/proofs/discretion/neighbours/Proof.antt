@@ -3,7 +3,7 @@ use mathlib.Core.Path.{_≡_, sym, ap, _∙_}
 use mathlib.Core.List.{_∷_}
 use Prim.Native.Nat.{ℕ}
 use native.Mathlib.Omega.{arith}
-use Rattle.records.specs.paper.Sets.{union, members}
+use Rattle.sets.specs.paper.Sets.{union, members}
 use Rattle.expressions.proofs.UnionLaws.{none-union}
 use Rattle.expressions.proofs.ListLaws.{filled-at}
 use Rattle.worlds.specs.code.Over.{entry}

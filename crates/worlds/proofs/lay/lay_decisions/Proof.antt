@@ -8,9 +8,9 @@ use borrow.Author.Needs.{needs}
 use borrow.Author.Tests.{le-ltb}
 use lib.ListN.{length, getD}
 use lib.Dec.{eqb, ltb}
-use Rattle.records.specs.paper.Sets.{has, one, union, anyOf}
-use Rattle.records.proofs.SetLaws.{has-none}
-use Rattle.records.proofs.LoopLaws.{getD-below, length-below}
+use Rattle.sets.specs.paper.Sets.{has, one, union, anyOf}
+use Rattle.sets.proofs.SetLaws.{has-none}
+use Rattle.sets.proofs.LoopLaws.{getD-below, length-below}
 use Rattle.expressions.specs.paper.Influence.{Open, openDecisions, openDecision}
 use Rattle.expressions.specs.code.Undecided.{opensOf, openAt}
 use Rattle.worlds.specs.code.Tables.{row}

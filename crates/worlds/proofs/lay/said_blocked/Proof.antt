@@ -8,11 +8,11 @@ use borrow.Author.Needs.{needs}
 use borrow.Author.Tests.{eq-eqb}
 use lib.ListN.{length, getD, length-map, List·getD-eq-default}
 use lib.Dec.{eqb}
-use Rattle.records.specs.paper.Sets.{has, one, union, below, numbers, anyOf}
+use Rattle.sets.specs.paper.Sets.{has, one, union, below, numbers, anyOf}
 use Rattle.records.specs.paper.Plan.{Decision}
 use Rattle.records.specs.code.Decoded.{decisionsOf}
 use Rattle.records.specs.declared.plan.Decisions.{Decisions}
-use Rattle.records.proofs.SetLaws.{has-none, has-one, has-union, lt-or-le}
+use Rattle.sets.proofs.SetLaws.{has-none, has-one, has-union, lt-or-le}
 use Rattle.expressions.proofs.DecisionLaws.{any-more, any-past, other-verdict}
 use Rattle.worlds.proofs.LayLaws.{below-each}
 use Rattle.worlds.proofs.lay.said_blocked.Statement.{statement}

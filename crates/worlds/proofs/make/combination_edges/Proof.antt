@@ -8,7 +8,7 @@ use native.Mathlib.Omega.{arith}
 use lib.ListN.{length, getD, length-map}
 use lib.Dec.{ltb}
 use borrow.Author.Needs.{needs}
-use Rattle.records.specs.paper.Sets.{has, union}
+use Rattle.sets.specs.paper.Sets.{has, union}
 use Rattle.records.specs.paper.Plan.{Edge}
 use Rattle.records.specs.code.Decoded.{edgeOf}
 use Rattle.records.proofs.plan.Edge.{the-type}

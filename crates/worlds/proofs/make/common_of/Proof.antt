@@ -6,7 +6,7 @@ use native.Mathlib.Omega.{arith}
 use lib.ListN.{length, length-map}
 use lib.Dec.{ltb}
 use borrow.Author.Needs.{needs}
-use Rattle.records.specs.paper.Sets.{has}
+use Rattle.sets.specs.paper.Sets.{has}
 use Rattle.records.specs.code.Decoded.{edgeOf, attachmentOf, barOf, statusOf, planOf}
 use Rattle.records.proofs.plan.Edge as edge-code
 use Rattle.records.proofs.plan.Attachment as attachment-code

@@ -5,8 +5,8 @@ use mathlib.Core.List.{[], _∷_}
 use Prim.Native.Nat.{ℕ, _<_, _^_}
 use native.Mathlib.Nat.{lt-trans}
 use native.Mathlib.Omega.{arith}
-use Rattle.records.specs.paper.Sets.{has, one, closeOf, anyOf}
-use Rattle.records.proofs.SetLaws.{has-none}
+use Rattle.sets.specs.paper.Sets.{has, one, closeOf, anyOf}
+use Rattle.sets.proofs.SetLaws.{has-none}
 use Rattle.worlds.specs.code.Tables.{row}
 use Rattle.worlds.specs.code.Laid.{Same}
 use Rattle.worlds.proofs.OverLaws.{turn-has}

@@ -4,7 +4,7 @@ use native.Mathlib.Omega.{arith}
 use lib.ListN.{length, length-map}
 use lib.Seq.{length-take-le}
 use borrow.Author.Needs.{needs}
-use Rattle.records.specs.promises.Sound.{All}
+use Rattle.sets.specs.paper.Sets.{All}
 use Rattle.records.specs.code.Decoded.{cutOf, planOf}
 use Rattle.records.proofs.plan.Cut.{the-type}
 use Rattle.expressions.specs.code.Coded.{edgesOf, cutsOf, attachmentsOf, barsOf, statusesOf}

@@ -5,8 +5,8 @@ use native.Mathlib.Omega.{arith}
 use lib.Pow.{pow-pos}
 use lib.Dec.{ltb}
 use borrow.Author.Needs.{needs}
-use Rattle.records.specs.paper.Sets.{has}
-use Rattle.records.proofs.SetLaws.{shl-one}
+use Rattle.sets.specs.paper.Sets.{has}
+use Rattle.sets.proofs.SetLaws.{shl-one}
 use Rattle.worlds.proofs.RelateLaws.{has-pred}
 use Rattle.worlds.proofs.make.numbers_below.Statement.{statement}
 use Rattle.worlds.proofs.make.numbers_below.Tie as tie

@@ -1,8 +1,8 @@
 -- `over::low`: a set that is not empty has a number below 64.
 use mathlib.Core.Path.{refl}
 use native.Mathlib.Omega.{arith}
-use Rattle.records.specs.paper.Sets.{lowest}
-use Rattle.records.proofs.SetLaws.{trailing-lt}
+use Rattle.sets.specs.paper.Sets.{lowest}
+use Rattle.sets.proofs.SetLaws.{trailing-lt}
 use Rattle.worlds.proofs.over.low.Statement.{statement}
 use Rattle.worlds.proofs.over.low.Tie as tie
 

@@ -5,8 +5,8 @@ use mathlib.Core.Logic.{⊎-elim}
 use Prim.Native.Nat.{ℕ, _<_, _^_}
 use native.Mathlib.Nat.{lt-trans}
 use native.Mathlib.Omega.{arith}
-use Rattle.records.specs.paper.Sets.{has, union, meets}
-use Rattle.records.proofs.SetLaws.{has-none}
+use Rattle.sets.specs.paper.Sets.{has, union, meets}
+use Rattle.sets.proofs.SetLaws.{has-none}
 use Rattle.worlds.specs.code.Over.{entry}
 use Rattle.worlds.proofs.OverLaws.{turn-has, found-in, found-out, and-meets, and-apart}
 use Rattle.worlds.proofs.over.meeting.Statement.{statement}

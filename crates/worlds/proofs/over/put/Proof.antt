@@ -5,7 +5,7 @@ use Prim.Native.Nat.{ℕ, _<_, _^_}
 use native.Mathlib.Nat.{lt-trans}
 use native.Mathlib.Omega.{arith}
 use lib.ListN.{length, length-set}
-use Rattle.records.specs.paper.Sets.{has}
+use Rattle.sets.specs.paper.Sets.{has}
 use Rattle.worlds.specs.code.Over.{entry}
 use Rattle.worlds.proofs.OverLaws.{turn-has, change-next, change-end}
 use Rattle.worlds.proofs.over.put.Statement.{statement}

@@ -2,7 +2,7 @@
 use mathlib.Core.Path.{_≡_, ap, _∙_}
 use Prim.Native.Nat.{_-_, _≤_}
 use borrow.Author.Needs.{needs}
-use Rattle.records.specs.paper.Sets.{union}
+use Rattle.sets.specs.paper.Sets.{union}
 use Rattle.worlds.specs.code.Related.{chainBy}
 use Rattle.worlds.proofs.RelateLaws.{chain-none, chain-next, chain-end}
 use Rattle.worlds.proofs.relate.chain.Statement.{statement}

@@ -5,7 +5,7 @@ use Prim.Native.Nat.{ℕ, _-_, _≤_, _<_}
 use native.Mathlib.Omega.{arith}
 use lib.ListN.{length, getD, length-set, length-map}
 use borrow.Author.Needs.{needs}
-use Rattle.records.specs.paper.Sets.{setOf}
+use Rattle.sets.specs.paper.Sets.{setOf}
 use Rattle.records.specs.paper.Plan.{Cut}
 use Rattle.records.specs.code.Decoded.{cutOf}
 use Rattle.records.proofs.plan.Cut.{the-type}

@@ -6,7 +6,7 @@ use native.Mathlib.Omega.{arith}
 use lib.Pow.{pow-pos}
 use lib.Dec.{eqb, ltb}
 use borrow.Author.Needs.{needs}
-use Rattle.records.specs.paper.Sets.{has, one, meets, risingLess}
+use Rattle.sets.specs.paper.Sets.{has, one, meets, risingLess}
 use Rattle.worlds.specs.code.Over.{entry}
 use Rattle.worlds.specs.code.Tables.{row}
 use Rattle.worlds.proofs.RelateLaws.{lower-has, dropping-has, clashing-has, six-here, six-beside, six-same}

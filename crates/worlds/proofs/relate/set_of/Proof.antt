@@ -3,7 +3,7 @@ use Prim.Native.Nat.{ℕ, _-_, _≤_, _<_, min}
 use mathlib.Core.Path.{_≡_, refl, sym, ap, _∙_}
 use lib.ListN.{length, drop, length-map}
 use borrow.Author.Needs.{needs}
-use Rattle.records.specs.paper.Sets.{one, union, setOf, unionOf}
+use Rattle.sets.specs.paper.Sets.{one, union, setOf, unionOf}
 use Rattle.records.specs.code.Decoded.{numbersOf}
 use Rattle.expressions.proofs.ListLaws.{used-next, used-end, used-each}
 use Rattle.expressions.proofs.UnionLaws.{none-union, union-first, union-end, set-union}

@@ -2,7 +2,7 @@
 use borrow.Author.Needs.{needs}
 use mathlib.Core.Path.{refl}
 use native.Mathlib.Omega.{arith}
-use Rattle.records.specs.paper.Sets.{union, meet}
+use Rattle.sets.specs.paper.Sets.{union, meet}
 use Rattle.worlds.proofs.SettleLaws.{settles}
 use Rattle.worlds.proofs.settle.settle.Statement.{statement}
 use Rattle.worlds.proofs.settle.settle.Tie as tie

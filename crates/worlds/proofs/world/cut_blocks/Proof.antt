@@ -1,7 +1,7 @@
 -- `world::cut_blocks`: the placed members of the cuts met so far are blocks.
 use mathlib.Core.Path.{refl}
 use native.Mathlib.Omega.{arith}
-use Rattle.records.specs.paper.Sets.{meet}
+use Rattle.sets.specs.paper.Sets.{meet}
 use Rattle.worlds.proofs.CutBlocks.{CutSoFar, cut-start, cut-turn, cut-end}
 use Rattle.worlds.proofs.world.cut_blocks.Statement.{statement}
 use Rattle.worlds.proofs.world.cut_blocks.Tie as tie

@@ -1,5 +1,5 @@
 -- `world::evaluate`: the steps one after another give the view of each roster person.
-use Rattle.records.specs.paper.Sets.{union, meet}
+use Rattle.sets.specs.paper.Sets.{union, meet}
 use Rattle.worlds.proofs.PlaceLaws.{steps-seen}
 use Rattle.worlds.proofs.world.evaluate.Statement.{statement}
 use Rattle.worlds.proofs.world.evaluate.Tie as tie

@@ -1,7 +1,7 @@
 -- `world::move_to`: only blocks that hold a mover, and the block itself, change; where the movers are in it already none does.
 use mathlib.Core.Path.{sym, _∙_}
 use borrow.Author.Tests.{not-false}
-use Rattle.records.specs.paper.Sets.{union}
+use Rattle.sets.specs.paper.Sets.{union}
 use Rattle.worlds.proofs.AttachLaws.{moved-apart, moved-already}
 use Rattle.worlds.proofs.world.move_to.Statement.{statement}
 use Rattle.worlds.proofs.world.move_to.Tie as tie

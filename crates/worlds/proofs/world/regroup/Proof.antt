@@ -7,7 +7,7 @@ use Prim.Native.Nat.{ℕ, _<_, _^_}
 use native.Mathlib.Nat.{lt-trans}
 use native.Mathlib.Omega.{arith}
 use lib.ListN.{length, set, length-set}
-use Rattle.records.specs.paper.Sets.{has, minus}
+use Rattle.sets.specs.paper.Sets.{has, minus}
 use Rattle.worlds.specs.code.Over.{entry}
 use Rattle.worlds.proofs.OverLaws.{turn-has, change-end}
 use Rattle.worlds.proofs.AttachLaws.{regrouped, regrouped-twice, change-at}

@@ -6,7 +6,7 @@ use lib.ListN.{take, drop}
 use lib.Dec.{eqb}
 use borrow.Author.Tests.{eq-eqb, ne-eqb}
 use borrow.Author.Needs.{needs}
-use Rattle.records.specs.paper.Sets.{anyOf}
+use Rattle.sets.specs.paper.Sets.{anyOf}
 use Rattle.listing.proofs.UnitLaws.{any-here, any-on, any-end}
 use Rattle.listing.proofs.units.Units.has.Statement.{statement}
 use Rattle.listing.proofs.units.Units.has.Tie as tie

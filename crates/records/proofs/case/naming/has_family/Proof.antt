@@ -6,7 +6,7 @@ use native.Mathlib.Nat.{min-le-right}
 use native.Mathlib.Omega.{arith}
 use lib.ListN.{length, getD, drop, length-map}
 use borrow.Author.Needs.{needs}
-use Rattle.records.specs.paper.Sets.{anyOf}
+use Rattle.sets.specs.paper.Sets.{anyOf}
 use Rattle.records.specs.code.Decoded.{familyOf, familiesOf}
 use Rattle.records.specs.code.CaseNamed.{sameFamily}
 use Rattle.records.specs.declared.case.Family.{Family}

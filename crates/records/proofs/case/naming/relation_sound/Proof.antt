@@ -5,7 +5,7 @@ use mathlib.Core.List.{List, [], map}
 use Prim.Native.Nat.{ℕ, _<_}
 use native.Mathlib.Omega.{arith}
 use lib.ListN.{length, getD, take, length-map}
-use Rattle.records.specs.paper.Sets.{anyOf}
+use Rattle.sets.specs.paper.Sets.{anyOf}
 use Rattle.records.specs.paper.Plan as paper
 use Rattle.records.specs.code.Decoded.{factOf}
 use Rattle.records.specs.code.CaseNamed.{sameFamily}

@@ -4,7 +4,7 @@ use Prim.Native.Nat.{ℕ, _-_, _*_, _≤_}
 use native.Mathlib.Omega.{arith}
 use denote.Ref.{now}
 use lib.ListN.{length, length-set}
-use Rattle.records.specs.paper.Sets.{below}
+use Rattle.sets.specs.paper.Sets.{below}
 use Rattle.records.specs.paper.Plan as paper
 use Rattle.records.specs.code.Decoded.{decisionsOf}
 use Rattle.records.specs.code.Readers.{bytesFrom}
@@ -21,7 +21,7 @@ abbrev μ-loop : tie.MeasureT-loop
 μ-loop s first count n edges₀ verdicts₀ i₀ edges verdicts i = n - i
 
 loop-holds : tie.Need-loop-holds Inv-loop μ-loop
-unfolding bytesFrom below Rattle.records.specs.paper.Sets.numbers paper.decisionsFrom
+unfolding bytesFrom below Rattle.sets.specs.paper.Sets.numbers paper.decisionsFrom
 loop-holds c = (omega arith, refl, refl, refl)
 
 loop-again : tie.Need-loop-again Inv-loop μ-loop

@@ -5,7 +5,7 @@ use native.Mathlib.Omega.{arith}
 use denote.Ref.{now}
 use mathlib.Core.List.{List}
 use lib.ListN.{length, getD, length-set}
-use Rattle.records.specs.paper.Sets.{below}
+use Rattle.sets.specs.paper.Sets.{below}
 use Rattle.records.specs.paper.Case as paper
 use Rattle.records.specs.code.Decoded.{observationsOf}
 use Rattle.records.specs.code.Readers.{bytesFrom}
@@ -28,7 +28,7 @@ abbrev μ-loop : tie.MeasureT-loop
 μ-loop s first count n values₀ evidence₀ i₀ values evidence i = n - i
 
 loop-holds : tie.Need-loop-holds Inv-loop μ-loop
-unfolding bytesFrom below Rattle.records.specs.paper.Sets.numbers paper.observationsFrom
+unfolding bytesFrom below Rattle.sets.specs.paper.Sets.numbers paper.observationsFrom
 loop-holds c = (omega arith, refl, refl, refl)
 
 loop-again : tie.Need-loop-again Inv-loop μ-loop

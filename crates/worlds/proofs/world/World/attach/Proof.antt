@@ -5,7 +5,7 @@ use mathlib.Core.List.{List}
 use Prim.Native.Nat.{ℕ, _<_, _^_}
 use native.Mathlib.Nat.{lt-trans}
 use native.Mathlib.Omega.{arith}
-use Rattle.records.specs.paper.Sets.{meet}
+use Rattle.sets.specs.paper.Sets.{meet}
 use Rattle.records.specs.paper.Plan.{Plan}
 use Rattle.expressions.specs.paper.Variables.{Influence}
 use Rattle.worlds.specs.paper.Active.{Active}

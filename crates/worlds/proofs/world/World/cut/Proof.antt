@@ -2,7 +2,7 @@
 use mathlib.Core.Path.{ap, _∙_}
 use mathlib.Core.Bool.{cond}
 use borrow.Author.Needs.{needs}
-use Rattle.records.specs.paper.Sets.{has, one}
+use Rattle.sets.specs.paper.Sets.{has, one}
 use Rattle.worlds.proofs.PlaceLaws.{first-placed}
 use Rattle.worlds.proofs.world.World.cut.Statement.{statement}
 use Rattle.worlds.proofs.world.World.cut.Tie as tie

@@ -7,7 +7,7 @@ use denote.Ref.{now}
 use lib.ListN.{length, length-set}
 use Rattle.records.specs.code.Decoded.{booleanOf, booleansOf}
 use Rattle.records.specs.code.CasePasses.{booleanRead}
-use Rattle.records.proofs.LoopLaws.{length-made}
+use Rattle.sets.proofs.LoopLaws.{length-made}
 use Rattle.records.proofs.Reading.{seen}
 use Rattle.records.proofs.Passing.{Going, going, ends-short, ends-other, refused-bad, refused-judged, goes-on, goes-later}
 use Rattle.records.proofs.KindLaws.{needs-test, made-more, judge-same}

@@ -8,7 +8,7 @@ use lib.ListN.{length, length-set}
 use Rattle.records.specs.paper.Fields as fields
 use Rattle.records.specs.code.Decoded.{familyOf, familiesOf}
 use Rattle.records.specs.code.CasePasses.{familyRead}
-use Rattle.records.proofs.LoopLaws.{length-made}
+use Rattle.sets.proofs.LoopLaws.{length-made}
 use Rattle.records.proofs.Reading.{seen}
 use Rattle.records.proofs.Passing.{Going, going, ends-short, ends-other, refused-bad, refused-judged, goes-on, goes-later}
 use Rattle.records.proofs.KindLaws.{needs-test, made-more, judge-same}

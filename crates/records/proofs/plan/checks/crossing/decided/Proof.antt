@@ -9,10 +9,10 @@ use lib.Dec.{eqb}
 use lib.ListN.{length, getD, drop}
 use borrow.Author.Needs.{needs}
 use borrow.Author.Tests.{eq-eqb, ne-eqb}
-use Rattle.records.specs.paper.Sets.{allOf}
+use Rattle.sets.specs.paper.Sets.{allOf}
 use Rattle.records.specs.paper.Plan as paper
 use Rattle.records.specs.code.Decoded.{decisionsOf}
-use Rattle.records.proofs.LoopLaws.{length-below, getD-below}
+use Rattle.sets.proofs.LoopLaws.{length-below, getD-below}
 use Rattle.records.proofs.ListLaws.{all-goes, all-fails, all-ends, any-not}
 use Rattle.records.proofs.NamingLaws.{entries, all-edges}
 use Rattle.records.proofs.plan.checks.crossing.decided.Statement.{statement}

@@ -3,7 +3,7 @@ use mathlib.Core.Path.{_≡_, refl, _∙_}
 use Prim.Native.Nat.{_-_, _≤_}
 use native.Mathlib.Omega.{arith}
 use lib.Dec.{eqb}
-use Rattle.records.specs.paper.Sets.{anyOf}
+use Rattle.sets.specs.paper.Sets.{anyOf}
 use Rattle.records.specs.code.PlanPasses.{decisionsLeft}
 use Rattle.records.proofs.DecisionLaws.{any-here, any-later, any-none}
 use borrow.Author.Needs.{needs}

@@ -1,7 +1,7 @@
 -- Booleans first, then by family and tuple.
 use mathlib.Core.Path.{sym}
 use borrow.Author.Tests.{eq-eqb, ne-eqb}
-use Rattle.records.specs.paper.Sets.{lexLess}
+use Rattle.sets.specs.paper.Sets.{lexLess}
 use Rattle.records.specs.paper.Plan.{rises, isBoolean}
 use Rattle.records.specs.code.Decoded.{factOf}
 use Rattle.records.proofs.FactLaws.{is-boolean}

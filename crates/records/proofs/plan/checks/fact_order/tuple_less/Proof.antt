@@ -4,7 +4,7 @@ use Prim.Native.Nat.{ℕ, _-_, _≤_}
 use native.Mathlib.Omega.{arith}
 use lib.ListN.{length, take, drop}
 use lib.Dec.{ltb}
-use Rattle.records.specs.paper.Sets.{lexLess}
+use Rattle.sets.specs.paper.Sets.{lexLess}
 use Rattle.records.proofs.FactLaws.{lex-short, lex-differ, lex-same, lex-end}
 use borrow.Author.Needs.{needs}
 use Rattle.records.proofs.plan.checks.fact_order.tuple_less.Statement.{statement}

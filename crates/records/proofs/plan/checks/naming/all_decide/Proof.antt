@@ -10,7 +10,7 @@ use lib.ListN.{length, getD, drop}
 use borrow.Author.Needs.{needs}
 use borrow.Author.Tests.{lt-ltb, le-ltb}
 use Rattle.records.proofs.NamingLaws.{entries, all-edges}
-use Rattle.records.proofs.LoopLaws.{length-below, getD-below}
+use Rattle.sets.proofs.LoopLaws.{length-below, getD-below}
 use Rattle.records.proofs.plan.checks.naming.all_decide.Statement.{statement}
 use Rattle.records.proofs.plan.checks.naming.all_decide.Tie as tie
 

@@ -1,6 +1,6 @@
 -- The edge that its fields and the bytes of its list make.
 use borrow.Author.Needs.{needs}
-use Rattle.records.specs.paper.Sets.{has}
+use Rattle.sets.specs.paper.Sets.{has}
 use Rattle.records.specs.code.Decoded.{edgeOf}
 use Rattle.records.proofs.KindLaws.{bit-test}
 use Rattle.records.proofs.plan.reading.edges.edge_from.Statement.{statement}

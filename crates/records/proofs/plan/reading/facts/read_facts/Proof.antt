@@ -9,11 +9,11 @@ use lib.ListN.{length, length-set}
 use Rattle.records.specs.paper.Plan.{rises, factsRise, Fact, factBits}
 use Rattle.records.specs.code.Decoded.{factOf, factsOf}
 use Rattle.records.specs.code.PlanPasses.{factRead}
-use Rattle.records.proofs.LoopLaws.{length-made}
+use Rattle.sets.proofs.LoopLaws.{length-made}
 use Rattle.records.proofs.Reading.{seen}
 use Rattle.records.proofs.Passing.{Going, going, ends-short, ends-other, refused-bad, refused-judged, goes-on, goes-later}
 use Rattle.records.proofs.FactLaws.{lastFact, last-none, last-more, rise-more}
-use Rattle.records.proofs.SetLaws.{and-parts}
+use Rattle.sets.proofs.SetLaws.{and-parts}
 use Rattle.records.proofs.KindLaws.{factKind, made-more, judge-same, is-sound, it-fits, no-tuple}
 use borrow.Author.Needs.{needs}
 use Rattle.records.proofs.plan.reading.facts.read_facts.Statement.{statement}

@@ -3,8 +3,8 @@ use mathlib.Core.Path.{_∙_, ap}
 use Prim.Native.Nat.{ℕ}
 use native.Mathlib.Omega.{arith}
 use lib.Dec.{eqb}
-use Rattle.records.specs.paper.Sets.{size}
-use Rattle.records.proofs.SetLaws.{ones-size}
+use Rattle.sets.specs.paper.Sets.{size}
+use Rattle.sets.proofs.SetLaws.{ones-size}
 use borrow.Author.Needs.{needs}
 use Rattle.records.proofs.plan.reading.nodes.one_bit.Statement.{statement}
 use Rattle.records.proofs.plan.reading.nodes.one_bit.Tie as tie

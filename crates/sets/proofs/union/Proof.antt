@@ -1,0 +1,12 @@
+-- `sets::union`: `a | b`.
+use mathlib.Core.Path.{refl}
+use Rattle.sets.specs.paper.Sets.{union}
+use Rattle.sets.proofs.union.Statement.{statement}
+use Rattle.sets.proofs.union.Tie as tie
+
+returns : tie.Need-returns
+unfolding union
+returns c = refl
+
+pub union-spec : {M : Type 1} → statement M
+union-spec = tie.close (tie.spec returns)
