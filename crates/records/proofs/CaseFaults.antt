@@ -1,24 +1,24 @@
--- Refusal 4 of a case: a search for a family, a relation, and the answer after all records.
+-- Refusal 4 of a case: a search for a family, a fact of a relation, and the answer after all records.
 use mathlib.Core.Path.{_≡_, refl, sym, ap, ap₂, _∙_}
-use mathlib.Core.Bool.{Bool, true, false, _||_}
+use mathlib.Core.Bool.{Bool, true, false, _&&_, _||_, not}
 use mathlib.Core.List.{List, [], _∷_}
 use Prim.Native.Nat.{ℕ, zero, suc, _+_, _-_, _≤_, _<_}
 use native.Mathlib.Numerals.{add-one}
 use native.Mathlib.Omega.{arith}
+use lib.Dec.{eqb}
 use lib.ListN.{length, getD, drop, drop-of-length-le}
 use lib.Seq.{drop-cons}
-use borrow.Author.Tests.{eq-eqb, ne-eqb, lt-ltb, le-ltb}
+use borrow.Author.Tests.{eq-eqb, ne-eqb}
 use Rattle.sets.specs.paper.Sets.{allOf, anyOf}
 use Rattle.records.specs.paper.Fields.{Verdict, fine, refused, onFine, firstFault}
 use Rattle.records.specs.paper.Plan as paper
 use Rattle.records.specs.paper.Case as case
-use Rattle.records.specs.code.Decoded.{factOf, familyOf, relationOf, caseOf}
+use Rattle.records.specs.code.Decoded.{factOf, familyOf, caseOf}
 use Rattle.records.specs.code.Check.{checkedOf}
 use Rattle.records.specs.code.CaseRead.{caseReadOf}
 use Rattle.records.specs.code.CaseNamed.{sameFamily}
 use Rattle.records.specs.declared.plan.Fact.{Fact}
 use Rattle.records.specs.declared.case.Family.{Family}
-use Rattle.records.specs.declared.case.Relation.{Relation}
 use Rattle.records.specs.declared.checked.Checked.{Checked}
 use Rattle.records.specs.declared.checked.Checked.the-variants.{Accepted, Refused}
 use Rattle.records.specs.declared.case.reading.CaseRead.{CaseRead}
@@ -48,21 +48,16 @@ pub other-family : (x : Family) (n : ℕ) → (x .number ≡ n → ⊥) → same
 unfolding familyOf allOf
 other-family x n e = rw (ne-eqb (x .number) n e)
 
--- ---- a relation: its fact is none, is boolean, or has a family
+-- ---- a fact that a relation record may name: it is not boolean, and its family has a record
 
-module _ (P : paper.Plan) (C : case.Case) (x : Relation) where
-  pub no-fact : length (P .facts) ≤ x .fact → false ≡ case.relationSound P C (relationOf x)
-  unfolding case.relationSound relationOf
-  no-fact h = rw (le-ltb (x .fact) (length (P .facts)) h)
+abbrev pub related : List case.Family → paper.Fact → Bool
+related ms y = not (paper.isBoolean y) && anyOf (λ m. allOf (eqb (m .number)) (y .family)) ms
 
-  module _ (y : Fact) (h : x .fact < length (P .facts)) (e : paper.getFact P (x .fact) ≡ factOf y) where
-    pub boolean-fact : y .boolean ≡ true → false ≡ case.relationSound P C (relationOf x)
-    unfolding case.relationSound relationOf
-    boolean-fact b = rw (lt-ltb (x .fact) (length (P .facts)) h, e, boolean-of y ∙ b)
+pub boolean-unrelated : (ms : List case.Family) (y : Fact) → y .boolean ≡ true → related ms (factOf y) ≡ false
+boolean-unrelated ms y b = rw (boolean-of y ∙ b)
 
-    pub family-fact : y .boolean ≡ false → anyOf (sameFamily (y .family)) (C .families) ≡ case.relationSound P C (relationOf x)
-    unfolding case.relationSound relationOf
-    family-fact b = rw (lt-ltb (x .fact) (length (P .facts)) h, e, boolean-of y ∙ b, family-of y b)
+pub family-related : (ms : List case.Family) (y : Fact) → y .boolean ≡ false → related ms (factOf y) ≡ anyOf (sameFamily (y .family)) ms
+family-related ms y b = rw (boolean-of y ∙ b, family-of y b)
 
 -- ---- the answer after all records, and the case that comes out
 

@@ -1,5 +1,6 @@
 pub mod ListLaws
 pub mod NamingLaws
+pub mod MarkLaws
 pub mod ElectionLaws
 pub mod CrossingLaws
 pub mod CheckLaws

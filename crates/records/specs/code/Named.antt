@@ -1,11 +1,11 @@
--- What the code's tests after all records say: each of one record, then of a kind's records, in every plan that has so many records and these facts.
+-- What the code's tests after all records say: each of one record, then of a kind's records, in every plan that has so many records and these boolean facts.
 use mathlib.Core.Path.{_≡_}
 use mathlib.Core.Bool.{Bool}
 use mathlib.Core.List.{List}
 use Prim.Native.Nat.{ℕ, _≤_}
 use lib.Dec.{ltb}
 use lib.ListN.{length}
-use Rattle.sets.specs.paper.Sets.{allOf}
+use Rattle.sets.specs.paper.Sets.{has, allOf}
 use Rattle.records.specs.paper.Plan as paper
 use Rattle.records.specs.paper.Fields.{fault, fine, firstFault}
 use Rattle.records.specs.code.Check.{checkedOf}
@@ -58,18 +58,22 @@ NodeSound facts k n r = (P : paper.Plan) → facts ≡ length (P .facts) → r �
 abbrev pub EdgeSound : ℕ → Edge → Bool → Type 0
 EdgeSound nodes e r = (P : paper.Plan) → nodes ≡ length (P .nodes) → r ≡ paper.edgeSound P (edgeOf e)
 
-abbrev pub BooleanFact : Facts → ℕ → Bool → Type 0
-BooleanFact fs f r = (P : paper.Plan) → factsOf fs ≡ P .facts → r ≡ paper.booleanFact P f
+-- a set of facts: the boolean ones of a plan
+abbrev pub MarksBooleans : paper.Plan → ℕ → Type 0
+MarksBooleans P m = (f : ℕ) → has m f ≡ paper.booleanFact P f
 
-abbrev pub ElectionSound : Facts → Election → Bool → Type 0
-ElectionSound fs e r = (P : paper.Plan) → factsOf fs ≡ P .facts → r ≡ paper.electionSound P (electionOf e)
+abbrev pub BooleanFacts : Facts → ℕ → Type 0
+BooleanFacts fs r = (P : paper.Plan) → factsOf fs ≡ P .facts → MarksBooleans P r
 
-abbrev pub CutSound : Facts → Counts → Cut → Bool → Type 0
-CutSound fs n c r = (P : paper.Plan) → factsOf fs ≡ P .facts → CountsOf P n → r ≡ paper.cutSound P (cutOf c)
+abbrev pub ElectionSound : ℕ → Election → Bool → Type 0
+ElectionSound booleans e r = (P : paper.Plan) → MarksBooleans P booleans → r ≡ paper.electionSound P (electionOf e)
 
-abbrev pub AttachmentSound : Facts → ℕ → Attachment → Bool → Type 0
-AttachmentSound fs nodes a r =
-    (P : paper.Plan) → factsOf fs ≡ P .facts → nodes ≡ length (P .nodes) → r ≡ paper.attachmentSound P (attachmentOf a)
+abbrev pub CutSound : ℕ → Counts → Cut → Bool → Type 0
+CutSound booleans n c r = (P : paper.Plan) → MarksBooleans P booleans → CountsOf P n → r ≡ paper.cutSound P (cutOf c)
+
+abbrev pub AttachmentSound : ℕ → ℕ → Attachment → Bool → Type 0
+AttachmentSound booleans nodes a r =
+    (P : paper.Plan) → MarksBooleans P booleans → nodes ≡ length (P .nodes) → r ≡ paper.attachmentSound P (attachmentOf a)
 
 -- ---- the first of a kind's records that names what is not there; the kind begins at record `first`
 
@@ -91,14 +95,14 @@ EdgesNamed nodes x first r = (P : paper.Plan) → nodes ≡ length (P .nodes) �
 abbrev pub cutFaults : paper.Plan → Cuts → List ℕ
 cutFaults P x = paper.faults 4 (paper.cutSound P) (cutsOf x)
 
-abbrev pub CutsNamed : Facts → Counts → Cuts → ℕ → Checked → Type 0
-CutsNamed fs n x first r = (P : paper.Plan) → factsOf fs ≡ P .facts → CountsOf P n → SaysFirst P first (cutFaults P x) r
+abbrev pub CutsNamed : ℕ → Counts → Cuts → ℕ → Checked → Type 0
+CutsNamed booleans n x first r = (P : paper.Plan) → MarksBooleans P booleans → CountsOf P n → SaysFirst P first (cutFaults P x) r
 
 abbrev pub attachmentFaults : paper.Plan → Attachments → List ℕ
 attachmentFaults P x = paper.faults 4 (paper.attachmentSound P) (attachmentsOf x)
 
-abbrev pub AttachmentsNamed : Facts → ℕ → Attachments → ℕ → Checked → Type 0
-AttachmentsNamed fs nodes x first r = (P : paper.Plan) → factsOf fs ≡ P .facts → nodes ≡ length (P .nodes) → SaysFirst P first (attachmentFaults P x) r
+abbrev pub AttachmentsNamed : ℕ → ℕ → Attachments → ℕ → Checked → Type 0
+AttachmentsNamed booleans nodes x first r = (P : paper.Plan) → MarksBooleans P booleans → nodes ≡ length (P .nodes) → SaysFirst P first (attachmentFaults P x) r
 
 abbrev pub barFaults : paper.Plan → Bars → List ℕ
 barFaults P x = paper.faults 4 (λ b. paper.nodeNumber P (b .condition)) (barsOf x)

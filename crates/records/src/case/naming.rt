@@ -1,18 +1,20 @@
 // Refusal 4 of a case: a boolean that names no boolean fact, a relation that names no relation fact or one without its family's record, a
-// constraint that names no node.
+// constraint that names no node. `set` has the facts that a record of the kind may name.
 use crate::case::Booleans;
 use crate::case::Case;
 use crate::case::Constraints;
 use crate::case::Families;
-use crate::case::Relation;
 use crate::case::Relations;
 use crate::checked::Checked;
 use crate::plan::Facts;
 use crate::plan::Plan;
-use crate::plan::checks::naming::boolean_fact;
+use crate::plan::checks::naming::boolean_facts;
 use crate::plan::counts::count_records;
 use crate::plan::counts::least;
 use crate::plan::counts::wide;
+use sets::bit;
+use sets::contains;
+use sets::union;
 ghost use mathlib.Core.Path.{_≡_};
 ghost use Prim.Native.Nat.{_≤_};
 ghost use Rattle.sets.specs.paper.Sets.{anyOf};
@@ -20,7 +22,7 @@ ghost use Rattle.records.specs.paper.Fields.{fine, firstFault};
 ghost use Rattle.records.specs.paper.Case.{caseNamingFaults, booleansAt};
 ghost use Rattle.records.specs.code.Decoded.{planOf, caseOf, familiesOf};
 ghost use Rattle.records.specs.code.Check.{checkedOf};
-ghost use Rattle.records.specs.code.CaseNamed.{CaseCountsOf, CaseCountLimits, sameFamily, RelationSound, BooleansNamed, RelationsNamed, ConstraintsNamed};
+ghost use Rattle.records.specs.code.CaseNamed.{CaseCountsOf, CaseCountLimits, sameFamily, RelationFacts, BooleansNamed, RelationsNamed, ConstraintsNamed};
 
 // How many records of each kind a case has, whatever its count fields say.
 pub struct CaseCounts {
@@ -57,29 +59,31 @@ pub fn has_family(families: Families, number: u8) -> bool
     false
 }
 
-pub fn relation_sound(facts: Facts, families: Families, relation: Relation) -> bool
-    ensures { λ r. ⌜ RelationSound facts families relation r ⌝ }
+// The facts that a relation record may name, as a set: the relation facts whose family has a record.
+pub fn relation_facts(facts: Facts, families: Families) -> u64
+    ensures { λ r. ⌜ RelationFacts facts families r ⌝ }
 {
     let count = least(facts.count, 64);
-    let k = wide(relation.fact);
-    if k >= count {
-        return false;
+    let mut m: u64 = 0;
+    let mut k: usize = 0;
+    while k < count {
+        let fact = facts.items[k];
+        if !fact.boolean && has_family(families, fact.family) {
+            m = union(m, bit(k as u8));
+        }
+        k = k + 1;
     }
-    let fact = facts.items[k];
-    if fact.boolean {
-        return false;
-    }
-    has_family(families, fact.family)
+    m
 }
 
-fn boolean_faults(facts: Facts, booleans: Booleans, first: usize) -> Checked
+fn boolean_faults(set: u64, booleans: Booleans, first: usize) -> Checked
     requires { ⌜ first ≤ 1000 ⌝ }
-    ensures { λ r. ⌜ BooleansNamed facts booleans first r ⌝ }
+    ensures { λ r. ⌜ BooleansNamed set booleans first r ⌝ }
 {
     let count = least(booleans.count, 64);
     let mut k: usize = 0;
     while k < count {
-        if !boolean_fact(facts, booleans.items[k].fact) {
+        if !contains(set, booleans.items[k].fact) {
             return Checked::Refused {
                 number: 4,
                 record: first + k,
@@ -90,14 +94,14 @@ fn boolean_faults(facts: Facts, booleans: Booleans, first: usize) -> Checked
     Checked::Accepted
 }
 
-fn relation_faults(facts: Facts, families: Families, relations: Relations, first: usize) -> Checked
+fn relation_faults(set: u64, relations: Relations, first: usize) -> Checked
     requires { ⌜ first ≤ 1000 ⌝ }
-    ensures { λ r. ⌜ RelationsNamed facts families relations first r ⌝ }
+    ensures { λ r. ⌜ RelationsNamed set relations first r ⌝ }
 {
     let count = least(relations.count, 256);
     let mut k: usize = 0;
     while k < count {
-        if !relation_sound(facts, families, relations.items[k]) {
+        if !contains(set, relations.items[k].fact) {
             return Checked::Refused {
                 number: 4,
                 record: first + k,
@@ -131,18 +135,20 @@ pub fn case_naming(plan: Plan, case: Case) -> Checked
     ensures { λ r. ⌜ r ≡ checkedOf (firstFault (booleansAt (caseOf case)) (caseNamingFaults (planOf plan) (caseOf case)) (fine (caseOf case))) ⌝ }
 {
     let facts = plan.facts;
+    let families = case.families;
+    let boolean_set = boolean_facts(facts);
+    let relation_set = relation_facts(facts, families);
     let nodes = count_records(plan).nodes;
     let counts = count_case(case);
     let at_booleans = counts.headings + counts.families;
     let booleans = case.booleans;
-    let a = boolean_faults(facts, booleans, at_booleans);
+    let a = boolean_faults(boolean_set, booleans, at_booleans);
     let Checked::Accepted = a else {
         return a;
     };
     let at_relations = at_booleans + counts.booleans;
-    let families = case.families;
     let relations = case.relations;
-    let b = relation_faults(facts, families, relations, at_relations);
+    let b = relation_faults(relation_set, relations, at_relations);
     let Checked::Accepted = b else {
         return b;
     };

@@ -4,11 +4,11 @@ use crate::plan::Attachments;
 use crate::plan::Bars;
 use crate::plan::Cuts;
 use crate::plan::Edges;
-use crate::plan::Facts;
 use crate::plan::Nodes;
 use crate::plan::Plan;
 use crate::plan::Statuses;
 use crate::plan::checks::naming::attachment_sound;
+use crate::plan::checks::naming::boolean_facts;
 use crate::plan::checks::naming::cut_sound;
 use crate::plan::checks::naming::edge_sound;
 use crate::plan::checks::naming::node_sound;
@@ -60,14 +60,14 @@ fn edge_faults(nodes: usize, edges: Edges, first: usize) -> Checked
     Checked::Accepted
 }
 
-fn cut_faults(facts: Facts, counts: Counts, cuts: Cuts, first: usize) -> Checked
+fn cut_faults(booleans: u64, counts: Counts, cuts: Cuts, first: usize) -> Checked
     requires { ⌜ first ≤ 1000 ⌝ }
-    ensures { λ r. ⌜ CutsNamed facts counts cuts first r ⌝ }
+    ensures { λ r. ⌜ CutsNamed booleans counts cuts first r ⌝ }
 {
     let count = least(cuts.count, 16);
     let mut k: usize = 0;
     while k < count {
-        if !cut_sound(facts, counts, cuts.items[k]) {
+        if !cut_sound(booleans, counts, cuts.items[k]) {
             return Checked::Refused {
                 number: 4,
                 record: first + k,
@@ -78,14 +78,14 @@ fn cut_faults(facts: Facts, counts: Counts, cuts: Cuts, first: usize) -> Checked
     Checked::Accepted
 }
 
-fn attachment_faults(facts: Facts, nodes: usize, attachments: Attachments, first: usize) -> Checked
+fn attachment_faults(booleans: u64, nodes: usize, attachments: Attachments, first: usize) -> Checked
     requires { ⌜ first ≤ 1000 ⌝ }
-    ensures { λ r. ⌜ AttachmentsNamed facts nodes attachments first r ⌝ }
+    ensures { λ r. ⌜ AttachmentsNamed booleans nodes attachments first r ⌝ }
 {
     let count = least(attachments.count, 32);
     let mut k: usize = 0;
     while k < count {
-        if !attachment_sound(facts, nodes, attachments.items[k]) {
+        if !attachment_sound(booleans, nodes, attachments.items[k]) {
             return Checked::Refused {
                 number: 4,
                 record: first + k,
@@ -135,8 +135,9 @@ fn status_faults(nodes: usize, statuses: Statuses, first: usize) -> Checked
 pub fn naming(plan: Plan) -> Checked
     ensures { λ r. ⌜ r ≡ checkedOf (firstFault (nodesAt (planOf plan)) (namingFaults (planOf plan)) (fine (planOf plan))) ⌝ }
 {
-    let counts = count_records(plan);
     let facts = plan.facts;
+    let booleans = boolean_facts(facts);
+    let counts = count_records(plan);
     let at_nodes = counts.headings + counts.facts;
     let nodes = plan.nodes;
     let a = node_faults(counts.facts, nodes, at_nodes);
@@ -151,13 +152,13 @@ pub fn naming(plan: Plan) -> Checked
     };
     let at_cuts = at_edges + counts.edges;
     let cuts = plan.cuts;
-    let c = cut_faults(facts, counts, cuts, at_cuts);
+    let c = cut_faults(booleans, counts, cuts, at_cuts);
     let Checked::Accepted = c else {
         return c;
     };
     let at_attachments = at_cuts + counts.cuts;
     let attachments = plan.attachments;
-    let d = attachment_faults(facts, counts.nodes, attachments, at_attachments);
+    let d = attachment_faults(booleans, counts.nodes, attachments, at_attachments);
     let Checked::Accepted = d else {
         return d;
     };

@@ -10,13 +10,16 @@ use crate::plan::Numbers;
 use crate::plan::counts::Counts;
 use crate::plan::counts::least;
 use crate::plan::counts::wide;
+use sets::bit;
+use sets::contains;
+use sets::union;
 ghost use mathlib.Core.Path.{_≡_};
 ghost use Prim.Native.Nat.{ℕ, _<_, _≤_};
 ghost use lib.Dec.{ltb};
 ghost use lib.ListN.{getD};
 ghost use Rattle.sets.specs.paper.Sets.{allOf};
 ghost use Rattle.records.specs.code.Decoded.{numbersOf, decisionsOf};
-ghost use Rattle.records.specs.code.Named.{allUnder, allDecide, NodeSound, EdgeSound, BooleanFact, ElectionSound, CutSound, AttachmentSound};
+ghost use Rattle.records.specs.code.Named.{allUnder, allDecide, NodeSound, EdgeSound, BooleanFacts, ElectionSound, CutSound, AttachmentSound};
 
 pub fn all_under(n: Numbers, bound: usize) -> bool
     ensures { λ r. ⌜ r ≡ allUnder bound (numbersOf n) ⌝ }
@@ -60,24 +63,29 @@ pub fn edge_sound(nodes: usize, edge: Edge) -> bool
     all_under(defeaters, nodes)
 }
 
-pub fn boolean_fact(facts: Facts, f: u8) -> bool
-    ensures { λ r. ⌜ BooleanFact facts f r ⌝ }
+// The boolean facts as a set, made once: a test of one number then takes no table of facts.
+pub fn boolean_facts(facts: Facts) -> u64
+    ensures { λ r. ⌜ BooleanFacts facts r ⌝ }
 {
     let count = least(facts.count, 64);
-    let k = wide(f);
-    if k >= count {
-        return false;
+    let mut m: u64 = 0;
+    let mut k: usize = 0;
+    while k < count {
+        if facts.items[k].boolean {
+            m = union(m, bit(k as u8));
+        }
+        k = k + 1;
     }
-    facts.items[k].boolean
+    m
 }
 
-pub fn election_sound(facts: Facts, election: Election) -> bool
-    ensures { λ r. ⌜ ElectionSound facts election r ⌝ }
+pub fn election_sound(booleans: u64, election: Election) -> bool
+    ensures { λ r. ⌜ ElectionSound booleans election r ⌝ }
 {
     if !election.given {
         return true;
     }
-    boolean_fact(facts, election.fact)
+    contains(booleans, election.fact)
 }
 
 // entry i of a list of decisions, 0 past its array
@@ -105,14 +113,14 @@ pub fn all_decide(decisions: Decisions, edges: usize) -> bool
     true
 }
 
-pub fn cut_sound(facts: Facts, counts: Counts, cut: Cut) -> bool
-    ensures { λ r. ⌜ CutSound facts counts cut r ⌝ }
+pub fn cut_sound(booleans: u64, counts: Counts, cut: Cut) -> bool
+    ensures { λ r. ⌜ CutSound booleans counts cut r ⌝ }
 {
     if wide(cut.condition) >= counts.nodes {
         return false;
     }
     let election = cut.election;
-    if !election_sound(facts, election) {
+    if !election_sound(booleans, election) {
         return false;
     }
     let decisions = cut.decisions;
@@ -123,12 +131,12 @@ pub fn cut_sound(facts: Facts, counts: Counts, cut: Cut) -> bool
     all_under(precedes, counts.cuts)
 }
 
-pub fn attachment_sound(facts: Facts, nodes: usize, attachment: Attachment) -> bool
-    ensures { λ r. ⌜ AttachmentSound facts nodes attachment r ⌝ }
+pub fn attachment_sound(booleans: u64, nodes: usize, attachment: Attachment) -> bool
+    ensures { λ r. ⌜ AttachmentSound booleans nodes attachment r ⌝ }
 {
     if wide(attachment.condition) >= nodes {
         return false;
     }
     let election = attachment.election;
-    election_sound(facts, election)
+    election_sound(booleans, election)
 }

@@ -8,8 +8,9 @@ use lib.ListN.{length, length-map, take}
 use borrow.Author.Needs.{needs}
 use borrow.Author.Tests.{not-true, not-false}
 use Rattle.records.specs.paper.Plan as paper
-use Rattle.records.specs.code.Decoded.{booleanOf, factsOf}
+use Rattle.records.specs.code.Decoded.{booleanOf}
 use Rattle.records.specs.paper.Case as case
+use Rattle.records.specs.code.Named.{MarksBooleans}
 use Rattle.records.specs.code.CaseNamed.{booleanFaults}
 use Rattle.records.proofs.ListLaws.{length-front}
 use Rattle.records.proofs.FaultLaws.{NoneYet, none-yet, one-faulty, one-sound, none-left}
@@ -17,11 +18,11 @@ use Rattle.records.proofs.case.naming.boolean_faults.Statement.{stateme
 use Rattle.records.proofs.case.naming.boolean_faults.Tie as tie
 
 abbrev Inv-loop : tie.InvT-loop
-Inv-loop facts first booleans count k₀ k =
-    (k ≤ count) × (count ≤ 64) × (count ≡ length (map booleanOf (take (booleans .count) (booleans .items)))) × ((P : paper.Plan) (C : case.Case) → factsOf facts ≡ P .facts → NoneYet first (booleanFaults P booleans) C k)
+Inv-loop set first booleans count k₀ k =
+    (k ≤ count) × (count ≤ 64) × (count ≡ length (map booleanOf (take (booleans .count) (booleans .items)))) × ((P : paper.Plan) (C : case.Case) → MarksBooleans P set → NoneYet first (booleanFaults P booleans) C k)
 
 abbrev μ-loop : tie.MeasureT-loop
-μ-loop facts first booleans count k₀ k = count - k
+μ-loop set first booleans count k₀ k = count - k
 
 loop-holds : tie.Need-loop-holds Inv-loop μ-loop
 loop-holds c =
@@ -32,20 +33,20 @@ loop-holds c =
 returns : tie.Need-returns Inv-loop μ-loop
 unfolding booleanOf
 returns c =
-    let a = c .before .before .before .before .before .args in let l = c .before .before .before .loop in let r = c .before .boolean-fact in λ P C e.
+    let a = c .before .before .before .before .before .args in let l = c .before .before .before .loop in let r = c .before .contains in λ P C e.
     one-faulty (λ b. paper.booleanFact P (b .fact)) booleanOf (a .t2 .items) (a .t2 .count) _ (l .inv .2) (a .first) C (l .k) (l .inv .3 P C e) _ (c .before .before .loop-test .taken)
-    (sym (r .ensures P e) ∙ not-true (r .result) (c .if1 .taken))
+    (sym (r .ensures ∙ e _) ∙ not-true (r .result) (c .if1 .taken))
 
 loop-again : tie.Need-loop-again Inv-loop μ-loop
 unfolding booleanOf
 loop-again c =
-    let a = c .before .before .before .before .before .args in let l = c .before .before .before .loop in let r = c .before .boolean-fact in (
+    let a = c .before .before .before .before .before .args in let l = c .before .before .before .loop in let r = c .before .contains in (
       omega arith,
       l .inv .1,
       l .inv .2,
       λ P C e.
           one-sound (λ b. paper.booleanFact P (b .fact)) booleanOf (a .t2 .items) (a .t2 .count) _ (l .inv .2) (a .first) C (l .k) (l .inv .3 P C e) _ (c .before .before .loop-test .taken)
-          (sym (r .ensures P e) ∙ not-false (r .result) (c .if1 .left)),
+          (sym (r .ensures ∙ e _) ∙ not-false (r .result) (c .if1 .left)),
     )
 
 returns-2 : tie.Need-returns-2 Inv-loop μ-loop

@@ -69,39 +69,39 @@ boolean-faults-requires c κs = omega (arith, c .before .before .count-case .ens
 returns : tie.Need-returns
 unfolding planOf
 returns c =
-    let a = c .before .before .before .before .before .before .before .before .args in let n = c .before .before .before .before .before .count-case in
-    boolean-refused (planOf (a .plan)) (a .case) (n .result) (n .ensures .0) (c .enum-told2 .given .1) (c .before .before .boolean-faults .ensures (planOf (a .plan)) (caseOf (a .case)) refl)
+    let a = c .before .before .before .before .before .before .before .before .before .before .before .args in let n = c .before .before .before .before .before .count-case in let b = c .before .before .before .before .before .before .before .before .boolean-facts in
+    boolean-refused (planOf (a .plan)) (a .case) (n .result) (n .ensures .0) (c .enum-told2 .given .1) (c .before .before .boolean-faults .ensures (planOf (a .plan)) (caseOf (a .case)) (b .ensures (planOf (a .plan)) refl))
 
 add-at-relations : tie.Need-add-at-relations
 add-at-relations c = omega (arith, c .before .before .before .before .before .before .count-case .ensures .1)
 
 relation-faults-requires : tie.Need-relation-faults-requires
-relation-faults-requires c κs = omega (arith, c .before .before .before .before .before .before .before .before .count-case .ensures .1)
+relation-faults-requires c κs = omega (arith, c .before .before .before .before .before .before .before .count-case .ensures .1)
 
 returns-2 : tie.Need-returns-2
 unfolding planOf caseOf
 returns-2 c =
-    let a = c .before .before .before .before .before .before .before .before .before .before .before .before .before .before .args in let n = c .before .before .before .before .before .before .before .before .before .before .before .count-case in
-    over-booleans (planOf (a .plan)) (a .case) (n .result) (n .ensures .0) (c .before .before .before .before .before .before .enum-told .given .1) (c .before .before .before .before .before .before .before .before .boolean-faults .ensures (planOf (a .plan)) (caseOf (a .case)) refl)
-    (relation-refused (planOf (a .plan)) (a .case) (n .result) (n .ensures .0) (c .enum-told4 .given .1) (c .before .before .relation-faults .ensures (planOf (a .plan)) (caseOf (a .case)) refl refl))
+    let a = c .before .before .before .before .before .before .before .before .before .before .before .before .before .before .before .before .args in let n = c .before .before .before .before .before .before .before .before .before .before .count-case in let b = c .before .before .before .before .before .before .before .before .before .before .before .before .before .boolean-facts in let r = c .before .before .before .before .before .before .before .before .before .before .before .before .relation-facts in
+    over-booleans (planOf (a .plan)) (a .case) (n .result) (n .ensures .0) (c .before .before .before .before .before .enum-told .given .1) (c .before .before .before .before .before .before .before .boolean-faults .ensures (planOf (a .plan)) (caseOf (a .case)) (b .ensures (planOf (a .plan)) refl))
+    (relation-refused (planOf (a .plan)) (a .case) (n .result) (n .ensures .0) (c .enum-told4 .given .1) (c .before .before .relation-faults .ensures (planOf (a .plan)) (caseOf (a .case)) (r .ensures (planOf (a .plan)) (caseOf (a .case)) refl refl)))
 
 add-constraint-faults : tie.Need-add-constraint-faults
-add-constraint-faults c = omega (arith, c .before .before .before .before .before .before .before .before .before .before .before .before .before .count-case .ensures .1)
+add-constraint-faults c = omega (arith, c .before .before .before .before .before .before .before .before .before .before .before .before .count-case .ensures .1)
 
 constraint-faults-requires : tie.Need-constraint-faults-requires
-constraint-faults-requires c κs = omega (arith, c .before .before .before .before .before .before .before .before .before .before .before .before .before .count-case .ensures .1)
+constraint-faults-requires c κs = omega (arith, c .before .before .before .before .before .before .before .before .before .before .before .before .count-case .ensures .1)
 
 returns-3 : tie.Need-returns-3
 unfolding planOf caseOf
 returns-3 c =
-    let a = c .before .before .before .before .before .before .before .before .before .before .before .before .before .before .before .before .before .args in let n = c .before .before .before .before .before .before .before .before .before .before .before .before .before .before .count-case in
-    over-booleans (planOf (a .plan)) (a .case) (n .result) (n .ensures .0) (c .before .before .before .before .before .before .before .before .before .enum-told .given .1) (c .before .before .before .before .before .before .before .before .before .before .before .boolean-faults .ensures (planOf (a .plan)) (caseOf (a .case)) refl)
-    (over-relations (planOf (a .plan)) (a .case) (n .result) (n .ensures .0) (c .before .before .before .enum-told3 .given .1) (c .before .before .before .before .before .relation-faults .ensures (planOf (a .plan)) (caseOf (a .case)) refl refl)
-    (c .constraint-faults .ensures (planOf (a .plan)) (caseOf (a .case)) (c .before .before .before .before .before .before .before .before .before .before .before .before .before .before .before .count-records .ensures .0 .nodes)))
+    let a = c .before .before .before .before .before .before .before .before .before .before .before .before .before .before .before .before .before .before .before .args in let n = c .before .before .before .before .before .before .before .before .before .before .before .before .before .count-case in let b = c .before .before .before .before .before .before .before .before .before .before .before .before .before .before .before .before .boolean-facts in let r = c .before .before .before .before .before .before .before .before .before .before .before .before .before .before .before .relation-facts in
+    over-booleans (planOf (a .plan)) (a .case) (n .result) (n .ensures .0) (c .before .before .before .before .before .before .before .before .enum-told .given .1) (c .before .before .before .before .before .before .before .before .before .before .boolean-faults .ensures (planOf (a .plan)) (caseOf (a .case)) (b .ensures (planOf (a .plan)) refl))
+    (over-relations (planOf (a .plan)) (a .case) (n .result) (n .ensures .0) (c .before .before .before .enum-told3 .given .1) (c .before .before .before .before .before .relation-faults .ensures (planOf (a .plan)) (caseOf (a .case)) (r .ensures (planOf (a .plan)) (caseOf (a .case)) refl refl))
+    (c .constraint-faults .ensures (planOf (a .plan)) (caseOf (a .case)) (c .before .before .before .before .before .before .before .before .before .before .before .before .before .before .count-records .ensures .0 .nodes)))
 
 pub case-naming-spec : {M : Type 1} → statement M
 case-naming-spec =
     tie.close
-    (tie.spec (λ c κs. search needs) (λ c κs. search needs) add-at-booleans boolean-faults-requires
+    (tie.spec (λ c κs. search needs) (λ c κs. search needs) (λ c κs. search needs) (λ c κs. search needs) add-at-booleans boolean-faults-requires
     (λ c. search needs) (λ c. search needs) returns add-at-relations relation-faults-requires (λ c. search needs)
     (λ c. search needs) returns-2 add-constraint-faults constraint-faults-requires returns-3)

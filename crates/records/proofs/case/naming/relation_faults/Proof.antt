@@ -8,48 +8,50 @@ use lib.ListN.{length, length-map, take}
 use borrow.Author.Needs.{needs}
 use borrow.Author.Tests.{not-true, not-false}
 use Rattle.records.specs.paper.Plan as paper
-use Rattle.records.specs.code.Decoded.{relationOf, factsOf, familiesOf}
+use Rattle.records.specs.code.Decoded.{relationOf}
 use Rattle.records.specs.paper.Case as case
-use Rattle.records.specs.code.CaseNamed.{relationFaults}
+use Rattle.records.specs.code.CaseNamed.{MarksRelations, relationFaults}
 use Rattle.records.proofs.ListLaws.{length-front}
 use Rattle.records.proofs.FaultLaws.{NoneYet, none-yet, one-faulty, one-sound, none-left}
 use Rattle.records.proofs.case.naming.relation_faults.Statement.{statement}
 use Rattle.records.proofs.case.naming.relation_faults.Tie as tie
 
 abbrev Inv-loop : tie.InvT-loop
-Inv-loop facts families first relations count k₀ k =
-    (k ≤ count) × (count ≤ 256) × (count ≡ length (map relationOf (take (relations .count) (relations .items)))) × ((P : paper.Plan) (C : case.Case) → factsOf facts ≡ P .facts → familiesOf families ≡ C .families → NoneYet first (relationFaults P C relations) C k)
+Inv-loop set first relations count k₀ k =
+    (k ≤ count) × (count ≤ 256) × (count ≡ length (map relationOf (take (relations .count) (relations .items)))) × ((P : paper.Plan) (C : case.Case) → MarksRelations P C set → NoneYet first (relationFaults P C relations) C k)
 
 abbrev μ-loop : tie.MeasureT-loop
-μ-loop facts families first relations count k₀ k = count - k
+μ-loop set first relations count k₀ k = count - k
 
 loop-holds : tie.Need-loop-holds Inv-loop μ-loop
 loop-holds c =
-    let x = c .before .args .t3 in
-    let long : length (x .items) ≡ 256 = simp length-map at (c .before .good .1 .1 .0 .1 .1 .1 .0 .1 .0 .1) in
-    (omega arith, omega (arith, c .least .ensures, min-le-right (x .count) 256), c .least .ensures ∙ sym (length-front relationOf (x .items) (x .count) 256 long), λ P C e h. none-yet (c .before .args .first) (relationFaults P C x) C)
+    let x = c .before .args .t2 in
+    let long : length (x .items) ≡ 256 = simp length-map at (c .before .good .1 .0 .1 .1 .1 .0 .1 .0 .1) in
+    (omega arith, omega (arith, c .least .ensures, min-le-right (x .count) 256), c .least .ensures ∙ sym (length-front relationOf (x .items) (x .count) 256 long), λ P C e. none-yet (c .before .args .first) (relationFaults P C x) C)
 
 returns : tie.Need-returns Inv-loop μ-loop
+unfolding relationOf
 returns c =
-    let a = c .before .before .before .before .before .before .args in let l = c .before .before .before .before .loop in let r = c .before .relation-sound in λ P C e h.
-    one-faulty (case.relationSound P C) relationOf (a .t3 .items) (a .t3 .count) _ (l .inv .2) (a .first) C (l .k) (l .inv .3 P C e h) _ (c .before .before .before .loop-test .taken)
-    (sym (r .ensures P C e h) ∙ not-true (r .result) (c .if1 .taken))
+    let a = c .before .before .before .before .before .args in let l = c .before .before .before .loop in let r = c .before .contains in λ P C e.
+    one-faulty (case.relationSound P C) relationOf (a .t2 .items) (a .t2 .count) _ (l .inv .2) (a .first) C (l .k) (l .inv .3 P C e) _ (c .before .before .loop-test .taken)
+    (sym (r .ensures ∙ e (relationOf _)) ∙ not-true (r .result) (c .if1 .taken))
 
 loop-again : tie.Need-loop-again Inv-loop μ-loop
+unfolding relationOf
 loop-again c =
-    let a = c .before .before .before .before .before .before .args in let l = c .before .before .before .before .loop in let r = c .before .relation-sound in (
+    let a = c .before .before .before .before .before .args in let l = c .before .before .before .loop in let r = c .before .contains in (
       omega arith,
       l .inv .1,
       l .inv .2,
-      λ P C e h.
-          one-sound (case.relationSound P C) relationOf (a .t3 .items) (a .t3 .count) _ (l .inv .2) (a .first) C (l .k) (l .inv .3 P C e h) _ (c .before .before .before .loop-test .taken)
-          (sym (r .ensures P C e h) ∙ not-false (r .result) (c .if1 .left)),
+      λ P C e.
+          one-sound (case.relationSound P C) relationOf (a .t2 .items) (a .t2 .count) _ (l .inv .2) (a .first) C (l .k) (l .inv .3 P C e) _ (c .before .before .loop-test .taken)
+          (sym (r .ensures ∙ e (relationOf _)) ∙ not-false (r .result) (c .if1 .left)),
     )
 
 returns-2 : tie.Need-returns-2 Inv-loop μ-loop
 returns-2 c =
-    let a = c .before .before .before .args in let l = c .before .loop in λ P C e h.
-    none-left (case.relationSound P C) relationOf (a .t3 .items) (a .t3 .count) _ (l .inv .2) (a .first) C (l .k) (l .inv .3 P C e h) (c .loop-test .left)
+    let a = c .before .before .before .args in let l = c .before .loop in λ P C e.
+    none-left (case.relationSound P C) relationOf (a .t2 .items) (a .t2 .count) _ (l .inv .2) (a .first) C (l .k) (l .inv .3 P C e) (c .loop-test .left)
 
 pub relation-faults-spec : {M : Type 1} → statement M
 relation-faults-spec =

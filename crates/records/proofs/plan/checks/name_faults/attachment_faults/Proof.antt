@@ -8,19 +8,19 @@ use lib.ListN.{length, length-map, take}
 use borrow.Author.Needs.{needs}
 use borrow.Author.Tests.{not-true, not-false}
 use Rattle.records.specs.paper.Plan as paper
-use Rattle.records.specs.code.Decoded.{attachmentOf, factsOf}
-use Rattle.records.specs.code.Named.{attachmentFaults}
+use Rattle.records.specs.code.Decoded.{attachmentOf}
+use Rattle.records.specs.code.Named.{MarksBooleans, attachmentFaults}
 use Rattle.records.proofs.ListLaws.{length-front}
 use Rattle.records.proofs.FaultLaws.{NoneYet, none-yet, one-faulty, one-sound, none-left}
 use Rattle.records.proofs.plan.checks.name_faults.attachment_faults.Statement.{statement}
 use Rattle.records.proofs.plan.checks.name_faults.attachment_faults.Tie as tie
 
 abbrev Inv-loop : tie.InvT-loop
-Inv-loop facts nodes first attachments count k₀ k =
-    (k ≤ count) × (count ≤ 32) × (count ≡ length (map attachmentOf (take (attachments .count) (attachments .items)))) × ((P : paper.Plan) → factsOf facts ≡ P .facts → nodes ≡ length (P .nodes) → NoneYet first (attachmentFaults P attachments) P k)
+Inv-loop booleans nodes first attachments count k₀ k =
+    (k ≤ count) × (count ≤ 32) × (count ≡ length (map attachmentOf (take (attachments .count) (attachments .items)))) × ((P : paper.Plan) → MarksBooleans P booleans → nodes ≡ length (P .nodes) → NoneYet first (attachmentFaults P attachments) P k)
 
 abbrev μ-loop : tie.MeasureT-loop
-μ-loop facts nodes first attachments count k₀ k = count - k
+μ-loop booleans nodes first attachments count k₀ k = count - k
 
 loop-holds : tie.Need-loop-holds Inv-loop μ-loop
 loop-holds c =

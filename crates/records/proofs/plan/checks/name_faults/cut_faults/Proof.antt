@@ -8,19 +8,19 @@ use lib.ListN.{length, length-map, take}
 use borrow.Author.Needs.{needs}
 use borrow.Author.Tests.{not-true, not-false}
 use Rattle.records.specs.paper.Plan as paper
-use Rattle.records.specs.code.Decoded.{cutOf, factsOf}
-use Rattle.records.specs.code.Named.{cutFaults, CountsOf}
+use Rattle.records.specs.code.Decoded.{cutOf}
+use Rattle.records.specs.code.Named.{MarksBooleans, cutFaults, CountsOf}
 use Rattle.records.proofs.ListLaws.{length-front}
 use Rattle.records.proofs.FaultLaws.{NoneYet, none-yet, one-faulty, one-sound, none-left}
 use Rattle.records.proofs.plan.checks.name_faults.cut_faults.Statement.{statement}
 use Rattle.records.proofs.plan.checks.name_faults.cut_faults.Tie as tie
 
 abbrev Inv-loop : tie.InvT-loop
-Inv-loop facts counts first cuts count k₀ k =
-    (k ≤ count) × (count ≤ 16) × (count ≡ length (map cutOf (take (cuts .count) (cuts .items)))) × ((P : paper.Plan) → factsOf facts ≡ P .facts → CountsOf P counts → NoneYet first (cutFaults P cuts) P k)
+Inv-loop booleans counts first cuts count k₀ k =
+    (k ≤ count) × (count ≤ 16) × (count ≡ length (map cutOf (take (cuts .count) (cuts .items)))) × ((P : paper.Plan) → MarksBooleans P booleans → CountsOf P counts → NoneYet first (cutFaults P cuts) P k)
 
 abbrev μ-loop : tie.MeasureT-loop
-μ-loop facts counts first cuts count k₀ k = count - k
+μ-loop booleans counts first cuts count k₀ k = count - k
 
 loop-holds : tie.Need-loop-holds Inv-loop μ-loop
 loop-holds c =

@@ -93,91 +93,91 @@ module _ (p : Plan) (n : Counts) (h : CountsOf (planOf p) n) where
     over-bars is z = kind-passed at-bars (at-bars + n .bars) (barFaults P (p .bars)) (statusFaults P (p .statuses)) P r long-bars is e z
 
 add-at-nodes : tie.Need-add-at-nodes
-add-at-nodes c = omega (arith, c .before .before .count-records .ensures .1)
+add-at-nodes c = omega (arith, c .before .count-records .ensures .1)
 
 node-faults-requires : tie.Need-node-faults-requires
-node-faults-requires c κs = omega (arith, c .before .before .before .count-records .ensures .1)
+node-faults-requires c κs = omega (arith, c .before .before .count-records .ensures .1)
 
 returns : tie.Need-returns
 unfolding planOf
 returns c =
-    let p = c .before .before .before .before .before .before .before .args .plan in let n = c .before .before .before .before .before .before .count-records in
+    let p = c .before .before .before .before .before .before .before .before .args .plan in let n = c .before .before .before .before .before .count-records in
     (all p (n .result) (n .ensures .0) (kind-refused (at-nodes p (n .result) (n .ensures .0)) (at-edges p (n .result) (n .ensures .0)) (nodeFaults (planOf p) (p .nodes)) (from-edges p (n .result) (n .ensures .0)) (planOf p) (c .before .before .node-faults .result) (long-nodes p (n .result) (n .ensures .0)) (c .before .before .node-faults .ensures (planOf p) (n .ensures .0 .facts)) (c .enum-told2 .given .1)))
 
 add-at-edges : tie.Need-add-at-edges
-add-at-edges c = omega (arith, c .before .before .before .before .before .before .before .count-records .ensures .1)
+add-at-edges c = omega (arith, c .before .before .before .before .before .before .count-records .ensures .1)
 
 edge-faults-requires : tie.Need-edge-faults-requires
-edge-faults-requires c κs = omega (arith, c .before .before .before .before .before .before .before .before .count-records .ensures .1)
+edge-faults-requires c κs = omega (arith, c .before .before .before .before .before .before .before .count-records .ensures .1)
 
 returns-2 : tie.Need-returns-2
 unfolding planOf
 returns-2 c =
-    let p = c .before .before .before .before .before .before .before .before .before .before .before .before .args .plan in let n = c .before .before .before .before .before .before .before .before .before .before .before .count-records in
+    let p = c .before .before .before .before .before .before .before .before .before .before .before .before .before .args .plan in let n = c .before .before .before .before .before .before .before .before .before .before .count-records in
     (over-nodes p (n .result) (n .ensures .0) (c .before .before .before .before .before .enum-told .given .1) (c .before .before .before .before .before .before .before .node-faults .ensures (planOf p) (n .ensures .0 .facts)) (kind-refused (at-edges p (n .result) (n .ensures .0)) (at-cuts p (n .result) (n .ensures .0)) (edgeFaults (planOf p) (p .edges)) (from-cuts p (n .result) (n .ensures .0)) (planOf p) (c .before .before .edge-faults .result) (long-edges p (n .result) (n .ensures .0)) (c .before .before .edge-faults .ensures (planOf p) (n .ensures .0 .nodes)) (c .enum-told4 .given .1)))
 
 add-at-cuts : tie.Need-add-at-cuts
-add-at-cuts c = omega (arith, c .before .before .before .before .before .before .before .before .before .before .before .before .count-records .ensures .1)
+add-at-cuts c = omega (arith, c .before .before .before .before .before .before .before .before .before .before .before .count-records .ensures .1)
 
 cut-faults-requires : tie.Need-cut-faults-requires
-cut-faults-requires c κs = omega (arith, c .before .before .before .before .before .before .before .before .before .before .before .before .before .count-records .ensures .1)
+cut-faults-requires c κs = omega (arith, c .before .before .before .before .before .before .before .before .before .before .before .before .count-records .ensures .1)
 
 returns-3 : tie.Need-returns-3
 unfolding planOf
 returns-3 c =
-    let p = c .before .before .before .before .before .before .before .before .before .before .before .before .before .before .before .before .before .args .plan in let n = c .before .before .before .before .before .before .before .before .before .before .before .before .before .before .before .before .count-records in
+    let p = c .before .before .before .before .before .before .before .before .before .before .before .before .before .before .before .before .before .before .args .plan in let n = c .before .before .before .before .before .before .before .before .before .before .before .before .before .before .before .count-records in let m = c .before .before .before .before .before .before .before .before .before .before .before .before .before .before .before .before .boolean-facts in
     (over-nodes p (n .result) (n .ensures .0) (c .before .before .before .before .before .before .before .before .before .before .enum-told .given .1) (c .before .before .before .before .before .before .before .before .before .before .before .before .node-faults .ensures (planOf p) (n .ensures .0 .facts))
-    (over-edges p (n .result) (n .ensures .0) (c .before .before .before .before .before .enum-told3 .given .1) (c .before .before .before .before .before .before .before .edge-faults .ensures (planOf p) (n .ensures .0 .nodes)) (kind-refused (at-cuts p (n .result) (n .ensures .0)) (at-attachments p (n .result) (n .ensures .0)) (cutFaults (planOf p) (p .cuts)) (from-attachments p (n .result) (n .ensures .0)) (planOf p) (c .before .before .cut-faults .result) (long-cuts p (n .result) (n .ensures .0)) (c .before .before .cut-faults .ensures (planOf p) refl (n .ensures .0)) (c .enum-told6 .given .1))))
+    (over-edges p (n .result) (n .ensures .0) (c .before .before .before .before .before .enum-told3 .given .1) (c .before .before .before .before .before .before .before .edge-faults .ensures (planOf p) (n .ensures .0 .nodes)) (kind-refused (at-cuts p (n .result) (n .ensures .0)) (at-attachments p (n .result) (n .ensures .0)) (cutFaults (planOf p) (p .cuts)) (from-attachments p (n .result) (n .ensures .0)) (planOf p) (c .before .before .cut-faults .result) (long-cuts p (n .result) (n .ensures .0)) (c .before .before .cut-faults .ensures (planOf p) (m .ensures (planOf p) refl) (n .ensures .0)) (c .enum-told6 .given .1))))
 
 add-at-attachments : tie.Need-add-at-attachments
-add-at-attachments c = omega (arith, c .before .before .before .before .before .before .before .before .before .before .before .before .before .before .before .before .before .count-records .ensures .1)
+add-at-attachments c = omega (arith, c .before .before .before .before .before .before .before .before .before .before .before .before .before .before .before .before .count-records .ensures .1)
 
 attachment-faults-requires : tie.Need-attachment-faults-requires
-attachment-faults-requires c κs = omega (arith, c .before .before .before .before .before .before .before .before .before .before .before .before .before .before .before .before .before .before .count-records .ensures .1)
+attachment-faults-requires c κs = omega (arith, c .before .before .before .before .before .before .before .before .before .before .before .before .before .before .before .before .before .count-records .ensures .1)
 
 returns-4 : tie.Need-returns-4
 unfolding planOf
 returns-4 c =
-    let p = c .before .before .before .before .before .before .before .before .before .before .before .before .before .before .before .before .before .before .before .before .before .before .args .plan in let n = c .before .before .before .before .before .before .before .before .before .before .before .before .before .before .before .before .before .before .before .before .before .count-records in
+    let p = c .before .before .before .before .before .before .before .before .before .before .before .before .before .before .before .before .before .before .before .before .before .before .before .args .plan in let n = c .before .before .before .before .before .before .before .before .before .before .before .before .before .before .before .before .before .before .before .before .count-records in let m = c .before .before .before .before .before .before .before .before .before .before .before .before .before .before .before .before .before .before .before .before .before .boolean-facts in
     (over-nodes p (n .result) (n .ensures .0) (c .before .before .before .before .before .before .before .before .before .before .before .before .before .before .before .enum-told .given .1) (c .before .before .before .before .before .before .before .before .before .before .before .before .before .before .before .before .before .node-faults .ensures (planOf p) (n .ensures .0 .facts))
     (over-edges p (n .result) (n .ensures .0) (c .before .before .before .before .before .before .before .before .before .before .enum-told3 .given .1) (c .before .before .before .before .before .before .before .before .before .before .before .before .edge-faults .ensures (planOf p) (n .ensures .0 .nodes))
-    (over-cuts p (n .result) (n .ensures .0) (c .before .before .before .before .before .enum-told5 .given .1) (c .before .before .before .before .before .before .before .cut-faults .ensures (planOf p) refl (n .ensures .0)) (kind-refused (at-attachments p (n .result) (n .ensures .0)) (at-bars p (n .result) (n .ensures .0)) (attachmentFaults (planOf p) (p .attachments)) (from-bars p (n .result) (n .ensures .0)) (planOf p) (c .before .before .attachment-faults .result) (long-attachments p (n .result) (n .ensures .0)) (c .before .before .attachment-faults .ensures (planOf p) refl (n .ensures .0 .nodes)) (c .enum-told8 .given .1)))))
+    (over-cuts p (n .result) (n .ensures .0) (c .before .before .before .before .before .enum-told5 .given .1) (c .before .before .before .before .before .before .before .cut-faults .ensures (planOf p) (m .ensures (planOf p) refl) (n .ensures .0)) (kind-refused (at-attachments p (n .result) (n .ensures .0)) (at-bars p (n .result) (n .ensures .0)) (attachmentFaults (planOf p) (p .attachments)) (from-bars p (n .result) (n .ensures .0)) (planOf p) (c .before .before .attachment-faults .result) (long-attachments p (n .result) (n .ensures .0)) (c .before .before .attachment-faults .ensures (planOf p) (m .ensures (planOf p) refl) (n .ensures .0 .nodes)) (c .enum-told8 .given .1)))))
 
 add-at-bars : tie.Need-add-at-bars
-add-at-bars c = omega (arith, c .before .before .before .before .before .before .before .before .before .before .before .before .before .before .before .before .before .before .before .before .before .before .count-records .ensures .1)
+add-at-bars c = omega (arith, c .before .before .before .before .before .before .before .before .before .before .before .before .before .before .before .before .before .before .before .before .before .count-records .ensures .1)
 
 bar-faults-requires : tie.Need-bar-faults-requires
-bar-faults-requires c κs = omega (arith, c .before .before .before .before .before .before .before .before .before .before .before .before .before .before .before .before .before .before .before .before .before .before .before .count-records .ensures .1)
+bar-faults-requires c κs = omega (arith, c .before .before .before .before .before .before .before .before .before .before .before .before .before .before .before .before .before .before .before .before .before .before .count-records .ensures .1)
 
 returns-5 : tie.Need-returns-5
 unfolding planOf
 returns-5 c =
-    let p = c .before .before .before .before .before .before .before .before .before .before .before .before .before .before .before .before .before .before .before .before .before .before .before .before .before .before .before .args .plan in let n = c .before .before .before .before .before .before .before .before .before .before .before .before .before .before .before .before .before .before .before .before .before .before .before .before .before .before .count-records in
+    let p = c .before .before .before .before .before .before .before .before .before .before .before .before .before .before .before .before .before .before .before .before .before .before .before .before .before .before .before .before .args .plan in let n = c .before .before .before .before .before .before .before .before .before .before .before .before .before .before .before .before .before .before .before .before .before .before .before .before .before .count-records in let m = c .before .before .before .before .before .before .before .before .before .before .before .before .before .before .before .before .before .before .before .before .before .before .before .before .before .before .boolean-facts in
     (over-nodes p (n .result) (n .ensures .0) (c .before .before .before .before .before .before .before .before .before .before .before .before .before .before .before .before .before .before .before .before .enum-told .given .1) (c .before .before .before .before .before .before .before .before .before .before .before .before .before .before .before .before .before .before .before .before .before .before .node-faults .ensures (planOf p) (n .ensures .0 .facts))
     (over-edges p (n .result) (n .ensures .0) (c .before .before .before .before .before .before .before .before .before .before .before .before .before .before .before .enum-told3 .given .1) (c .before .before .before .before .before .before .before .before .before .before .before .before .before .before .before .before .before .edge-faults .ensures (planOf p) (n .ensures .0 .nodes))
-    (over-cuts p (n .result) (n .ensures .0) (c .before .before .before .before .before .before .before .before .before .before .enum-told5 .given .1) (c .before .before .before .before .before .before .before .before .before .before .before .before .cut-faults .ensures (planOf p) refl (n .ensures .0))
-    (over-attachments p (n .result) (n .ensures .0) (c .before .before .before .before .before .enum-told7 .given .1) (c .before .before .before .before .before .before .before .attachment-faults .ensures (planOf p) refl (n .ensures .0 .nodes)) (kind-refused (at-bars p (n .result) (n .ensures .0)) (at-bars p (n .result) (n .ensures .0) + n .result .bars) (barFaults (planOf p) (p .bars)) (statusFaults (planOf p) (p .statuses)) (planOf p) (c .before .before .bar-faults .result) (long-bars p (n .result) (n .ensures .0)) (c .before .before .bar-faults .ensures (planOf p) (n .ensures .0 .nodes)) (c .enum-told10 .given .1))))))
+    (over-cuts p (n .result) (n .ensures .0) (c .before .before .before .before .before .before .before .before .before .before .enum-told5 .given .1) (c .before .before .before .before .before .before .before .before .before .before .before .before .cut-faults .ensures (planOf p) (m .ensures (planOf p) refl) (n .ensures .0))
+    (over-attachments p (n .result) (n .ensures .0) (c .before .before .before .before .before .enum-told7 .given .1) (c .before .before .before .before .before .before .before .attachment-faults .ensures (planOf p) (m .ensures (planOf p) refl) (n .ensures .0 .nodes)) (kind-refused (at-bars p (n .result) (n .ensures .0)) (at-bars p (n .result) (n .ensures .0) + n .result .bars) (barFaults (planOf p) (p .bars)) (statusFaults (planOf p) (p .statuses)) (planOf p) (c .before .before .bar-faults .result) (long-bars p (n .result) (n .ensures .0)) (c .before .before .bar-faults .ensures (planOf p) (n .ensures .0 .nodes)) (c .enum-told10 .given .1))))))
 
 add-status-faults : tie.Need-add-status-faults
-add-status-faults c = omega (arith, c .before .before .before .before .before .before .before .before .before .before .before .before .before .before .before .before .before .before .before .before .before .before .before .before .before .before .before .before .count-records .ensures .1)
+add-status-faults c = omega (arith, c .before .before .before .before .before .before .before .before .before .before .before .before .before .before .before .before .before .before .before .before .before .before .before .before .before .before .before .count-records .ensures .1)
 
 status-faults-requires : tie.Need-status-faults-requires
-status-faults-requires c κs = omega (arith, c .before .before .before .before .before .before .before .before .before .before .before .before .before .before .before .before .before .before .before .before .before .before .before .before .before .before .before .before .count-records .ensures .1)
+status-faults-requires c κs = omega (arith, c .before .before .before .before .before .before .before .before .before .before .before .before .before .before .before .before .before .before .before .before .before .before .before .before .before .before .before .count-records .ensures .1)
 
 returns-6 : tie.Need-returns-6
 unfolding planOf
 returns-6 c =
-    let p = c .before .before .before .before .before .before .before .before .before .before .before .before .before .before .before .before .before .before .before .before .before .before .before .before .before .before .before .before .before .before .args .plan in let n = c .before .before .before .before .before .before .before .before .before .before .before .before .before .before .before .before .before .before .before .before .before .before .before .before .before .before .before .before .before .count-records in
+    let p = c .before .before .before .before .before .before .before .before .before .before .before .before .before .before .before .before .before .before .before .before .before .before .before .before .before .before .before .before .before .before .before .args .plan in let n = c .before .before .before .before .before .before .before .before .before .before .before .before .before .before .before .before .before .before .before .before .before .before .before .before .before .before .before .before .count-records in let m = c .before .before .before .before .before .before .before .before .before .before .before .before .before .before .before .before .before .before .before .before .before .before .before .before .before .before .before .before .before .boolean-facts in
     (over-nodes p (n .result) (n .ensures .0) (c .before .before .before .before .before .before .before .before .before .before .before .before .before .before .before .before .before .before .before .before .before .before .before .enum-told .given .1) (c .before .before .before .before .before .before .before .before .before .before .before .before .before .before .before .before .before .before .before .before .before .before .before .before .before .node-faults .ensures (planOf p) (n .ensures .0 .facts))
     (over-edges p (n .result) (n .ensures .0) (c .before .before .before .before .before .before .before .before .before .before .before .before .before .before .before .before .before .before .enum-told3 .given .1) (c .before .before .before .before .before .before .before .before .before .before .before .before .before .before .before .before .before .before .before .before .edge-faults .ensures (planOf p) (n .ensures .0 .nodes))
-    (over-cuts p (n .result) (n .ensures .0) (c .before .before .before .before .before .before .before .before .before .before .before .before .before .enum-told5 .given .1) (c .before .before .before .before .before .before .before .before .before .before .before .before .before .before .before .cut-faults .ensures (planOf p) refl (n .ensures .0))
-    (over-attachments p (n .result) (n .ensures .0) (c .before .before .before .before .before .before .before .before .enum-told7 .given .1) (c .before .before .before .before .before .before .before .before .before .before .attachment-faults .ensures (planOf p) refl (n .ensures .0 .nodes))
+    (over-cuts p (n .result) (n .ensures .0) (c .before .before .before .before .before .before .before .before .before .before .before .before .before .enum-told5 .given .1) (c .before .before .before .before .before .before .before .before .before .before .before .before .before .before .before .cut-faults .ensures (planOf p) (m .ensures (planOf p) refl) (n .ensures .0))
+    (over-attachments p (n .result) (n .ensures .0) (c .before .before .before .before .before .before .before .before .enum-told7 .given .1) (c .before .before .before .before .before .before .before .before .before .before .attachment-faults .ensures (planOf p) (m .ensures (planOf p) refl) (n .ensures .0 .nodes))
     (over-bars p (n .result) (n .ensures .0) (c .before .before .before .enum-told9 .given .1) (c .before .before .before .before .before .bar-faults .ensures (planOf p) (n .ensures .0 .nodes)) (c .status-faults .ensures (planOf p) (n .ensures .0 .nodes)))))))
 
 pub naming-spec : {M : Type 1} → statement M
 naming-spec =
     tie.close
-    (tie.spec (λ c κs. search needs) add-at-nodes node-faults-requires (λ c. search needs) (λ c. search needs) returns
+    (tie.spec (λ c κs. search needs) (λ c κs. search needs) add-at-nodes node-faults-requires (λ c. search needs) (λ c. search needs) returns
     add-at-edges edge-faults-requires (λ c. search needs) (λ c. search needs) returns-2 add-at-cuts
     cut-faults-requires (λ c. search needs) (λ c. search needs) returns-3 add-at-attachments
     attachment-faults-requires (λ c. search needs) (λ c. search needs) returns-4 add-at-bars bar-faults-requires
