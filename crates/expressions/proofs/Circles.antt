@@ -14,7 +14,7 @@ use Rattle.sets.proofs.Every.{all-parts}
 use Rattle.sets.proofs.BelowLaws.{in-below, in-only}
 use Rattle.expressions.specs.paper.Rules.{edgeCount, cutCount, attachmentCount, barCount, statusCount, factCount, edge, cut, attachment, bar, status, pair, withAnchor, ruleSets}
 use Rattle.expressions.specs.paper.Influence.{Frame, edgeUses, cutUses, attachmentUses, barUses, statusUses, usersOf, constraintUses, boundFacts, touched, touch, touches, decisionCount, decisionTouch, decisionTouches, joins, circle, touchesCircle}
-use Rattle.expressions.proofs.UnionLaws.{none-union, union-self}
+use Rattle.sets.proofs.UnionLaws.{none-union, union-self}
 
 -- ---- a circle that no rule crosses, of whatever persons
 

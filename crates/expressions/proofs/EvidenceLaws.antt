@@ -19,7 +19,7 @@ use Rattle.sets.proofs.Every.{all-then}
 use Rattle.expressions.specs.paper.Bindings.{observedInBooleans, observedInRelations, unknownIn, saidUnknown, evidenceOf}
 use Rattle.expressions.specs.code.Evident.{evidenceMark, booleanEvidence, Evident, EvidentBoolean, EvidentRelation, ReadCase}
 use Rattle.expressions.proofs.Rests.{below-next, below-none, made-next, made-none}
-use Rattle.expressions.proofs.UnionLaws.{union-none, union-append, union-agree, union-first, union-end, union-flat, set-union}
+use Rattle.sets.proofs.UnionLaws.{union-none, union-append, union-agree, union-first, union-end, union-flat, set-union}
 use Rattle.expressions.proofs.ListLaws.{changed-at, made-each}
 
 -- ---- the observations of a record

@@ -4,7 +4,6 @@ pub mod Follow
 pub mod Circles
 pub mod Similar
 pub mod ListLaws
-pub mod UnionLaws
 pub mod NodeLaws
 pub mod FitLaws
 pub mod RuleLaws
@@ -20,6 +19,5 @@ pub mod FamilyLaws
 pub mod FactLaws
 pub mod CountLaws
 pub mod FaultLaws
-pub mod MaskLaws
 pub mod ToldLaws
 pub mod SlotLaws

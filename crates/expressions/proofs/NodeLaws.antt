@@ -13,7 +13,7 @@ use Rattle.records.specs.declared.plan.Plan.{Plan}
 use Rattle.expressions.specs.paper.Nodes.{on, value, values, valuesFrom, uses, usesFrom, nodeUses}
 use Rattle.expressions.specs.code.Coded.{Holds, nodesOf}
 use Rattle.expressions.proofs.ListLaws.{all-agree, any-agree, holds-next}
-use Rattle.expressions.proofs.UnionLaws.{union-agree}
+use Rattle.sets.proofs.UnionLaws.{union-agree}
 
 -- ---- whether one of them is true, or false
 

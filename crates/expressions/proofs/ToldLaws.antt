@@ -33,7 +33,7 @@ use Rattle.expressions.proofs.SeenLaws.{look-bound, look-any}
 use Rattle.expressions.proofs.FamilyLaws.{family-none, family-some}
 use Rattle.expressions.proofs.ElectionLaws.{default-first}
 use Rattle.expressions.proofs.FactLaws.{binding-none, binding-boolean, binding-relation, Filled, filled-end}
-use Rattle.expressions.proofs.MaskLaws.{built, built-has}
+use Rattle.sets.proofs.MaskLaws.{built, built-has}
 
 swapped : {A : Type 0} (b : Bool) (x y : A) → cond (not b) x y ≡ cond b y x
 swapped true x y = refl

@@ -10,7 +10,7 @@ use Rattle.expressions.specs.paper.Influence.{Frame, usesAt, edgeUses, c
 use Rattle.expressions.specs.code.Listed.{cutUsed, heldByCut, attachmentUsed, barUsed, heldByBar, statusUsed, heldByStatus, joiningUses, ruleUses, personsByRule, usersIn, touchedBy, touchBy, touchesBy}
 use Rattle.expressions.specs.code.Coded.{Holds}
 use Rattle.expressions.proofs.ListLaws.{below-last}
-use Rattle.expressions.proofs.UnionLaws.{union-assoc, union-none, none-union, union-append}
+use Rattle.sets.proofs.UnionLaws.{union-assoc, union-none, none-union, union-append}
 use Rattle.expressions.proofs.RuleLaws.{below-list, rule-sets}
 
 abbrev itself : ℕ → ℕ

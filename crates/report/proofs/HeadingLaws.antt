@@ -13,7 +13,7 @@ use Rattle.expressions.specs.paper.Rules.{edgeCount, cutCount, attachmentCount,
 use Rattle.expressions.specs.code.Listed.{heldByStatus}
 use Rattle.expressions.proofs.ListLaws.{rest-next, made-length, made-at}
 use Rattle.expressions.proofs.RuleLaws.{below-list}
-use Rattle.expressions.proofs.UnionLaws.{union-assoc, union-append}
+use Rattle.sets.proofs.UnionLaws.{union-assoc, union-append}
 use Rattle.worlds.proofs.DiscretionLaws.{union-below}
 use Rattle.report.specs.paper.Line.{lineLength}
 use Rattle.report.specs.code.Opening.{itself}

@@ -3,6 +3,8 @@ pub mod Closing
 pub mod LoopLaws
 pub mod BelowLaws
 pub mod Every
+pub mod UnionLaws
+pub mod MaskLaws
 pub mod MemberLaws
 pub mod Rising
 pub mod Local

@@ -20,7 +20,7 @@ use Rattle.sets.proofs.MemberLaws.{members-same}
 use Rattle.expressions.specs.paper.Rules.{attachmentCount, attachment, rulePersons}
 use Rattle.expressions.specs.paper.Nodes.{on}
 use Rattle.expressions.specs.paper.Variables.{Influence}
-use Rattle.expressions.proofs.UnionLaws.{none-union, union-none, union-go}
+use Rattle.sets.proofs.UnionLaws.{none-union, union-none, union-go}
 use Rattle.worlds.specs.paper.Active.{Active}
 use Rattle.worlds.specs.paper.World.{State, Marks, marked, blockOf, keptCuts, firstState, move, attach, lastState, afterMarks, worldOf}
 use Rattle.worlds.specs.code.Over.{entry}

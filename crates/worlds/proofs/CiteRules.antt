@@ -15,7 +15,7 @@ use Rattle.sets.proofs.Closing.{in-one}
 use Rattle.sets.proofs.BelowLaws.{any-false, union-find, in-below, of-only, in-only}
 use Rattle.sets.proofs.MemberLaws.{member-at, member-place, members-length}
 use Rattle.sets.proofs.Local.{which, clash}
-use Rattle.expressions.proofs.UnionLaws.{union-none}
+use Rattle.sets.proofs.UnionLaws.{union-none}
 use Rattle.worlds.proofs.OverLaws.{members-none}
 use Rattle.worlds.proofs.CiteLaws.{both-ways, meets-in, meets-of, lowest-in, lowest-below}
 

@@ -12,7 +12,7 @@ use borrow.Author.Tests.{eqb-true, eqb-false, eq-eqb, ne-eqb}
 use Rattle.sets.specs.paper.Sets.{has, union, meets, subset, only, lowest, members}
 use Rattle.sets.proofs.SetLaws.{has-none, has-union, empty, in-union-l, in-union-r, ext, and-parts, subset-true}
 use Rattle.sets.proofs.Local.{which}
-use Rattle.expressions.proofs.UnionLaws.{union-none}
+use Rattle.sets.proofs.UnionLaws.{union-none}
 use Rattle.worlds.specs.code.Over.{entry}
 use Rattle.worlds.specs.code.Blocks.{Parted}
 use Rattle.worlds.specs.code.Citing.{CitesIn, far, CitedFor}

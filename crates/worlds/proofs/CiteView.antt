@@ -18,7 +18,7 @@ use Rattle.sets.proofs.Closing.{in-one}
 use Rattle.sets.proofs.LoopLaws.{all-at}
 use Rattle.sets.proofs.BelowLaws.{flag-set}
 use Rattle.sets.proofs.Local.{which}
-use Rattle.expressions.proofs.UnionLaws.{none-union, union-none, union-assoc}
+use Rattle.sets.proofs.UnionLaws.{none-union, union-none, union-assoc}
 use Rattle.expressions.specs.paper.Rules.{edgeCount, cutCount, attachmentCount, barCount, statusCount, edge, attachment, bar, status, pair}
 use Rattle.expressions.specs.paper.Nodes.{on}
 use Rattle.expressions.specs.paper.Variables.{Influence}

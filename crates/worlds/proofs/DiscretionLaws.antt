@@ -16,7 +16,7 @@ use Rattle.sets.proofs.BelowLaws.{union-find, in-below, of-only, closed-below}
 use Rattle.sets.proofs.LoopLaws.{getD-below}
 use Rattle.sets.proofs.Local.{which, clash}
 use Rattle.expressions.proofs.ListLaws.{below-last}
-use Rattle.expressions.proofs.UnionLaws.{union-append, union-none}
+use Rattle.sets.proofs.UnionLaws.{union-append, union-none}
 use Rattle.expressions.specs.paper.Rules.{edgeCount, edge, pair, chained, rulePersons}
 use Rattle.expressions.specs.paper.Nodes.{on}
 use Rattle.expressions.specs.paper.Variables.{Influence}

@@ -16,7 +16,7 @@ use Rattle.sets.specs.paper.Sets.{has, one, union, meet, minus, only, subset, s
 use Rattle.sets.proofs.SetLaws.{Within, has-none, has-one, has-meet, has-minus, ext, within-refl, along, in-union-l, in-union-r, of-union, of-minus, subset-true, within-subset, and-parts, and-not, ones-size}
 use Rattle.sets.proofs.Closing.{Closed, close-least, close-same, in-one, one-within}
 use Rattle.sets.proofs.Local.{which, clash}
-use Rattle.expressions.proofs.UnionLaws.{union-assoc, union-none}
+use Rattle.sets.proofs.UnionLaws.{union-assoc, union-none}
 use Rattle.worlds.specs.code.Over.{entry}
 use Rattle.worlds.specs.code.Classes.{Alone, ClassesBy, Joins, joinable}
 use Rattle.worlds.specs.code.Discretion.{near, cliqueBy, looseBy, Heads, LooseParts}

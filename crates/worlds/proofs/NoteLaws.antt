@@ -9,7 +9,7 @@ use lib.Dec.{eqb}
 use borrow.Author.Tests.{eqb-true, eqb-false, eq-eqb, ne-eqb}
 use Rattle.sets.specs.paper.Sets.{has, union, only, lowest, members, unionOf}
 use Rattle.sets.proofs.SetLaws.{has-none}
-use Rattle.expressions.proofs.UnionLaws.{union-none, union-first}
+use Rattle.sets.proofs.UnionLaws.{union-none, union-first}
 use Rattle.worlds.specs.code.Over.{entry}
 use Rattle.worlds.proofs.OverLaws.{union-twice}
 

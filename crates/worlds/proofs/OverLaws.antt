@@ -15,7 +15,7 @@ use lib.Count.{trailingZeros, under}
 use borrow.Author.Tests.{eqb-true, eqb-false, eq-eqb, ne-eqb}
 use Rattle.sets.specs.paper.Sets.{odd, has, one, union, minus, disjoint, meet, meets, lowest, when, members, membersFrom, anyOf, unionOf}
 use Rattle.sets.proofs.SetLaws.{has-zero, has-suc, has-none, has-and, has-minus, has-one, has-union, ext, of-union, in-union-l, in-union-r}
-use Rattle.expressions.proofs.UnionLaws.{union-assoc, union-self}
+use Rattle.sets.proofs.UnionLaws.{union-assoc, union-self}
 use Rattle.worlds.specs.code.Over.{entry}
 
 -- ---- m & (m - 1): all but the lowest

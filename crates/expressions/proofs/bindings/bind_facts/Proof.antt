@@ -11,8 +11,8 @@ use Rattle.sets.specs.paper.Sets.{has, one, union, only, unionBelow}
 use Rattle.records.specs.code.Decoded.{planOf, caseOf, familyOf}
 use Rattle.expressions.specs.code.Coded.{cutsOf, attachmentsOf}
 use Rattle.expressions.specs.code.Told.{TellsFact, bindingFrom, defaultFrom}
-use Rattle.expressions.proofs.UnionLaws.{joined-if, left-if}
-use Rattle.expressions.proofs.MaskLaws.{built, built-next}
+use Rattle.sets.proofs.UnionLaws.{joined-if, left-if}
+use Rattle.sets.proofs.MaskLaws.{built, built-next}
 use Rattle.expressions.proofs.FactLaws.{Filled, filled-none, filled-next}
 use Rattle.expressions.proofs.ToldLaws.{noFact, toldAt, codeAt, defaultAt, codes-made, defaults-made}
 use Rattle.expressions.proofs.bindings.bind_facts.Statement.{statement}

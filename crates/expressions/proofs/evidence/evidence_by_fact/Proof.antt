@@ -6,7 +6,7 @@ use Rattle.sets.specs.paper.Sets.{union, only, unionOf}
 use Rattle.records.specs.code.Decoded.{caseOf}
 use Rattle.expressions.specs.code.Evident.{evidenceMark, booleanEvidence}
 use Rattle.expressions.proofs.ListLaws.{filled-at}
-use Rattle.expressions.proofs.UnionLaws.{none-union}
+use Rattle.sets.proofs.UnionLaws.{none-union}
 use Rattle.expressions.proofs.EvidenceLaws.{evident-booleans, evident-relations, evidence-given}
 use Rattle.expressions.proofs.evidence.evidence_by_fact.Statement.{statement}
 use Rattle.expressions.proofs.evidence.evidence_by_fact.Tie as tie

@@ -3,7 +3,7 @@ use Prim.Native.Nat.{_≤_, _-_}
 use mathlib.Core.Path.{_≡_, refl, sym, ap, _∙_}
 use lib.ListN.{drop}
 use borrow.Author.Needs.{needs}
-use Rattle.expressions.proofs.UnionLaws.{union-first, union-end}
+use Rattle.sets.proofs.UnionLaws.{union-first, union-end}
 use Rattle.expressions.proofs.EvidenceLaws.{evident-at, observations-next, observations-none}
 use Rattle.expressions.specs.code.Evident.{evidenceMark}
 use Rattle.records.specs.code.Decoded.{observationsOf}

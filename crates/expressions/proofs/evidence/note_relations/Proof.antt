@@ -5,7 +5,7 @@ use lib.ListN.{length-map}
 use borrow.Author.Needs.{needs}
 use Rattle.records.specs.code.Decoded.{relationOf}
 use Rattle.expressions.specs.code.Evident.{evidenceMark, EvidentRelation}
-use Rattle.expressions.proofs.UnionLaws.{none-union}
+use Rattle.sets.proofs.UnionLaws.{none-union}
 use Rattle.expressions.proofs.EvidenceLaws.{Noting, noting-none, noting-each, noting-next, noting-end}
 use Rattle.expressions.proofs.evidence.note_relations.Statement.{statement}
 use Rattle.expressions.proofs.evidence.note_relations.Tie as tie

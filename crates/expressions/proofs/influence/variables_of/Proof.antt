@@ -10,8 +10,8 @@ use lib.ListN.{getD}
 use borrow.Author.Tests.{le-leb, lt-leb}
 use borrow.Author.Needs.{needs}
 use Rattle.sets.specs.paper.Sets.{has, one, union, only, unionBelow}
-use Rattle.expressions.proofs.UnionLaws.{joined-if, left-if}
-use Rattle.expressions.proofs.MaskLaws.{built, built-next, has-built}
+use Rattle.sets.proofs.UnionLaws.{joined-if, left-if}
+use Rattle.sets.proofs.MaskLaws.{built, built-next, has-built}
 use Rattle.expressions.proofs.influence.variables_of.Statement.{statement}
 use Rattle.expressions.proofs.influence.variables_of.Tie as tie
 

@@ -5,7 +5,7 @@ use lib.ListN.{length, drop, getD, drop-of-length-le}
 use borrow.Author.Needs.{needs}
 use Rattle.sets.specs.paper.Sets.{union, unionOf}
 use Rattle.expressions.proofs.ListLaws.{rest-next}
-use Rattle.expressions.proofs.UnionLaws.{union-first, union-end}
+use Rattle.sets.proofs.UnionLaws.{union-first, union-end}
 use Rattle.expressions.proofs.touch.bound_facts.Statement.{statement}
 use Rattle.expressions.proofs.touch.bound_facts.Tie as tie
 

@@ -2,16 +2,20 @@
 use Prim.Native.Nat.{ℕ, _+_, _≤_, _<_, _-_}
 use mathlib.Core.Path.{_≡_, sym, ap, ap₂, _∙_}
 use mathlib.Core.Logic.{⊎-elim}
-use mathlib.Core.List.{List}
+use mathlib.Core.List.{List, _∷_}
 use native.Mathlib.Omega.{arith}
 use lib.ListN.{length, drop, getD, drop-of-length-le}
 use borrow.Author.Needs.{needs}
 use Rattle.sets.specs.paper.Sets.{has, union, only}
 use Rattle.expressions.specs.code.Listed.{usersIn}
 use Rattle.expressions.proofs.ListLaws.{rest-next}
-use Rattle.expressions.proofs.UnionLaws.{users-go, union-none, none-union, joined-if, left-if}
+use Rattle.sets.proofs.UnionLaws.{union-assoc, union-none, none-union, joined-if, left-if}
 use Rattle.expressions.proofs.touch.users.Statement.{statement}
 use Rattle.expressions.proofs.touch.users.Tie as tie
+
+users-go : (f m n u p : ℕ) (us ps : List ℕ) → n ≡ union m (only (has u f) p) → union n (usersIn f us ps) ≡ union m (usersIn f (u ∷ us) (p ∷ ps))
+unfolding usersIn
+users-go f m n u p us ps e = ap (λ (x : ℕ). union x (usersIn f us ps)) e ∙ union-assoc m (only (has u f) p) (usersIn f us ps)
 
 abbrev Inv-loop : tie.InvT-loop
 Inv-loop uses persons f m₀ i₀ m i = (i ≤ length uses) × (union m (usersIn f (drop i uses) (drop i persons)) ≡ usersIn f uses persons)

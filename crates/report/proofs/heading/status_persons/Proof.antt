@@ -9,7 +9,7 @@ use Rattle.records.specs.code.Decoded.{statusOf}
 use Rattle.expressions.specs.code.Coded.{statusesOf, PersonFits}
 use Rattle.expressions.specs.code.Listed.{heldByStatus}
 use Rattle.expressions.proofs.ListLaws.{made-each}
-use Rattle.expressions.proofs.UnionLaws.{none-union, union-first, union-end}
+use Rattle.sets.proofs.UnionLaws.{none-union, union-first, union-end}
 use Rattle.report.proofs.HeadingLaws.{made-rest, made-end}
 use Rattle.report.proofs.heading.status_persons.Statement.{statement}
 use Rattle.report.proofs.heading.status_persons.Tie as tie

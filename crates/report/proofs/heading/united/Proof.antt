@@ -5,7 +5,7 @@ use lib.ListN.{length, drop, drop-of-length-le}
 use borrow.Author.Needs.{needs}
 use Rattle.sets.specs.paper.Sets.{union, unionOf}
 use Rattle.expressions.proofs.ListLaws.{rest-next}
-use Rattle.expressions.proofs.UnionLaws.{none-union, union-first, union-end}
+use Rattle.sets.proofs.UnionLaws.{none-union, union-first, union-end}
 use Rattle.report.specs.code.Opening.{itself}
 use Rattle.report.proofs.heading.united.Statement.{statement}
 use Rattle.report.proofs.heading.united.Tie as tie

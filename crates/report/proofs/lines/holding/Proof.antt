@@ -8,7 +8,7 @@ use lib.ListN.{length, getD}
 use borrow.Author.Needs.{needs}
 use denote.Ref.{now}
 use Rattle.sets.specs.paper.Sets.{has, one, only, union, unionBelow}
-use Rattle.expressions.proofs.UnionLaws.{joined-if, left-if}
+use Rattle.sets.proofs.UnionLaws.{joined-if, left-if}
 use Rattle.report.specs.paper.Line.{holding}
 use Rattle.report.proofs.lines.holding.Statement.{statement}
 use Rattle.report.proofs.lines.holding.Tie as tie

@@ -5,7 +5,7 @@ use Prim.Native.Nat.{ℕ}
 use Rattle.sets.specs.paper.Sets.{has, union}
 use Rattle.sets.proofs.SetLaws.{has-none}
 use Rattle.expressions.proofs.ListLaws.{filled-at}
-use Rattle.expressions.proofs.UnionLaws.{none-union}
+use Rattle.sets.proofs.UnionLaws.{none-union}
 use Rattle.worlds.specs.code.Citing.{ownOf}
 use Rattle.worlds.proofs.CiteTurns.{kept}
 use Rattle.worlds.proofs.CiteView.{cites-view}

@@ -4,7 +4,7 @@ use Prim.Native.Nat.{ℕ}
 use native.Mathlib.Omega.{arith}
 use borrow.Author.Needs.{needs}
 use Rattle.sets.specs.paper.Sets.{has, union, only, members}
-use Rattle.expressions.proofs.UnionLaws.{union-first, union-end}
+use Rattle.sets.proofs.UnionLaws.{union-first, union-end}
 use Rattle.worlds.specs.code.Over.{entry}
 use Rattle.worlds.specs.code.Tables.{row}
 use Rattle.worlds.specs.code.Citing.{ownOf}

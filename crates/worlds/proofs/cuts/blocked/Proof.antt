@@ -6,7 +6,7 @@ use native.Mathlib.Nat.{lt-trans}
 use native.Mathlib.Omega.{arith}
 use lib.ListN.{length, length-set}
 use Rattle.sets.specs.paper.Sets.{union, members}
-use Rattle.expressions.proofs.UnionLaws.{none-union, union-end}
+use Rattle.sets.proofs.UnionLaws.{none-union, union-end}
 use Rattle.worlds.specs.code.Tables.{row}
 use Rattle.worlds.specs.code.Cuts.{blockers, blockedTwins}
 use Rattle.worlds.proofs.OverLaws.{turn-has, members-none}

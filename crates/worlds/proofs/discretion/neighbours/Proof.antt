@@ -4,7 +4,7 @@ use mathlib.Core.List.{_∷_}
 use Prim.Native.Nat.{ℕ}
 use native.Mathlib.Omega.{arith}
 use Rattle.sets.specs.paper.Sets.{union, members}
-use Rattle.expressions.proofs.UnionLaws.{none-union}
+use Rattle.sets.proofs.UnionLaws.{none-union}
 use Rattle.expressions.proofs.ListLaws.{filled-at}
 use Rattle.worlds.specs.code.Over.{entry}
 use Rattle.worlds.specs.code.Discretion.{near}

@@ -4,7 +4,7 @@ use Prim.Native.Nat.{_<_, _^_}
 use native.Mathlib.Nat.{lt-trans}
 use native.Mathlib.Omega.{arith}
 use Rattle.sets.specs.paper.Sets.{union, members, unionOf}
-use Rattle.expressions.proofs.UnionLaws.{none-union, union-first, union-end}
+use Rattle.sets.proofs.UnionLaws.{none-union, union-first, union-end}
 use Rattle.worlds.specs.code.Over.{entry}
 use Rattle.worlds.proofs.OverLaws.{members-none}
 use Rattle.worlds.proofs.over.gather.Statement.{statement}

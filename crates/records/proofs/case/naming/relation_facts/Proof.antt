@@ -1,5 +1,5 @@
 -- A loop over the facts that gathers those that a relation record may name.
-use mathlib.Core.Path.{_≡_, sym, ap, ap₂, _∙_}
+use mathlib.Core.Path.{_≡_, refl, sym, ap, ap₂, _∙_}
 use mathlib.Core.Bool.{false, _&&_}
 use mathlib.Core.List.{List, []}
 use mathlib.Core.Logic.{⊎-elim}
@@ -10,29 +10,31 @@ use lib.Dec.{ltb}
 use lib.ListN.{length, getD, length-map}
 use borrow.Author.Needs.{needs}
 use borrow.Author.Tests.{not-true, not-false}
-use Rattle.sets.specs.paper.Sets.{union}
+use Rattle.sets.specs.paper.Sets.{has, union, unionBelow}
 use Rattle.records.specs.paper.Plan as paper
 use Rattle.records.specs.paper.Case as case
 use Rattle.records.specs.code.Decoded.{factOf, factsOf, familiesOf}
 use Rattle.records.specs.declared.plan.Fact.{Fact}
 use Rattle.records.proofs.ListLaws.{length-front}
 use Rattle.records.proofs.CaseFaults.{related, boolean-unrelated, family-related}
-use Rattle.records.proofs.MarkLaws.{Marked, none-marked, marked-in, marked-out, lets, lets-fact}
+use Rattle.sets.proofs.MaskLaws.{built, built-in, built-out, built-has}
+use Rattle.records.proofs.MarkLaws.{lets, lets-fact}
 use Rattle.records.proofs.case.naming.relation_facts.Statement.{statement}
 use Rattle.records.proofs.case.naming.relation_facts.Tie as tie
 
 abbrev Inv-loop : tie.InvT-loop
-Inv-loop families facts count m₀ k₀ m k = (k ≤ count) × (count ≤ 64) × (count ≡ length (factsOf facts)) × Marked (lets (related (familiesOf families)) facts) k m
+Inv-loop families facts count m₀ k₀ m k = (k ≤ count) × (count ≤ 64) × (count ≡ length (factsOf facts)) × (m ≡ built (lets (related (familiesOf families)) facts) k)
 
 abbrev μ-loop : tie.MeasureT-loop
 μ-loop families facts count m₀ k₀ m k = count - k
 
 loop-holds : tie.Need-loop-holds Inv-loop μ-loop
+unfolding unionBelow
 loop-holds c =
     let a = c .before .args in
     let x = a .t1 in
     let long : length (x .items) ≡ 64 = simp length-map at (c .before .good .0 .1 .1 .1 .0 .1 .0 .1) in
-    (omega arith, omega (arith, c .least .ensures, min-le-right (x .count) 64), c .least .ensures ∙ sym (length-front factOf (x .items) (x .count) 64 long), none-marked (lets (related (familiesOf (a .families))) x))
+    (omega arith, omega (arith, c .least .ensures, min-le-right (x .count) 64), c .least .ensures ∙ sym (length-front factOf (x .items) (x .count) 64 long), refl)
 
 loop-again : tie.Need-loop-again Inv-loop μ-loop
 loop-again c =
@@ -49,8 +51,8 @@ loop-again c =
       l .inv .1,
       l .inv .2,
       ⊎-elim
-          (λ w. marked-in (lets (related ms) x) (l .k) (l .m) _ (l .inv .3) (w .5 ∙ w .4 .ensures ∙ ap (union (l .m)) (w .3 .ensures)) (at ∙ family-related ms y (not-true (y .boolean) (w .0 .taken)) ∙ sym (w .1 .ensures) ∙ w .2 .taken))
-          (λ w. marked-out (lets (related ms) x) (l .k) (l .m) _ (l .inv .3) (w .1)
+          (λ w. built-in (lets (related ms) x) (l .k) (l .inv .3) (w .5 ∙ w .4 .ensures ∙ ap (union (l .m)) (w .3 .ensures)) (at ∙ family-related ms y (not-true (y .boolean) (w .0 .taken)) ∙ sym (w .1 .ensures) ∙ w .2 .taken))
+          (λ w. built-out (lets (related ms) x) (l .k) (l .inv .3) (w .1)
           (⊎-elim (λ v. at ∙ family-related ms y (not-true (y .boolean) (v .0 .taken)) ∙ sym (v .1 .ensures) ∙ v .2 .left) (λ v. at ∙ boolean-unrelated ms y (not-false (y .boolean) (v .left))) (w .0 .came)))
           (c .if1 .came),
     )
@@ -63,7 +65,7 @@ returns c = λ P C e h y.
     let x = a .t1 in
     let f = y .fact in
     let z : l .k ≡ length (factsOf x) = omega (arith, l .inv .2, c .loop-test .left) in
-    l .inv .3 f ∙ ap (λ (n : ℕ). ltb f n && lets (related (familiesOf (a .families))) x f) z ∙ ap₂ (λ (ys : List paper.Fact) (ms : List case.Family). ltb f (length ys) && related ms (getD ys f (record { family = []; tuple = [] }))) e h
+    ap (λ (m : ℕ). has m f) (l .inv .3 ∙ ap (built (lets (related (familiesOf (a .families))) x)) z) ∙ built-has (lets (related (familiesOf (a .families))) x) (length (factsOf x)) f ∙ ap₂ (λ (ys : List paper.Fact) (ms : List case.Family). ltb f (length ys) && related ms (getD ys f (record { family = []; tuple = [] }))) e h
 
 pub relation-facts-spec : {M : Type 1} → statement M
 relation-facts-spec =

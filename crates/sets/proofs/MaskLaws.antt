@@ -8,8 +8,9 @@ use native.Mathlib.Numerals.{add-one}
 use native.Mathlib.Omega.{arith}
 use lib.Dec.{ltb}
 use borrow.Author.Tests.{eq-eqb, ne-eqb, lt-ltb, le-ltb}
 use Rattle.sets.specs.paper.Sets.{has, one, union, only, unionBelow}
+use Rattle.sets.proofs.UnionLaws.{joined-if, left-if}
 use Rattle.sets.proofs.SetLaws.{has-union, has-none, has-one, lt-or-le}
 
 module _ (b : ℕ → Bool) where
   abbrev pub built : ℕ → ℕ
@@ -19,7 +20,15 @@ module _ (b : ℕ → Bool) where
   unfolding unionBelow
   built-next n = ap (λ (k : ℕ). built k) (add-one n)
 
-  -- a person other than the one tested
+  -- the two turns of a loop: its number comes in, or stays out
+  module _ (n : ℕ) {m t : ℕ} (e : m ≡ built n) where
+    pub built-in : t ≡ union m (one n) → b n ≡ true → t ≡ built (n + 1)
+    built-in h y = h ∙ ap (λ (x : ℕ). union x (one n)) e ∙ joined-if (built n) (one n) (b n) y ∙ sym (built-next n)
+
+    pub built-out : t ≡ m → b n ≡ false → t ≡ built (n + 1)
+    built-out h y = h ∙ e ∙ left-if (built n) (one n) (b n) y ∙ sym (built-next n)
+
+  -- a number other than the one tested
   other : (n p : ℕ) → (n ≡ p → ⊥) → has (only (b n) (one n)) p ≡ false
   other n p h = pick (b n)
     where

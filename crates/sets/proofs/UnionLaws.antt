@@ -3,9 +3,8 @@ use Prim.Native.Nat.{ℕ}
 use mathlib.Core.Path.{_≡_, refl, sym, ap, ap₂, _∙_}
 use mathlib.Core.Bool.{Bool, true, false, _||_, or-assoc, or-false, or-self}
 use mathlib.Core.List.{List, [], _∷_, _++_, flatMap}
 use Rattle.sets.specs.paper.Sets.{has, one, union, only, setOf, unionOf}
 use Rattle.sets.proofs.SetLaws.{ext, has-union, has-none}
-use Rattle.expressions.specs.code.Listed.{usersIn}
 
 pub union-assoc : (a b c : ℕ) → union (union a b) c ≡ union a (union b c)
 union-assoc a b c =
@@ -64,7 +63,3 @@ joined-if m p b e = ap (λ (x : Bool). union m (only x p)) (sym e)
 
 pub left-if : (m p : ℕ) (b : Bool) → b ≡ false → m ≡ union m (only b p)
 left-if m p b e = sym (union-none m) ∙ ap (λ (x : Bool). union m (only x p)) (sym e)
-
-pub users-go : (f m n u p : ℕ) (us ps : List ℕ) → n ≡ union m (only (has u f) p) → union n (usersIn f us ps) ≡ union m (usersIn f (u ∷ us) (p ∷ ps))
-unfolding usersIn
-users-go f m n u p us ps e = ap (λ (x : ℕ). union x (usersIn f us ps)) e ∙ union-assoc m (only (has u f) p) (usersIn f us ps)
