@@ -88,14 +88,12 @@ pub fn operate(
             record: read.record,
         };
     }
-    let p = read.plan;
-    let got = read_case(p, case);
+    let got = read_case(read.plan, case);
     if got.number != 0 {
         return Answer::Refused {
             number: got.number,
             record: got.record,
         };
     }
-    let c = got.case;
-    operate_case(p, c, wanted, lines, events)
+    operate_case(read.plan, got.case, wanted, lines, events)
 }
