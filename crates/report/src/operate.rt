@@ -9,6 +9,7 @@ use crate::run::Wanted;
 use expressions::bindable::bindable;
 use expressions::bindings::bind_facts;
 use expressions::reach::reach_of;
+use expressions::uses::node_uses;
 use expressions::variables::count_worlds;
 use records::case::Case;
 use records::case::reading::read_case;
@@ -36,7 +37,8 @@ fn operate_case(
     let heading = case.heading;
     let constraints = case.constraints;
     let statuses = plan.statuses;
-    let reach = reach_of(plan, heading.roster, constraints);
+    let uses = node_uses(plan.nodes);
+    let reach = reach_of(plan, &uses, heading.roster, constraints);
     let groups = reach.groups;
     let persons = rule_persons(groups, statuses);
     let fault = heading_fault(heading, plan.relation, persons, lines.len());
@@ -66,7 +68,7 @@ fn operate_case(
             most: count.maximum,
         };
     }
-    answer_ready(plan, case, reach, bound, wanted, lines, events)
+    answer_ready(plan, case, reach, bound, &uses, wanted, lines, events)
 }
 
 // Bytes to plan and case, with their refusals.
