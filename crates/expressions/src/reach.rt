@@ -11,7 +11,6 @@ use crate::rules::joining;
 use crate::touch::bound_facts;
 use crate::touch::constraint_uses;
 use crate::touch::touches;
-use crate::uses::node_uses;
 use records::case::Constraints;
 use records::plan::Facts;
 use records::plan::Plan;
@@ -20,7 +19,7 @@ ghost use Prim.Native.Nat.{_≤_};
 ghost use lib.ListN.{length};
 ghost use Rattle.records.specs.promises.Sound.{Sound};
 ghost use Rattle.records.specs.code.Decoded.{planOf};
-ghost use Rattle.expressions.specs.code.Coded.{factsOf, frameBy};
+ghost use Rattle.expressions.specs.code.Coded.{factsOf, frameBy, HoldsUses};
 ghost use Rattle.expressions.specs.code.Reached.{Reached};
 
 // `count`: how many facts there are
@@ -39,18 +38,17 @@ fn fact_count(facts: Facts) -> usize
     upto(facts.count, 64)
 }
 
-pub fn reach_of(plan: Plan, roster: u64, constraints: Constraints) -> Reach
-    requires { ⌜ Sound (planOf plan) ⌝ }
+// `nodes`: the facts that each node uses
+pub fn reach_of(plan: Plan, nodes: &[u64; 256], roster: u64, constraints: Constraints) -> Reach
+    requires { ⌜ Sound (planOf plan) × HoldsUses (plan .nodes) (now nodes) ⌝ }
     ensures { λ r. ⌜ Reached (frameBy plan roster constraints) r ⌝ }
 {
-    let table = plan.nodes;
-    let nodes = node_uses(table);
     let mut uses = [0u64; 176];
     let mut persons = [0u64; 176];
-    let joined = joining(&mut uses, &mut persons, plan, &nodes);
+    let joined = joining(&mut uses, &mut persons, plan, nodes);
     let groups = groups_of(&persons[..joined]);
-    let rules = all_rules(&mut uses, &mut persons, joined, plan, &nodes);
-    let used = constraint_uses(constraints, &nodes);
+    let rules = all_rules(&mut uses, &mut persons, joined, plan, nodes);
+    let used = constraint_uses(constraints, nodes);
     let bound = bound_facts(&uses[..rules], used);
     let known = plan.facts;
     let count = fact_count(known);

@@ -7,13 +7,12 @@ use records::plan::Numbers;
 use sets::bit;
 use sets::union;
 ghost use mathlib.Core.Path.{_≡_};
-ghost use mathlib.Core.List.{[]};
 ghost use Prim.Native.Nat.{ℕ};
 ghost use lib.ListN.{getD};
 ghost use Rattle.sets.specs.paper.Sets.{unionOf, All};
 ghost use Rattle.records.specs.code.Decoded.{numbersOf, nodeOf};
-ghost use Rattle.expressions.specs.paper.Nodes.{uses, usesFrom};
-ghost use Rattle.expressions.specs.code.Coded.{Holds, FactFits, nodesOf};
+ghost use Rattle.expressions.specs.paper.Nodes.{uses};
+ghost use Rattle.expressions.specs.code.Coded.{HoldsUses, FactFits, nodesOf};
 
 // The facts that any of these nodes uses.
 pub fn used_by(nodes: Numbers, lower: &[u64; 256]) -> u64
@@ -49,7 +48,7 @@ fn node_use(node: Node, lower: &[u64; 256]) -> u64
 // Every node's facts, lower numbers first.
 pub fn node_uses(nodes: Nodes) -> [u64; 256]
     requires { ⌜ All FactFits (nodesOf nodes) ⌝ }
-    ensures { λ r. ⌜ Holds 0 r (usesFrom (nodesOf nodes) []) ⌝ }
+    ensures { λ r. ⌜ HoldsUses nodes r ⌝ }
 {
     let n = upto(nodes.count, 256);
     let mut out = [0u64; 256];

@@ -9,6 +9,7 @@ use expressions::reach::reach_of;
 use expressions::slots::Slots;
 use expressions::slots::boolean_count;
 use expressions::slots::variable_order;
+use expressions::uses::node_uses;
 use expressions::variables::Count;
 use expressions::variables::count_worlds;
 use records::case::Case;
@@ -65,7 +66,8 @@ fn bound_over(plan: Plan, case: Case) -> Bound
 {
     let heading = case.heading;
     let constraints = case.constraints;
-    let reach = reach_of(plan, heading.roster, constraints);
+    let uses = node_uses(plan.nodes);
+    let reach = reach_of(plan, &uses, heading.roster, constraints);
     let codes = bindings(plan, case, reach.bound);
     let variables = variables_of(codes);
     let influence = influence_of(reach, variables);

@@ -205,7 +205,7 @@ module _ (P : paper.Plan) (I : variables.Influence) (k : Common) (t : List (List
 
 -- ---- a case that is ready
 
-module _ {plan : Plan} {c : Case} {reach : Reach} {given : code-bound.Bound} {lines events : List ℕ} (h : IsReady plan c reach given lines events) where
+module _ {plan : Plan} {c : Case} {reach : Reach} {given : code-bound.Bound} {uses lines events : List ℕ} (h : IsReady plan c reach given uses lines events) where
   abbrev codes : List ℕ
   codes = given .codes
 

@@ -9,6 +9,7 @@ use crate::run::Wanted;
 use expressions::bindable::bindable;
 use expressions::bindings::bind_facts;
 use expressions::reach::reach_of;
+use expressions::uses::node_uses;
 use expressions::variables::count_worlds;
 use records::case::Case;
 use records::case::reading::read_case;
@@ -36,7 +37,8 @@ fn operate_case(
     let heading = case.heading;
     let constraints = case.constraints;
     let statuses = plan.statuses;
-    let reach = reach_of(plan, heading.roster, constraints);
+    let uses = node_uses(plan.nodes);
+    let reach = reach_of(plan, &uses, heading.roster, constraints);
     let groups = reach.groups;
     let persons = rule_persons(groups, statuses);
     let fault = heading_fault(heading, plan.relation, persons, lines.len());
@@ -66,7 +68,7 @@ fn operate_case(
             most: count.maximum,
         };
     }
-    answer_ready(plan, case, reach, bound, wanted, lines, events)
+    answer_ready(plan, case, reach, bound, &uses, wanted, lines, events)
 }
 
 // Bytes to plan and case, with their refusals.
@@ -88,14 +90,12 @@ pub fn operate(
             record: read.record,
         };
     }
-    let p = read.plan;
-    let got = read_case(p, case);
+    let got = read_case(read.plan, case);
     if got.number != 0 {
         return Answer::Refused {
             number: got.number,
             record: got.record,
         };
     }
-    let c = got.case;
-    operate_case(p, c, wanted, lines, events)
+    operate_case(read.plan, got.case, wanted, lines, events)
 }

@@ -53,11 +53,12 @@ pub fn answer_ready(
     case: Case,
     reach: Reach,
     bound: Bound,
+    uses: &[u64; 256],
     wanted: Wanted,
     lines: &mut [u8],
     events: &mut [u8],
 ) -> Answer
-    requires { ⌜ IsReady plan case reach bound (now lines) (now events) ⌝ }
+    requires { ⌜ IsReady plan case reach bound (now uses) (now lines) (now events) ⌝ }
     ensures { λ r. ⌜ AnswersReady plan case wanted (now (lines .entry)) (now (lines .exit)) (now (events .entry)) (now (events .exit)) r ⌝ }
 {
     let codes = bound.codes;
@@ -81,6 +82,7 @@ pub fn answer_ready(
         &t,
         common,
         plan,
+        uses,
         constraints,
         codes,
         &free,

@@ -1,11 +1,12 @@
 -- What the code's arrays stand for: lists of values, and the records of a kind.
 use mathlib.Core.Path.{_≡_}
-use mathlib.Core.List.{List, map}
+use mathlib.Core.List.{List, [], map}
 use Prim.Native.Nat.{ℕ, _<_}
 use lib.ListN.{getD, take}
 use Rattle.sets.specs.paper.Sets.{All}
 use Rattle.records.specs.paper.Plan.{Fact, Node, literal, fact, conj, disj, neg, Edge, Cut, Attachment, Bar, Status}
 use Rattle.records.specs.code.Decoded.{factOf, nodeOf, edgeOf, cutOf, attachmentOf, barOf, statusOf, planOf}
+use Rattle.expressions.specs.paper.Nodes.{usesFrom}
 use Rattle.expressions.specs.paper.Influence.{Frame}
 use Rattle.records.specs.declared.case.Constraints.{Constraints}
 use Rattle.records.specs.declared.plan.Facts.{Facts}
@@ -41,6 +42,10 @@ barsOf n = map barOf (take (n .count) (n .items))
 
 unfoldable pub statusesOf : Statuses → List Status
 statusesOf n = map statusOf (take (n .count) (n .items))
+
+-- an array holds the facts that each node uses
+abbrev pub HoldsUses : Nodes → List ℕ → Type 0
+HoldsUses nodes us = Holds 0 us (usesFrom (nodesOf nodes) [])
 
 -- the fact of a node has a place in a mask
 abbrev pub FactFits : Node → Type 0

@@ -14,7 +14,7 @@ use Rattle.expressions.specs.paper.Bindings.{bindings, bindingAt}
 use Rattle.expressions.specs.code.Codes.{boundOf}
 use Rattle.expressions.specs.code.Told.{Defaulted}
 use Rattle.expressions.specs.paper.Variables.{worldCount}
-use Rattle.expressions.specs.code.Coded.{frameBy}
+use Rattle.expressions.specs.code.Coded.{frameBy, HoldsUses}
 use Rattle.expressions.specs.code.Reached.{Reached}
 use Rattle.expressions.specs.code.Influences.{setsOf}
 use Rattle.expressions.specs.declared.bindings.Bound.{Bound}
@@ -31,11 +31,12 @@ pub record Concerns (influence : Influence) (facts defaults : ℕ) (all : Bool) 
   pub no : all ≡ false → (r .facts ≡ 0) × (r .influence .count ≡ 0) × (r .defaults ≡ 0)
 
 -- all that has passed before the worlds are looked at; the lent buffers are all zero
-pub record IsReady (plan : Plan) (c : Case) (reach : Reach) (b : Bound) (lines events : List ℕ) : Type 0 where
+pub record IsReady (plan : Plan) (c : Case) (reach : Reach) (b : Bound) (uses lines events : List ℕ) : Type 0 where
   pub sound : Sound (planOf plan)
   pub sane : SoundCase (planOf plan) (caseOf c)
   pub peopled : c .heading .roster ≡ 0 → ⊥
   pub named : subset (rulePersons (planOf plan)) (c .heading .roster) ≡ true
+  pub textual : HoldsUses (plan .nodes) uses
   pub reached : Reached (frameBy plan (c .heading .roster) (c .constraints)) reach
   pub bound : (f : ℕ) → boundOf (getD (b .codes) f 0) ≡ bindingAt (bindings (planOf plan) (caseOf c)) f
   pub defaulted : Defaulted (planOf plan) (caseOf c) (reach .bound) (b .defaults)

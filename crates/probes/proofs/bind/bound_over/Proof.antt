@@ -6,18 +6,27 @@ use borrow.Author.Needs.{needs}
 use Rattle.records.specs.code.Decoded.{planOf, caseOf}
 use Rattle.expressions.specs.paper.Bindings.{bindings, bindingAt}
 use Rattle.expressions.specs.code.Codes.{boundOf}
+use Rattle.expressions.specs.code.Coded.{nodesOf}
 use Rattle.expressions.specs.declared.variables.Count.{Count}
+use Rattle.expressions.proofs.FitLaws.{nodes-fit}
 use Rattle.probes.specs.Entries.{refusalBy}
 use Rattle.probes.specs.Binds.{TellsVerdict}
 use Rattle.probes.proofs.Entering.{bound-code, booleans-fit, in-order, listed-sets, worlds-counted}
 use Rattle.probes.proofs.bind.bound_over.Statement.{statement}
 use Rattle.probes.proofs.bind.bound_over.Tie as tie
 
+node-uses-requires : tie.Need-node-uses-requires
+unfolding nodesOf planOf
+node-uses-requires c κs = let s = c .before .before in nodes-fit (planOf (s .args .plan)) (s .pre .0)
+
+reach-of-requires : tie.Need-reach-of-requires
+reach-of-requires c κs = (c .before .before .before .before .pre .0, c .before .node-uses .ensures)
+
 variable-order-requires : tie.Need-variable-order-requires
 variable-order-requires c κs =
     let n = c .before in
     let o = n .before .before .before .before .before in
-    let s = o .before .before .before in
+    let s = o .before .before .before .before .before in
     let r = o .reach-of in (
       booleans-fit (s .args .plan) (s .args .case) (s .pre .0) (s .pre .1) (r .result) (r .ensures) (n .boolean-count .result) (n .boolean-count .ensures .0),
       r .ensures .few,
@@ -33,7 +42,7 @@ returns c =
     let m = i .before in
     let b = m .before in
     let o = b .before in
-    let s = o .before .before .before in
+    let s = o .before .before .before .before .before in
     let r = o .reach-of in
     let coded : (f : ℕ) → boundOf (getD (b .bindings .result) f 0) ≡ bindingAt (bindings (planOf (s .args .plan)) (caseOf (s .args .case))) f =
     (λ f. b .bindings .ensures f ∙ bound-code (s .args .plan) (s .args .case) (s .pre .0) (s .pre .1) (r .result) (r .ensures) f) in
@@ -52,7 +61,8 @@ pub bound-over-spec : {M : Type 1} → statement M
 bound-over-spec =
     tie.close
     (tie.spec
-    (λ c κs. search needs)
+    node-uses-requires
+    reach-of-requires
     (λ c κs. search needs)
     (λ c κs. search needs)
     (λ c κs. search needs)

@@ -22,7 +22,7 @@ returns c =
 returns-2 : tie.Need-returns-2
 returns-2 c =
     let q = c .before .before in
-    let i = q .before .before in
+    let i = q .before in
     let d = i .before .before in
     let n = d .before .before .before in
     let m = n .before .before .before .before in
@@ -34,9 +34,9 @@ returns-2 c =
 
 operate-case-requires : tie.Need-operate-case-requires
 operate-case-requires c κs =
-    let j = c .before .before .before in
+    let j = c .before .before in
     let q = j .before .before in
-    let i = q .before .before in
+    let i = q .before in
     let d = i .before .before in
     let n = d .before .before .before in
     let m = n .before .before .before .before in
@@ -52,15 +52,15 @@ operate-case-requires c κs =
 same-length-5 : tie.Need-same-length-5
 same-length-5 c =
     let w = c .before .before .before .before in
-    let m = w .before .before .before .before .before .before .before .before .before .before .before .before .before .before .before .before .before in
+    let m = w .before .before .before .before .before .before .before .before .before .before .before .before .before .before .before in
     w .operate-case .kept .1 .1 .1 .0 ∙ m .clear .kept .0
 
 returns-3 : tie.Need-returns-3
 returns-3 c =
     let w = c .before .before .before .before in
-    let j = w .before .before .before .before in
+    let j = w .before .before .before in
     let q = j .before .before in
-    let i = q .before .before in
+    let i = q .before in
     let d = i .before .before in
     let n = d .before .before .before in
     let m = n .before .before .before .before in

@@ -3,14 +3,24 @@ use mathlib.Core.Path.{sym, _∙_}
 use lib.ListN.{length}
 use borrow.Author.Tests.{not-true, not-false}
 use denote.Ref.{now}
+use Rattle.records.specs.code.Decoded.{planOf}
+use Rattle.expressions.specs.code.Coded.{nodesOf}
+use Rattle.expressions.proofs.FitLaws.{nodes-fit}
 use Rattle.report.proofs.OperateLaws.{persons-fit, heading-stops, persons-named, roster-peopled, lines-fit, roster-complete, roster-incomplete, binding-stops, codes-bound, count-stops, count-passes, worlds-few, stops, goes-on, bare, ready-outcome}
 use borrow.Author.Needs.{needs}
 use Rattle.report.proofs.operate.operate_case.Statement.{statement}
 use Rattle.report.proofs.operate.operate_case.Tie as tie
 
+node-uses-requires : tie.Need-node-uses-requires
+unfolding nodesOf planOf
+node-uses-requires c κs = let a = c .before .before .before .before .before in nodes-fit (planOf (a .args .plan)) (a .pre .sound)
+
+reach-of-requires : tie.Need-reach-of-requires
+reach-of-requires c κs = (c .before .before .before .before .before .before .before .pre .sound, c .before .node-uses .ensures)
+
 rule-persons-requires : tie.Need-rule-persons-requires
 rule-persons-requires c κs =
-    let a = c .before .before .before .before .before .before .before in
+    let a = c .before .before .before .before .before .before .before .before .before in
     persons-fit (a .args .plan) (a .args .case) (a .pre .sound) (a .pre .sane)
 
 returns : tie.Need-returns
@@ -18,7 +28,7 @@ returns c =
     let h = c .before in
     let p = h .before in
     let q = p .before .before in
-    let a = q .before .before .before .before .before .before in
+    let a = q .before .before .before .before .before .before .before .before in
     stops (a .args .wanted) _ _ _ _ _
     (heading-stops (a .args .plan) (a .args .case) (a .pre .sound) (a .pre .sane) (q .reach-of .result) (q .reach-of .ensures) (p .rule-persons .result)
     (p .rule-persons .ensures) (length (now (a .args .lines))) (h .heading-fault .result) (h .heading-fault .ensures) (c .if1 .taken))
@@ -30,7 +40,7 @@ without-worlds-requires c κs =
     let h = i .before in
     let p = h .before in
     let q = p .before .before in
-    let a = q .before .before .before .before .before .before in
+    let a = q .before .before .before .before .before .before .before .before in
     lines-fit (a .args .plan) (a .args .case) (a .pre .sound) (a .pre .sane) (q .reach-of .result) (q .reach-of .ensures) (p .rule-persons .result)
     (p .rule-persons .ensures) (length (now (a .args .lines))) (h .heading-fault .result) (h .heading-fault .ensures) (i .if1 .left)
 
@@ -42,7 +52,7 @@ returns-2 c =
     let h = i .before in
     let p = h .before in
     let q = p .before .before in
-    let a = q .before .before .before .before .before .before in
+    let a = q .before .before .before .before .before .before .before .before in
     bare (a .args .wanted) (a .args .case .heading .roster) (now (a .args .lines)) (now (a .args .events)) (a .pre .zeros) (a .pre .none)
     (roster-incomplete (a .args .plan) (a .args .case) (a .pre .sound) (a .pre .sane) (q .reach-of .result) (q .reach-of .ensures) (p .rule-persons .result)
     (p .rule-persons .ensures) (length (now (a .args .lines))) (h .heading-fault .result) (h .heading-fault .ensures) (i .if1 .left) (not-true _ (j .if2 .taken)))
@@ -56,7 +66,7 @@ returns-3 c =
     let h = i .before in
     let p = h .before in
     let q = p .before .before in
-    let a = q .before .before .before .before .before .before in
+    let a = q .before .before .before .before .before .before .before .before in
     goes-on (a .args .wanted) _ _ _ _ _ (roster-complete (a .args .plan) (a .args .case) (a .pre .sound) (a .pre .sane) (q .reach-of .result) (q .reach-of .ensures) (p .rule-persons .result)
     (p .rule-persons .ensures) (length (now (a .args .lines))) (h .heading-fault .result) (h .heading-fault .ensures) (i .if1 .left) (not-false _ (j .if2 .left)))
     (stops (a .args .wanted) _ _ _ _ _
@@ -77,7 +87,7 @@ returns-4 c =
     let h = i .before in
     let p = h .before in
     let q = p .before .before in
-    let a = q .before .before .before .before .before .before in
+    let a = q .before .before .before .before .before .before .before .before in
     goes-on (a .args .wanted) _ _ _ _ _ (roster-complete (a .args .plan) (a .args .case) (a .pre .sound) (a .pre .sane) (q .reach-of .result) (q .reach-of .ensures) (p .rule-persons .result)
     (p .rule-persons .ensures) (length (now (a .args .lines))) (h .heading-fault .result) (h .heading-fault .ensures) (i .if1 .left) (not-false _ (j .if2 .left)))
     (stops (a .args .wanted) _ _ _ _ _
@@ -87,14 +97,14 @@ returns-4 c =
 
 answer-ready-requires : tie.Need-answer-ready-requires
 answer-ready-requires c κs =
-    let t = c .before .before in
+    let t = c .before .before .before in
     let k = t .before in
     let b = k .before .before in
     let i = b .before .before .before .before .before .before .before in
     let h = i .before in
     let p = h .before in
     let q = p .before .before in
-    let a = q .before .before .before .before .before .before in
+    let a = q .before .before .before .before .before .before .before .before in
     record {
       sound = a .pre .sound;
       sane = a .pre .sane;
@@ -102,6 +112,7 @@ answer-ready-requires c κs =
           (p .rule-persons .ensures) (length (now (a .args .lines))) (h .heading-fault .result) (h .heading-fault .ensures) (i .if1 .left);
       peopled = roster-peopled (a .args .plan) (a .args .case) (a .pre .sound) (a .pre .sane) (q .reach-of .result) (q .reach-of .ensures) (p .rule-persons .result)
           (p .rule-persons .ensures) (length (now (a .args .lines))) (h .heading-fault .result) (h .heading-fault .ensures) (i .if1 .left);
+      textual = q .before .before .node-uses .ensures;
       reached = q .reach-of .ensures;
       bound = codes-bound (a .args .plan) (a .args .case) (a .pre .sound) (a .pre .sane) (q .reach-of .result) (q .reach-of .ensures)
           (b .bind-facts .result .codes) (b .bind-facts .ensures .codes);
@@ -117,7 +128,7 @@ answer-ready-requires c κs =
 returns-5 : tie.Need-returns-5
 returns-5 c =
     let w = c .before .before .before .before in
-    let t = w .before .before .before in
+    let t = w .before .before .before .before in
     let k = t .before in
     let b = k .before .before in
     let g = b .before .before in
@@ -127,7 +138,7 @@ returns-5 c =
     let h = i .before in
     let p = h .before in
     let q = p .before .before in
-    let a = q .before .before .before .before .before .before in
+    let a = q .before .before .before .before .before .before .before .before in
     goes-on (a .args .wanted) _ _ _ _ _ (roster-complete (a .args .plan) (a .args .case) (a .pre .sound) (a .pre .sane) (q .reach-of .result) (q .reach-of .ensures) (p .rule-persons .result)
     (p .rule-persons .ensures) (length (now (a .args .lines))) (h .heading-fault .result) (h .heading-fault .ensures) (i .if1 .left) (not-false _ (j .if2 .left)))
     (ready-outcome (a .args .wanted) (a .args .plan) (a .args .case) _ _ _ _ _
@@ -139,7 +150,8 @@ pub operate-case-spec : {M : Type 1} → statement M
 operate-case-spec =
     tie.close
     (tie.spec
-    (λ c κs. search needs)
+    node-uses-requires
+    reach-of-requires
     rule-persons-requires
     (λ c κs. search needs)
     returns

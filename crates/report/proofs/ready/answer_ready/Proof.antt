@@ -40,7 +40,8 @@ spans-of-requires c κs = let f = c .before .before .before in (facts-few (f .be
 run-requires : tie.Need-run-requires
 run-requires c κs =
     let f = c .before .before .before .before .before .before .before .before .before .before .before in
-    (f .before .before .before .before .before .before .before .before .before .before .before .before .before .before .before .before .before .pre .sound, f .free-variables .ensures .few, f .free-variables .ensures .small)
+    let h = f .before .before .before .before .before .before .before .before .before .before .before .before .before .before .before .before .before .pre in
+    (h .textual, f .free-variables .ensures .few, f .free-variables .ensures .small)
 
 -- ---- once the worlds are looked at
 
