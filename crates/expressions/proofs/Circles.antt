@@ -1,4 +1,4 @@
--- No rule, no fact's touch and no decision reaches across a circle's line. Assumes nothing.
+-- No rule, no fact's touch and no decision reaches across a circle's line.
 use mathlib.Core.Path.{_≡_, sym, ap, subst}
 use mathlib.Core.Bool.{Bool, true, not}
 use mathlib.Core.List.{List, [], _∷_, _++_}

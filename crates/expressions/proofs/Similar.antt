@@ -1,5 +1,4 @@
 -- Two bindings that are alike at what touches a person's circle: their valuations, admissible worlds and influence, seen from the circle.
--- Assumes nothing.
 use mathlib.Core.Path.{_≡_, refl, sym, ap, ap₂, _∙_, subst}
 use mathlib.Core.Bool.{Bool, true, false, _||_}
 use mathlib.Core.List.{List, [], _∷_, _++_}

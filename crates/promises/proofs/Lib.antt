@@ -4,6 +4,7 @@ pub mod Once
 pub mod LineBytes
 pub mod LineBlocks
 pub mod PartedLines
+pub mod LinePrivate
 pub mod Privacy
 pub mod Places
 pub mod Blocks

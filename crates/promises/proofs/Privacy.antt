@@ -22,7 +22,7 @@ use Rattle.report.specs.declared.Answer.{Answer}
 use Rattle.report.specs.paper.Operations.{told, Outcome, answer}
 use Rattle.report.proofs.LinesAt.{line-at}
 use Rattle.report.proofs.Answered.{lineOf, lineFor, answered-lines}
-use Rattle.report.proofs.LinePrivate.{line-private}
+use Rattle.promises.proofs.LinePrivate.{line-private}
 use Rattle.promises.specs.Private.{SameLines, Private, PrivateLines}
 
 -- ---- two cases

@@ -159,8 +159,8 @@ module _ (P : Plan) where
       e
 
 -- the heading of a sound case, and what stands for one where there is none
-pub heading-of : {P : Plan} {C : Case} → SoundCase P C → SoundCaseHeading (caseHeading C)
+pub sound-heading : {P : Plan} {C : Case} → SoundCase P C → SoundCaseHeading (caseHeading C)
 unfolding caseHeading
-heading-of {C = C} s =
+sound-heading {C = C} s =
     all-getD SoundCaseHeading (C .headings) _ (s .headings)
     (record { relation = omega arith; scope = omega arith; segment = omega arith; roster = pow-pos 64; complete = (zero-le, tt); mostWorlds = zero-le }) 0

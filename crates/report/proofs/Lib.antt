@@ -4,7 +4,6 @@ pub mod OpenedLaws
 pub mod WorldBlocks
 pub mod SameViews
 pub mod Answered
-pub mod LinePrivate
 pub mod AmongLaws
 pub mod RisingSet
 pub mod RisingKinds

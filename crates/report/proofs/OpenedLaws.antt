@@ -13,7 +13,7 @@ use Rattle.records.specs.paper.Fields.{Verdict, fine, refused}
 use Rattle.records.specs.paper.Plan.{Plan, checkedPlan}
 use Rattle.records.specs.paper.Case.{Case, CaseHeading, readCase, caseHeading, familiesAt, booleansAt}
 use Rattle.records.specs.promises.Sound.{SoundCase}
-use Rattle.records.proofs.AcceptedCase.{heading-of}
+use Rattle.records.proofs.AcceptedCase.{sound-heading}
 use Rattle.records.proofs.ReadLaws.{of-fine, past-faults}
 use Rattle.expressions.specs.paper.Rules.{rulePersons}
 use Rattle.expressions.specs.paper.Bindings.{Bound, bindings, bindable, familyFaults, booleanFaults}
@@ -119,4 +119,4 @@ on-roster P h room e =
 -- a roster fits a mask
 pub roster-fits : (P : Plan) (C : Case) → SoundCase P C → caseHeading C .roster < 2 ^ 64
 unfolding caseHeading
-roster-fits P C S = heading-of S .roster
+roster-fits P C S = sound-heading S .roster

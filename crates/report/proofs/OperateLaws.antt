@@ -25,7 +25,7 @@ use Rattle.records.specs.declared.plan.reading.PlanRead.{PlanRead}
 use Rattle.records.specs.declared.case.reading.CaseRead.{CaseRead}
 use Rattle.records.specs.declared.checked.Checked.the-variants as checked
 use Rattle.records.proofs.Accepted.{accepted}
-use Rattle.records.proofs.AcceptedCase.{accepted-case, heading-of as sound-heading}
+use Rattle.records.proofs.AcceptedCase.{accepted-case, sound-heading}
 use Rattle.records.proofs.CheckLaws.{refused-is}
 use Rattle.expressions.specs.paper.Rules.{rulePersons}
 use Rattle.expressions.specs.paper.Influence.{Frame, openDecisions}
