@@ -24,7 +24,7 @@ fn refused(number: u8, record: usize) -> Answer
     }
 }
 
-// Bytes to plan and case, with their refusals.
+// Bytes to plan and case, with their refusals; then what stands before the worlds, and the worlds.
 pub fn operate(
     plan: &[u8],
     case: &[u8],
