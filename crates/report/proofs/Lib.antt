@@ -29,4 +29,5 @@ pub mod RunLaws
 pub mod FilledLaws
 pub mod FinishLaws
 pub mod ReadyLaws
+pub mod OpenLaws
 pub mod OperateLaws

@@ -17,3 +17,4 @@ pub mod Bare
 pub mod Finish
 pub mod Ready
 pub mod Operate
+pub mod Open

@@ -14,6 +14,7 @@ pub mod known;
 pub mod line;
 pub mod lines;
 pub mod nine;
+pub mod open;
 pub mod operate;
 pub mod operations;
 pub mod pairs;

@@ -2,76 +2,29 @@
 use crate::Answer;
 use crate::bare::without_worlds;
 use crate::clear::clear;
-use crate::heading::heading_fault;
-use crate::heading::rule_persons;
+use crate::open::Stop;
+use crate::open::open_case;
 use crate::ready::answer_ready;
 use crate::run::Wanted;
-use expressions::bindable::bindable;
-use expressions::bindings::bind_facts;
-use expressions::reach::reach_of;
 use expressions::uses::node_uses;
-use expressions::variables::count_worlds;
-use records::case::Case;
 use records::case::reading::read_case;
-use records::checked::Checked;
-use records::plan::Plan;
 use records::plan::checks::decode_plan;
 ghost use mathlib.Core.Path.{_≡_};
-ghost use lib.ListN.{length, replicate};
-ghost use Rattle.records.specs.promises.Sound.{Sound, SoundCase};
-ghost use Rattle.records.specs.code.Decoded.{planOf, caseOf};
+ghost use lib.ListN.{length};
 ghost use Rattle.report.specs.paper.Operations.{opened};
-ghost use Rattle.report.specs.code.Operate.{headed, Operates, Opening};
+ghost use Rattle.report.specs.code.Operate.{Operates};
+ghost use Rattle.report.specs.declared.Answer.the-variants.{Refused};
 
-// The refusals 8 to 12, a roster that is not complete, then the refusals 5, 10 and 11, and the worlds.
-fn operate_case(
-    plan: Plan,
-    case: Case,
-    wanted: Wanted,
-    lines: &mut [u8],
-    events: &mut [u8],
-) -> Answer
-    requires { ⌜ Opening plan case (now lines) (now events) ⌝ }
-    ensures { λ r. ⌜ Operates wanted (headed plan case (length (now (lines .entry)))) (now (lines .entry)) (now (lines .exit)) (now (events .entry)) (now (events .exit)) r ⌝ }
+fn refused(number: u8, record: usize) -> Answer
+    ensures { λ r. ⌜ r ≡ Refused number «record» ⌝ }
 {
-    let heading = case.heading;
-    let constraints = case.constraints;
-    let statuses = plan.statuses;
-    let uses = node_uses(plan.nodes);
-    let reach = reach_of(plan, &uses, heading.roster, constraints);
-    let groups = reach.groups;
-    let persons = rule_persons(groups, statuses);
-    let fault = heading_fault(heading, plan.relation, persons, lines.len());
-    if fault != 0 {
-        return Answer::Refused {
-            number: fault,
-            record: 0,
-        };
+    Answer::Refused {
+        number: number,
+        record: record,
     }
-    if !heading.complete {
-        return without_worlds(lines, heading.roster, 5, wanted);
-    }
-    let found = bindable(case);
-    if let Checked::Refused { number, record } = found {
-        return Answer::Refused {
-            number: number,
-            record: record,
-        };
-    }
-    let undecided = reach.undecided;
-    let bound = bind_facts(plan, case, reach.bound);
-    let codes = bound.codes;
-    let count = count_worlds(codes, reach.count, undecided.count, heading.most_worlds);
-    if count.refused {
-        return Answer::TooManyWorlds {
-            count: count.count,
-            most: count.maximum,
-        };
-    }
-    answer_ready(plan, case, reach, bound, &uses, wanted, lines, events)
 }
 
-// Bytes to plan and case, with their refusals.
+// Bytes to plan and case, with their refusals; then what stands before the worlds, and the worlds.
 pub fn operate(
     plan: &[u8],
     case: &[u8],
@@ -85,17 +38,27 @@ pub fn operate(
     clear(events);
     let read = decode_plan(plan);
     if read.number != 0 {
-        return Answer::Refused {
-            number: read.number,
-            record: read.record,
-        };
+        return refused(read.number, read.record);
     }
     let got = read_case(read.plan, case);
     if got.number != 0 {
-        return Answer::Refused {
-            number: got.number,
-            record: got.record,
-        };
+        return refused(got.number, got.record);
     }
-    operate_case(read.plan, got.case, wanted, lines, events)
+    let uses = node_uses(read.plan.nodes);
+    let opened = open_case(read.plan, got.case, &uses, lines.len());
+    let stop = opened.stop;
+    match stop {
+        Stop::Stopped(answer) => answer,
+        Stop::Incomplete => without_worlds(lines, got.case.heading.roster, 5, wanted),
+        Stop::Nothing => answer_ready(
+            read.plan,
+            got.case,
+            opened.reach,
+            opened.bound,
+            &uses,
+            wanted,
+            lines,
+            events,
+        ),
+    }
 }

@@ -3,9 +3,8 @@ use mathlib.Core.Path.{_≡_}
 use mathlib.Core.Bool.{cond}
 use mathlib.Core.List.{List}
 use Prim.Native.Nat.{ℕ}
-use lib.ListN.{length, replicate}
+use lib.ListN.{length}
 use Rattle.records.specs.paper.Case.{caseHeading}
-use Rattle.records.specs.promises.Sound.{Sound, SoundCase}
 use Rattle.records.specs.code.Decoded.{planOf, caseOf}
 use Rattle.records.specs.declared.plan.Plan.{Plan}
 use Rattle.records.specs.declared.case.Case.{Case}
@@ -27,10 +26,3 @@ outcome w lineRoom eventRoom o = cond (w .all) (answerOpened lineRoom eventRoom 
 
 pub record Operates (w : Wanted) (o : Opened) (lines₀ lines₁ events₀ events₁ : List ℕ) (r : Answer) : Type 0 where
   pub outcome : record { answer = r; lines = lines₁; events = events₁ } ≡ outcome w (length lines₀) (length events₀) o
-
--- an accepted plan and case, and buffers that are all zero
-pub record Opening (plan : Plan) (c : Case) (lines events : List ℕ) : Type 0 where
-  pub sound : Sound (planOf plan)
-  pub sane : SoundCase (planOf plan) (caseOf c)
-  pub zeros : lines ≡ replicate (length lines) 0
-  pub none : events ≡ replicate (length events) 0
