@@ -43,7 +43,7 @@ use Rattle.report.specs.paper.Operations.{relationOf, mismatched, headin
 use Rattle.report.specs.code.Opening.{RulePersons, HeadingFault}
 use Rattle.report.specs.code.Operate.{judged, headed}
 use Rattle.report.specs.code.Ready.{IsReady}
-use Rattle.report.specs.code.Open.{stopBy, openedOf, Opens}
+use Rattle.report.specs.code.Open.{stopBy, openedOf, OpensCase}
 use Rattle.report.specs.declared.Answer.the-variants.{Refused, TooManyWorlds}
 use Rattle.report.specs.declared.open.Opened.{Opened as CodedOpened}
 use Rattle.report.specs.declared.open.Stop.{Stop}
@@ -258,7 +258,7 @@ module _ (plan : Coded) (c : CodedCase) (sound : Sound (planOf plan)) (sane : So
     by-fault (suc j) e = heading-stops room j e
     by-fault zero e = by-roster e (c .heading .complete) refl
 
-    pub opens : (s : Stop) → s ≡ stopBy k (c .heading .complete) found n → Opens plan c room (record { stop = s; reach = reach; bound = b })
+    pub opens : (s : Stop) → s ≡ stopBy k (c .heading .complete) found n → OpensCase plan c room (record { stop = s; reach = reach; bound = b })
     opens s e = record {
       opened = by-fault k (sym fault-is) ∙ ap (openedOf plan c) (sym e);
       reached = reached;
@@ -269,7 +269,7 @@ module _ (plan : Coded) (c : CodedCase) (sound : Sound (planOf plan)) (sane : So
 
   -- ---- what follows for lines and worlds
 
-  module _ (lines : List ℕ) (o : CodedOpened) (h : Opens plan c (length lines) o) where
+  module _ (lines : List ℕ) (o : CodedOpened) (h : OpensCase plan c (length lines) o) where
     pub bare-fits : o .stop ≡ Incomplete → 29 * size (c .heading .roster) ≤ length lines
     bare-fits e = lines-fit (length lines) (faultless (length lines) (h .opened ∙ ap (openedOf plan c) e) refl)
 

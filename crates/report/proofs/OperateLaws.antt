@@ -21,7 +21,7 @@ use Rattle.records.proofs.AcceptedCase.{accepted-case}
 use Rattle.expressions.specs.paper.Bindings.{bindings}
 use Rattle.report.specs.paper.Operations.{headingFault, Opened, stopped, incomplete, ready, orStop, unlessFault, bound, opened, Outcome, refusal, answerOpened, answer, showOpened, show}
 use Rattle.report.specs.code.Operate.{headed, outcome, Operates}
-use Rattle.report.specs.code.Open.{openedOf, Opens}
+use Rattle.report.specs.code.Open.{openedOf, OpensCase}
 use Rattle.report.specs.code.Bare.{worldless, Worldless}
 use Rattle.report.specs.code.Ready.{readyOutcome, AnswersReady}
 use Rattle.report.specs.declared.Answer.{Answer}
@@ -77,7 +77,7 @@ module _ (s : List ℕ) (r : PlanRead) (e : planReadOf r ≡ checkedPlan s) wher
       case-stops n = ap (λ (v : Verdict Plan). orStop v rest) (plan-fine z) ∙ ap (λ (v : Verdict Case). orStop v last) (case-refused n)
 
       -- what a case that is read stands at, by what the code found to stop it
-      pub case-opened : q .number ≡ 0 → (o : CodedOpened) → Opens (r .plan) (q .case) room o → {x : Stop} → o .stop ≡ x → opened s t room ≡ openedOf (r .plan) (q .case) x
+      pub case-opened : q .number ≡ 0 → (o : CodedOpened) → OpensCase (r .plan) (q .case) room o → {x : Stop} → o .stop ≡ x → opened s t room ≡ openedOf (r .plan) (q .case) x
       unfolding opened headed
       case-opened y o h e =
           ap (λ (v : Verdict Plan). orStop v rest) (plan-fine z) ∙ ap (λ (v : Verdict Case). orStop v last) (case-fine y)

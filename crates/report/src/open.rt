@@ -16,7 +16,7 @@ ghost use mathlib.Core.Path.{_≡_};
 ghost use Rattle.records.specs.promises.Sound.{Sound, SoundCase};
 ghost use Rattle.records.specs.code.Decoded.{planOf, caseOf};
 ghost use Rattle.expressions.specs.code.Coded.{HoldsUses};
-ghost use Rattle.report.specs.code.Open.{stopBy, Opens};
+ghost use Rattle.report.specs.code.Open.{stopBy, OpensCase};
 
 pub enum Stop {
     Nothing,
@@ -63,7 +63,7 @@ fn stop_of(fault: u8, complete: bool, found: Checked, count: Count) -> Stop
 // `uses`: the facts that each node uses; `room`: the length of the lent lines.
 pub fn open_case(plan: Plan, case: Case, uses: &[u64; 256], room: usize) -> Opened
     requires { ⌜ Sound (planOf plan) × SoundCase (planOf plan) (caseOf case) × HoldsUses (plan .nodes) (now uses) ⌝ }
-    ensures { λ r. ⌜ Opens plan case room r ⌝ }
+    ensures { λ r. ⌜ OpensCase plan case room r ⌝ }
 {
     let heading = case.heading;
     let constraints = case.constraints;

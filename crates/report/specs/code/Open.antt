@@ -34,7 +34,7 @@ openedOf plan c (Stopped a) = paper.stopped a
 openedOf plan c Incomplete = paper.incomplete (c .heading .roster)
 openedOf plan c Nothing = paper.ready (planOf plan) (caseOf c) (bindings (planOf plan) (caseOf c))
 
-pub record Opens (plan : Plan) (c : Case) (room : ℕ) (r : Opened) : Type 0 where
+pub record OpensCase (plan : Plan) (c : Case) (room : ℕ) (r : Opened) : Type 0 where
   pub opened : headed plan c room ≡ openedOf plan c (r .stop)
   pub reached : Reached (frameBy plan (c .heading .roster) (c .constraints)) (r .reach)
   pub bound : (f : ℕ) → boundOf (getD (r .bound .codes) f 0) ≡ bindingAt (bindings (planOf plan) (caseOf c)) f
