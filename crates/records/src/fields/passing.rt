@@ -2,7 +2,8 @@
 ghost use mathlib.Core.Path.{_≡_};
 ghost use Rattle.records.specs.code.Passes.{atStart, endNumber};
 
-// number 0: nothing is refused so far, `record` records were read, and `at` is the place after them; else the refusal's number and record
+// number 0: nothing is refused so far, `record` records were read, and `at` is the place after them; else the refusal's number and record, and the
+// place is free. `headed`: there is a heading.
 pub struct Passing {
     pub number: u8,
     pub record: usize,
