@@ -1,5 +1,5 @@
 -- Each kind of record in a case: what one more of them changes and what is wrong with it; and the first pass.
-use mathlib.Core.Path.{_≡_, refl, ap, _∙_}
+use mathlib.Core.Path.{_≡_, refl, sym, ap, _∙_}
 use mathlib.Core.Bool.{Bool, true, false, _&&_, not, cond, or-false}
 use mathlib.Core.List.{List, [], _∷_, _++_}
 use Prim.Native.Nat.{ℕ, _≤_}
@@ -8,11 +8,12 @@ use lib.ListN.{length, take}
 use lib.Dec.{eqb, ltb, leb}
 use Rattle.records.specs.paper.Fields.{needs}
 use Rattle.records.specs.paper.Case.{Case, CaseHeading, Family, Boolean, Relation, caseFormats, caseCounts, caseHeadingFrom, addToCase, judgeCase, emptyCase, caseRecords, familyFrom, booleanFrom, relationFrom, constraintFrom}
-use Rattle.records.specs.code.Passes.{Passed, judgement}
+use Rattle.records.specs.code.Passes.{atStart, Passed, judgement}
 use Rattle.records.specs.code.CasePasses.{CleanCase, caseReading, withCaseHeadings, withFamilies, withBooleans, withRelations, withConstraints}
+use Rattle.records.specs.declared.fields.passing.Passing.{Passing}
 use Rattle.records.proofs.KindLaws.{length-more, past, Plain, plainKind, not-not, heading-there}
 use Rattle.records.proofs.Chain.{raw}
-use Rattle.records.proofs.Passing.{Kind, Reached, first-kind, next-pass}
+use Rattle.records.proofs.Passing.{Kind, Reached, first-kind}
 
 pub case-kinds : length caseFormats ≡ 5
 unfolding caseFormats
@@ -94,9 +95,10 @@ constraintKind = plainKind constraint-plain
 
 -- ---- the first pass; the others leave the heading as it is
 
-pub clean-heading : (n : ℕ) (x : CaseHeading) → n ≤ 1 → CleanCase (eqb n 1) (withCaseHeadings emptyCase (take n (x ∷ [])))
+clean-heading : (n : ℕ) (x : CaseHeading) → n ≤ 1 → CleanCase (eqb n 1) (withCaseHeadings emptyCase (take n (x ∷ [])))
 clean-heading n x h = ap not (heading-there n x h) ∙ not-not (eqb n 1)
 
-pub first-pass : (s : List ℕ) (n k at : ℕ) (xs : List CaseHeading) → Passed caseReading withCaseHeadings 1 s false 0 0 n k at xs → Reached caseReading s (caseRecords s) 2 n k at (withCaseHeadings emptyCase xs)
+pub first-pass : (s : List ℕ) (p : Passing) (n : ℕ) (x : CaseHeading) → Passed caseReading withCaseHeadings 1 s atStart p (take n (x ∷ [])) → n ≤ 1 → p .headed ≡ eqb n 1
+    → Reached caseReading s (caseRecords s) 2 p (withCaseHeadings emptyCase (take n (x ∷ [])))
 unfolding caseRecords
-first-pass s n k at xs p = next-pass withCaseHeadings false n k at emptyCase xs (first-kind caseReading s emptyCase) refl refl p
+first-pass s p n x h l e = record { is = first-kind caseReading s emptyCase ∙ h emptyCase refl; clean = clean-heading n x l ∙ sym e }

@@ -8,10 +8,11 @@ use native.Mathlib.Nat.{le-refl}
 use native.Mathlib.Omega.{arith}
 use lib.ListN.{length, getD}
 use lib.Dec.{eqb, ltb, leb}
-use borrow.Author.Tests.{lt-ltb, le-ltb, le-leb, lt-leb, ltb-true, ltb-false, eq-eqb, ne-eqb}
+use borrow.Author.Tests.{lt-ltb, le-ltb, le-leb, lt-leb, ltb-true, ltb-false, eq-eqb, eqb-true}
 use Rattle.records.specs.paper.Fields.{Read, got, bad, andThen, Raw, Format, Range, byteAt, recordAt, Verdict, fine, refused, readFrom}
 use Rattle.records.specs.code.Readers.{mapRead}
-use Rattle.records.specs.code.Passes.{rawOf, WithBits, withBits, Reading, readOn, after, Passed}
+use Rattle.records.specs.code.Passes.{rawOf, WithBits, withBits, Reading, readOn, after, reading, Passed, endNumber}
+use Rattle.records.specs.declared.fields.passing.Passing.{Passing}
 use Rattle.records.proofs.Reading.{found, none, byte-next, byte-in, bad-got}
 use Rattle.records.proofs.Chain.{raw, raw-parts}
 use Rattle.sets.proofs.SetLaws.{lt-or-le}
@@ -112,6 +113,13 @@ module _ {F : Type 0} (R : Reading F) (s : List ℕ) (at kind : ℕ) (a : F) (k 
       pick (got r p) e = let z = record-kind (R .formats) s at e .2 in step-fallen h e (lt-ltb (r .kind) kind (omega (arith, z, l)))
       pick bad e = step-bad h e
 
+  -- after the last kind, when nothing is refused so far
+  read-last : length (R .formats) < kind → (more none : Bool) → ltb at (length s) ≡ more → eqb k 0 ≡ none
+      → cond (eqb (cond more 1 (cond none 3 0)) 0) (fine a) (refused (cond more 1 (cond none 3 0)) k) ≡ readOn R s at kind a k
+  read-last l true z e f = sym (pass-last l (ltb-true at (length s) e))
+  read-last l false true e f = ap (refused 3) (eqb-true k 0 f) ∙ sym (pass-done (ltb-false at (length s) e) ∙ ap (λ (b : Bool). cond b (refused 3 0) (fine a)) f)
+  read-last l false false e f = sym (pass-done (ltb-false at (length s) e) ∙ ap (λ (b : Bool). cond b (refused 3 0) (fine a)) f)
+
 other : (a K : ℕ) → (a ≡ K → ⊥) → ltb a K ≡ ltb a (suc K)
 other a K n = pick (ltb a K) refl
   where
@@ -145,34 +153,44 @@ pub record Kind {F : Type 0} (R : Reading F) (A : Type 0) : Type 1 where
 
 -- ---- a pass, from where it has come to
 
-module _ {F : Type 0} {R : Reading F} {A : Type 0} (D : Kind R A) (s : List ℕ) (headed : Bool) (start before : ℕ) where
-  -- reading from the start of the pass is reading on from here
-  pub record Going (k at : ℕ) (xs : List A) : Type 0 where
-    pub same : (a : F) → R .Clean headed a → readOn R s start (D .K) (D .put a []) before ≡ readOn R s at (D .K) (D .put a xs) k
+-- no more records than bytes before the place, so that one more can be counted
+pub counted : {k at : ℕ} → k ≤ at → mir.Val.Fits mir.Syntax.w64 (at + 1) → mir.Val.Fits mir.Syntax.w64 (k + 1)
+counted le h = record { fits = omega (arith, h .fits, le) }
 
-  pub going : (xs : List A) → xs ≡ [] → Going before start xs
-  going xs e = record { same = λ a c. ap (λ (ys : List A). readOn R s start (D .K) (D .put a ys) before) (sym e) }
+module _ {F : Type 0} {R : Reading F} {A : Type 0} (D : Kind R A) (s : List ℕ) (from : Passing) where
+  -- what was handed in says of reading what is said here
+  pub record Going (n k at : ℕ) (xs : List A) : Type 0 where
+    pub same : (a : F) → R .Clean (from .headed) a → reading R s (D .K) from (D .put a []) ≡ after R s (D .K) n k at (D .put a xs)
 
-  module _ {k at : ℕ} {xs : List A} (inv : Going k at xs) where
+  pub going : (xs : List A) → xs ≡ [] → Going (from .number) (from .«record») (from .at) xs
+  going xs e = record { same = λ a c. ap (λ (ys : List A). reading R s (D .K) from (D .put a ys)) (sym e) }
+
+  module _ {n k at : ℕ} {xs : List A} (inv : Going n k at xs) where
     abbrev Ends : ℕ → Type 0
-    Ends n = Passed R (D .put) (D .K) s headed start before n k at xs
+    Ends m = (a : F) → R .Clean (from .headed) a → reading R s (D .K) from (D .put a []) ≡ after R s (suc (D .K)) m k at (D .put a xs)
 
-    -- the kind is read, and no number refuses it
-    goes-by : {n : ℕ} → n ≡ 0 → (a : F) → readOn R s at (suc (D .K)) (D .put a xs) k ≡ after R s (suc (D .K)) n k at (D .put a xs)
-    goes-by {n} z a = sym (ap (λ (b : Bool). cond b (readOn R s at (suc (D .K)) (D .put a xs) k) (refused n k)) (eq-eqb n 0 z))
+    ends-by : ((a : F) → readOn R s at (D .K) (D .put a xs) k ≡ readOn R s at (suc (D .K)) (D .put a xs) k) → Ends n
+    ends-by e a c = inv .same a c ∙ ap (λ (v : Verdict F). cond (eqb n 0) v (refused n k)) (e a)
 
-    pub ends-short : {n : ℕ} → n ≡ 0 → length s ≤ at → Ends n
-    ends-short z h a c = inv .same a c ∙ pass-short R s at (D .put a xs) k (D .K) h ∙ goes-by z a
+    pub ends-short : length s ≤ at → Ends n
+    ends-short h = ends-by (λ a. pass-short R s at (D .put a xs) k (D .K) h)
 
-    pub ends-other : {n : ℕ} → n ≡ 0 → (getD s at 0 ≡ D .K → ⊥) → Ends n
-    ends-other z o a c = inv .same a c ∙ pass-other R s at (D .put a xs) k (D .K) o ∙ goes-by z a
+    pub ends-other : (getD s at 0 ≡ D .K → ⊥) → Ends n
+    ends-other o = ends-by (λ a. pass-other R s at (D .put a xs) k (D .K) o)
 
-    module _ (le : k ≤ at) (h : at < length s) (e : getD s at 0 ≡ D .K) where
+    -- a refusal that was handed in is handed on
+    pub ends-refused : eqb n 0 ≡ false → Ends n
+    ends-refused z a c = inv .same a c ∙ rw z
+
+    module _ (z : eqb n 0 ≡ true) (le : k ≤ at) (h : at < length s) (e : getD s at 0 ≡ D .K) where
+      goes : (a : F) → R .Clean (from .headed) a → reading R s (D .K) from (D .put a []) ≡ readOn R s at (D .K) (D .put a xs) k
+      goes a c = inv .same a c ∙ ap (λ (b : Bool). cond b (readOn R s at (D .K) (D .put a xs) k) (refused n k)) z
+
       here : recordAt (R .formats) s at ≡ rawOf (R .formats) (D .K) s (at + 1)
       here = record-of (R .formats) s at (D .K) (D .low) (D .top) h e
 
       pub refused-bad : mapRead (withBits (D .make)) (rawOf (R .formats) (D .K) s (at + 1)) ≡ bad → Ends 1
-      refused-bad f a c = inv .same a c ∙ step-bad R s at (D .K) (D .put a xs) k h (here ∙ none (withBits (D .make)) (rawOf (R .formats) (D .K) s (at + 1)) f)
+      refused-bad f a c = goes a c ∙ step-bad R s at (D .K) (D .put a xs) k h (here ∙ none (withBits (D .make)) (rawOf (R .formats) (D .K) s (at + 1)) f)
 
       module _ (g : D .Fine xs) {b : ℕ} {x : A} {p : ℕ} (f : mapRead (withBits (D .make)) (rawOf (R .formats) (D .K) s (at + 1)) ≡ got (record { bits = b; item = x }) p) where
         reads : Taken (R .formats) (D .K) (D .make) s (at + 1) b x p
@@ -190,60 +208,50 @@ module _ {F : Type 0} {R : Reading F} {A : Type 0} (D : Kind R A) (s : List ℕ)
         grown : (a : F) → R .add r (D .put a xs) ≡ D .put a (xs ++ (x ∷ []))
         grown a = D .adds a xs b (reads .fields) ∙ ap (λ (z : A). D .put a (xs ++ (z ∷ []))) (reads .makes)
 
-        says : (a : F) → R .Clean headed a → R .judge r (R .add r (D .put a xs)) ≡ D .judge headed xs b x
-        says a c = ap (R .judge r) (D .adds a xs b (reads .fields)) ∙ D .judges headed a xs b (reads .fields) c g ∙ ap (D .judge headed xs b) (reads .makes)
+        says : (a : F) → R .Clean (from .headed) a → R .judge r (R .add r (D .put a xs)) ≡ D .judge (from .headed) xs b x
+        says a c = ap (R .judge r) (D .adds a xs b (reads .fields)) ∙ D .judges (from .headed) a xs b (reads .fields) c g ∙ ap (D .judge (from .headed) xs b) (reads .makes)
 
-        pub refused-judged : (n : ℕ) → n ≡ D .judge headed xs b x → (n ≡ 0 → ⊥) → Ends n
+        pub refused-judged : (m : ℕ) → m ≡ D .judge (from .headed) xs b x → (m ≡ 0 → ⊥) → Ends m
         refused-judged zero j z a c = absurd (z refl)
-        refused-judged (suc m) j z a c = rw (lib.Dec.eqb·suc-zero m) (inv .same a c ∙ step-judged R s at (D .K) (D .put a xs) k h is level (says a c ∙ sym j))
+        refused-judged (suc m) j z a c = rw (lib.Dec.eqb·suc-zero m) (goes a c ∙ step-judged R s at (D .K) (D .put a xs) k h is level (says a c ∙ sym j))
 
-        pub goes-on : (n : ℕ) → n ≡ D .judge headed xs b x → n ≡ 0 → (ys : List A) → ys ≡ xs ++ (x ∷ []) → Going (k + 1) p ys
-        goes-on n j z ys q = record {
+        pub goes-on : (m : ℕ) → m ≡ D .judge (from .headed) xs b x → m ≡ 0 → (ys : List A) → ys ≡ xs ++ (x ∷ []) → Going m (k + 1) p ys
+        goes-on m j y ys q = record {
           same = λ a c.
-              inv .same a c ∙ step-next R s at (D .K) (D .put a xs) k h is level (says a c ∙ sym j ∙ z) (omega arith)
-              ∙ ap (λ (b : F). readOn R s p (D .K) b (k + 1)) (grown a ∙ ap (D .put a) (sym q));
+              goes a c ∙ step-next R s at (D .K) (D .put a xs) k h is level (says a c ∙ sym j ∙ y) (omega arith)
+              ∙ ap (λ (b : F). readOn R s p (D .K) b (k + 1)) (grown a ∙ ap (D .put a) (sym q))
+              ∙ sym (ap (λ (b : Bool). cond b (readOn R s p (D .K) (D .put a ys) (k + 1)) (refused m (k + 1))) (eq-eqb m 0 y));
         }
 
         pub goes-later : at < p
-        goes-later = let z = reads .later in omega (arith, z)
+        goes-later = let w = reads .later in omega (arith, w)
 
 -- ---- pass after pass
 
--- what reading all gives, when the passes have come to here
-pub record Reached {F : Type 0} (R : Reading F) (s : List ℕ) (v : Verdict F) (kind n k at : ℕ) (a : F) : Type 0 where
-  pub is : v ≡ after R s kind n k at a
+-- what reading all gives, when the passes have come to here, and nothing is wrong with what was read
+pub record Reached {F : Type 0} (R : Reading F) (s : List ℕ) (v : Verdict F) (kind : ℕ) (p : Passing) (a : F) : Type 0 where
+  pub is : v ≡ reading R s kind p a
+  pub clean : R .Clean (p .headed) a
 
-pub first-kind : {F : Type 0} (R : Reading F) (s : List ℕ) (a : F) → Reached R s (readFrom (R .formats) (R .add) (R .judge) (length s + 1) s 0 0 a 0) 1 0 0 0 a
-first-kind R s a = record { is = ap (λ (n : ℕ). readFrom (R .formats) (R .add) (R .judge) n s 0 0 a 0) (omega arith) ∙ pass-first R s 0 a 0 }
+pub first-kind : {F : Type 0} (R : Reading F) (s : List ℕ) (a : F) → readFrom (R .formats) (R .add) (R .judge) (length s + 1) s 0 0 a 0 ≡ readOn R s 0 1 a 0
+first-kind R s a = ap (λ (n : ℕ). readFrom (R .formats) (R .add) (R .judge) n s 0 0 a 0) (omega arith) ∙ pass-first R s 0 a 0
 
-refuses : {F : Type 0} (Q : F) {n′ k′ : ℕ} (n k : ℕ) → n′ ≡ n → k′ ≡ k → (n ≡ 0 → ⊥) → cond (eqb n′ 0) (fine Q) (refused n′ k′) ≡ refused n k
-refuses Q n k e f z = ap₂ (λ (a b : ℕ). cond (eqb a 0) (fine Q) (refused a b)) e f ∙ ap (λ (b : Bool). cond b (fine Q) (refused n k)) (ne-eqb n 0 z)
+module _ {F : Type 0} {R : Reading F} {s : List ℕ} {v : Verdict F} {kind : ℕ} {p : Passing} {a : F} (w : Reached R s v kind p a) where
+  pub next-pass : {A : Type 0} (put : F → List A → F) (q : Passing) (xs : List A) → put a [] ≡ a → Passed R put kind s p q xs → q .headed ≡ p .headed → R .Clean (p .headed) (put a xs)
+      → Reached R s v (suc kind) q (put a xs)
+  next-pass put q xs e h same c = record {
+    is = w .is ∙ ap (reading R s kind p) (sym e) ∙ h a (w .clean);
+    clean = rw same c;
+  }
 
-module _ {F : Type 0} {R : Reading F} {s : List ℕ} {v : Verdict F} {kind n k at : ℕ} where
-  module _ {a : F} (w : Reached R s v kind n k at a) where
-    goes : n ≡ 0 → v ≡ readOn R s at kind a k
-    goes z = w .is ∙ ap (λ (b : Bool). cond b (readOn R s at kind a k) (refused n k)) (eq-eqb n 0 z)
+  -- after the last kind: what is refused, or what was read
+  pub all-read : {n k : ℕ} → length (R .formats) < kind → n ≡ endNumber s p → k ≡ p .«record» → cond (eqb n 0) (fine a) (refused n k) ≡ v
+  all-read l e f = ap₂ (λ (x y : ℕ). cond (eqb x 0) (fine a) (refused x y)) e f ∙ pick (eqb (p .number) 0) refl ∙ sym (w .is)
+    where
+      last : ℕ
+      last = cond (ltb (p .at) (length s)) 1 (cond (eqb (p .«record») 0) 3 0)
 
-    stops : (n ≡ 0 → ⊥) → v ≡ refused n k
-    stops z = w .is ∙ ap (λ (b : Bool). cond b (readOn R s at kind a k) (refused n k)) (ne-eqb n 0 z)
-
-  pub next-pass : {A : Type 0} (put : F → List A → F) (headed : Bool) (n′ k′ at′ : ℕ) (a : F) (xs : List A)
-      → Reached R s v kind n k at (put a []) → n ≡ 0 → R .Clean headed a → Passed R put kind s headed at k n′ k′ at′ xs → Reached R s v (suc kind) n′ k′ at′ (put a xs)
-  next-pass put headed n′ k′ at′ a xs w z c p = record { is = goes w z ∙ p a c }
-
-  -- ---- the answers: a number and a record, or what was read
-
-  module _ (Q : F) {n′ k′ : ℕ} {a : F} (w : Reached R s v kind n k at a) where
-    pub answer-stops : n′ ≡ n → k′ ≡ k → (n ≡ 0 → ⊥) → cond (eqb n′ 0) (fine Q) (refused n′ k′) ≡ v
-    answer-stops e f z = refuses Q n k e f z ∙ sym (stops w z)
-
-    -- something comes after the last kind
-    pub answer-more : n′ ≡ 1 → k′ ≡ k → n ≡ 0 → length (R .formats) < kind → at < length s → cond (eqb n′ 0) (fine Q) (refused n′ k′) ≡ v
-    answer-more e f z l h = refuses Q 1 k e f (λ q. omega (arith, q)) ∙ sym (goes w z ∙ pass-last R s at kind a k l h)
-
-    pub answer-none : n′ ≡ 3 → k′ ≡ 0 → n ≡ 0 → length s ≤ at → k ≡ 0 → cond (eqb n′ 0) (fine Q) (refused n′ k′) ≡ v
-    answer-none e f z h y =
-        refuses Q 3 0 e f (λ q. omega (arith, q)) ∙ sym (goes w z ∙ pass-done R s at kind a k h ∙ ap (λ (b : Bool). cond b (refused 3 0) (fine a)) (eq-eqb k 0 y))
-
-  pub answer-fine : {a : F} → Reached R s v kind n k at a → n ≡ 0 → length s ≤ at → (k ≡ 0 → ⊥) → fine a ≡ v
-  answer-fine {a = a} w z h y = sym (goes w z ∙ pass-done R s at kind a k h ∙ ap (λ (b : Bool). cond b (refused 3 0) (fine a)) (ne-eqb k 0 y))
+      pick : (x : Bool) → eqb (p .number) 0 ≡ x
+          → cond (eqb (cond x last (p .number)) 0) (fine a) (refused (cond x last (p .number)) (p .«record»)) ≡ cond x (readOn R s (p .at) kind a (p .«record»)) (refused (p .number) (p .«record»))
+      pick true h = read-last R s (p .at) kind a (p .«record») l (ltb (p .at) (length s)) (eqb (p .«record») 0) refl refl
+      pick false h = ap (λ (x : Bool). cond x (fine a) (refused (p .number) (p .«record»))) h

@@ -1,24 +1,25 @@
 -- A plan in which nothing is wrong so far, and the first pass over it.
-use mathlib.Core.Path.{_≡_, refl}
+use mathlib.Core.Path.{_≡_, refl, _∙_}
 use mathlib.Core.Bool.{Bool, true, false}
 use mathlib.Core.List.{List, [], _∷_}
 use Prim.Native.Nat.{ℕ, _≤_}
 use lib.ListN.{take}
 use lib.Dec.{eqb, ltb}
 use Rattle.sets.specs.paper.Sets.{allOf}
-use Rattle.records.specs.paper.Plan.{Plan, Heading, Fact, Node, Edge, Cut, Attachment, Bar, emptyPlan, planRecords, factsRise, decidedOnce, unresolved}
-use Rattle.records.specs.code.Passes.{Passed}
-use Rattle.records.specs.code.PlanPasses.{Clean, planReading, withHeadings, withFacts, withNodes, withEdges, withCuts, withAttachments, withBars}
+use Rattle.records.specs.paper.Plan.{Plan, Heading, Fact, Node, Edge, Cut, Attachment, Bar, Status, emptyPlan, planRecords, factsRise, decidedOnce, unresolved}
+use Rattle.records.specs.code.Passes.{atStart, Passed}
+use Rattle.records.specs.code.PlanPasses.{Clean, planReading, withHeadings, withFacts, withNodes, withEdges, withCuts, withAttachments, withBars, withStatuses}
+use Rattle.records.specs.declared.fields.passing.Passing.{Passing}
 use Rattle.records.proofs.KindLaws.{heading-there}
-use Rattle.records.proofs.Passing.{Reached, first-kind, next-pass}
+use Rattle.records.proofs.Passing.{Reached, first-kind}
 
 -- ---- nothing is wrong so far
 
-pub clean-none : Clean false emptyPlan
+clean-none : Clean false emptyPlan
 unfolding factsRise unresolved allOf
 clean-none = record { heads = refl; rise = refl; few = refl; once = refl }
 
-pub clean-heading : (n : ℕ) (x : Heading) → n ≤ 1 → Clean (eqb n 1) (withHeadings emptyPlan (take n (x ∷ [])))
+clean-heading : (n : ℕ) (x : Heading) → n ≤ 1 → Clean (eqb n 1) (withHeadings emptyPlan (take n (x ∷ [])))
 unfolding factsRise unresolved allOf
 clean-heading n x h = record { heads = heading-there n x h; rise = refl; few = refl; once = refl }
 
@@ -41,8 +42,12 @@ module _ {headed : Bool} {P : Plan} (c : Clean headed P) where
   pub clean-bars : (xs : List Bar) → Clean headed (withBars P xs)
   clean-bars xs = record { heads = c .heads; rise = c .rise; few = c .few; once = c .once }
 
--- ---- pass after pass
+  pub clean-statuses : (xs : List Status) → Clean headed (withStatuses P xs)
+  clean-statuses xs = record { heads = c .heads; rise = c .rise; few = c .few; once = c .once }
 
-pub first-pass : (s : List ℕ) (n k at : ℕ) (xs : List Heading) → Passed planReading withHeadings 1 s false 0 0 n k at xs → Reached planReading s (planRecords s) 2 n k at (withHeadings emptyPlan xs)
+-- ---- the first pass
+
+pub first-pass : (s : List ℕ) (p : Passing) (n : ℕ) (x : Heading) → Passed planReading withHeadings 1 s atStart p (take n (x ∷ [])) → n ≤ 1 → p .headed ≡ eqb n 1
+    → Reached planReading s (planRecords s) 2 p (withHeadings emptyPlan (take n (x ∷ [])))
 unfolding planRecords
-first-pass s n k at xs p = next-pass withHeadings false n k at emptyPlan xs (first-kind planReading s emptyPlan) refl clean-none p
+first-pass s p n x h l e = record { is = first-kind planReading s emptyPlan ∙ h emptyPlan clean-none; clean = rw e (clean-heading n x l) }

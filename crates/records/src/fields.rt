@@ -1,6 +1,7 @@
 // Readers of fields by their place: each answers the field's value and the place after it, or that the record is cut short or out of range.
 pub mod judge;
 pub mod lists;
+pub mod passing;
 
 use crate::plan::Election;
 ghost use mathlib.Core.Path.{_≡_};

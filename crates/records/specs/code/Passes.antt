@@ -1,11 +1,12 @@
 -- Reading a file kind by kind: what a pass over the records of one kind stands for. Contracts of src/plan/reading/ and src/case/reading/ cite it.
 use mathlib.Core.Path.{_≡_}
-use mathlib.Core.Bool.{Bool, _||_, cond}
+use mathlib.Core.Bool.{Bool, false, _||_, cond}
 use mathlib.Core.List.{List, []}
 use Prim.Native.Nat.{ℕ, suc, _-_}
 use lib.ListN.{length}
-use lib.Dec.{eqb, leb}
+use lib.Dec.{eqb, ltb, leb}
 use Rattle.records.specs.paper.Fields.{number, Read, got, andThen, byteAt, fieldsAt, Raw, Format, formatOf, Verdict, refused, readFrom}
+use Rattle.records.specs.declared.fields.passing.Passing.{Passing}
 
 -- a record of this kind, from its bit map on
 abbrev pub rawOf : List Format → ℕ → List ℕ → ℕ → Read Raw
@@ -33,13 +34,25 @@ module _ {F : Type 0} (R : Reading F) where
   abbrev pub readOn : List ℕ → ℕ → ℕ → F → ℕ → Verdict F
   readOn s at kind a k = readFrom (R .formats) (R .add) (R .judge) (suc (length s - k)) s at kind a k
 
-  -- a pass ends with a refusal, or reading goes on
+  -- something was refused, or reading goes on
   abbrev pub after : List ℕ → ℕ → ℕ → ℕ → ℕ → F → Verdict F
   after s kind n k at a = cond (eqb n 0) (readOn s at kind a k) (refused n k)
 
-  -- the pass over a kind: with whatever else was read, reading from its start is what it says
-  abbrev pub Passed : {A : Type 0} → (F → List A → F) → ℕ → List ℕ → Bool → ℕ → ℕ → ℕ → ℕ → ℕ → List A → Type 0
-  Passed put kind s headed start before n k at xs = (a : F) → R .Clean headed a → readOn s start kind (put a []) before ≡ after s (suc kind) n k at (put a xs)
+  -- the same of a state that is handed on
+  abbrev pub reading : List ℕ → ℕ → Passing → F → Verdict F
+  reading s kind p a = after s kind (p .number) (p .«record») (p .at) a
+
+  -- the pass over a kind: with whatever else was read, a refusal is handed on, or reading from its start is what it says
+  abbrev pub Passed : {A : Type 0} → (F → List A → F) → ℕ → List ℕ → Passing → Passing → List A → Type 0
+  Passed put kind s from to xs = (a : F) → R .Clean (from .headed) a → reading s kind from (put a []) ≡ reading s (suc kind) to (put a xs)
+
+-- before the first record
+abbrev pub atStart : Passing
+atStart = record { number = 0; «record» = 0; at = 0; headed = false }
+
+-- the number when the last kind was read: 1 if something comes after it, 3 if there was no record
+abbrev pub endNumber : List ℕ → Passing → ℕ
+endNumber s p = cond (eqb (p .number) 0) (cond (ltb (p .at) (length s)) 1 (cond (eqb (p .«record») 0) 3 0)) (p .number)
 
 -- "2 past a limit", when n of the kind came before, or past the plan's other limit; 3 if the record does not fit; 5 if it is not sound
 abbrev pub judgement : ℕ → ℕ → Bool → Bool → Bool → ℕ

@@ -7,17 +7,13 @@ pub mod relations;
 
 use crate::case::Case;
 use crate::case::naming::case_naming;
-use crate::case::reading::booleans::no_booleans;
 use crate::case::reading::booleans::read_booleans;
-use crate::case::reading::constraints::no_constraints;
 use crate::case::reading::constraints::read_constraints;
-use crate::case::reading::families::no_families;
 use crate::case::reading::families::read_families;
-use crate::case::reading::heading::no_heading;
 use crate::case::reading::heading::read_case_heading;
-use crate::case::reading::relations::no_relations;
 use crate::case::reading::relations::read_relations;
 use crate::checked::Checked;
+use crate::fields::passing::ended;
 use crate::plan::Plan;
 ghost use mathlib.Core.Path.{_≡_};
 ghost use Rattle.records.specs.paper.Case.{caseRecords, readCase};
@@ -31,59 +27,16 @@ pub struct CaseRead {
     pub case: Case,
 }
 
-fn refused(number: u8, k: usize) -> CaseRead
-    ensures { λ r. ⌜ (r .number ≡ number) × (r .record ≡ k) ⌝ }
-{
-    let heading = no_heading();
-    let families = no_families();
-    let booleans = no_booleans();
-    let relations = no_relations();
-    let constraints = no_constraints();
-    let case = Case {
-        headings: 0,
-        heading: heading,
-        families: families,
-        booleans: booleans,
-        relations: relations,
-        constraints: constraints,
-    };
-    CaseRead {
-        number: number,
-        record: k,
-        case: case,
-    }
-}
-
+// Each reader hands a refusal on, so that what was read after it is empty.
 pub fn read_case_records(s: &[u8]) -> CaseRead
     ensures { λ r. ⌜ caseReadOf r ≡ caseRecords (now (s .entry)) ⌝ }
 {
     let h = read_case_heading(s);
-    if h.number != 0 {
-        return refused(h.number, h.record);
-    }
-    let headed = h.headings == 1;
-    let f = read_families(s, h.at, h.record, headed);
-    if f.number != 0 {
-        return refused(f.number, f.record);
-    }
-    let b = read_booleans(s, f.at, f.record, headed);
-    if b.number != 0 {
-        return refused(b.number, b.record);
-    }
-    let r = read_relations(s, b.at, b.record, headed);
-    if r.number != 0 {
-        return refused(r.number, r.record);
-    }
-    let c = read_constraints(s, r.at, r.record, headed);
-    if c.number != 0 {
-        return refused(c.number, c.record);
-    }
-    if c.at < s.len() {
-        return refused(1, c.record);
-    }
-    if c.record == 0 {
-        return refused(3, 0);
-    }
+    let f = read_families(s, h.next);
+    let b = read_booleans(s, f.next);
+    let r = read_relations(s, b.next);
+    let c = read_constraints(s, r.next);
+    let end = ended(s, c.next);
     let heading = h.heading;
     let families = f.families;
     let booleans = b.booleans;
@@ -98,8 +51,8 @@ pub fn read_case_records(s: &[u8]) -> CaseRead
         constraints: constraints,
     };
     CaseRead {
-        number: 0,
-        record: 0,
+        number: end.number,
+        record: end.record,
         case: case,
     }
 }

@@ -9,6 +9,7 @@ use crate::fields::judge::judged;
 use crate::fields::lists::observations_from;
 use crate::fields::opt_at;
 use crate::fields::pairs_at;
+use crate::fields::passing::Passing;
 ghost use mathlib.Core.Path.{_≡_};
 ghost use mathlib.Core.List.{[]};
 ghost use Prim.Native.Nat.{_≤_, _+_};
@@ -47,15 +48,12 @@ pub fn boolean_at(s: &[u8], at: usize) -> BooleanSeen
     BooleanSeen::Bad
 }
 
-// number 0: all were read, and `at` is the place after them
 pub struct BooleansRead {
-    pub number: u8,
-    pub record: usize,
-    pub at: usize,
+    pub next: Passing,
     pub booleans: Booleans,
 }
 
-pub fn no_booleans() -> Booleans
+fn no_booleans() -> Booleans
     ensures { λ r. ⌜ (booleansOf r ≡ []) × (r .count ≡ 0) × (length (r .items) ≡ 64) ⌝ }
 {
     let none = Observations {
@@ -75,28 +73,27 @@ pub fn no_booleans() -> Booleans
     }
 }
 
-pub fn read_booleans(s: &[u8], start: usize, before: usize, headed: bool) -> BooleansRead
-    requires { ⌜ before ≤ start ⌝ }
+pub fn read_booleans(s: &[u8], from: Passing) -> BooleansRead
+    requires { ⌜ from .record ≤ from .at ⌝ }
     ensures { λ r.
-        ⌜ Passed caseReading withBooleans 3 (now (s .entry)) headed start before (r .number) (r .record) (r .at) (booleansOf (r .booleans))
-        × (r .record ≤ r .at) ⌝ }
+        ⌜ Passed caseReading withBooleans 3 (now (s .entry)) from (r .next) (booleansOf (r .booleans))
+        × (r .next .record ≤ r .next .at) × (r .next .headed ≡ from .headed) ⌝ }
 {
     let mut booleans = no_booleans();
-    let mut number: u8 = 0;
-    let mut at = start;
-    let mut k = before;
-    while at < s.len() {
+    let mut here = from;
+    while here.at < s.len() && here.number == 0 {
+        let at = here.at;
         if s[at] != 3 {
             break;
         }
         let BooleanSeen::Got(bits, fact, evidence, first, count, next) = boolean_at(s, at + 1)
         else {
-            number = 1;
+            here.number = 1;
             break;
         };
         let n = booleans.count;
-        number = judged(n, 64, false, bits & 1 == 1, headed, true);
-        if number != 0 {
+        here.number = judged(n, 64, false, bits & 1 == 1, from.headed, true);
+        if here.number != 0 {
             break;
         }
         let observations = observations_from(s, first, count);
@@ -107,13 +104,11 @@ pub fn read_booleans(s: &[u8], start: usize, before: usize, headed: bool) -> Boo
             observations: observations,
         };
         booleans.count = n + 1;
-        at = next;
-        k = k + 1;
+        here.at = next;
+        here.record = here.record + 1;
     }
     BooleansRead {
-        number: number,
-        record: k,
-        at: at,
+        next: here,
         booleans: booleans,
     }
 }

@@ -4,6 +4,7 @@ use crate::fields::Field;
 use crate::fields::byte_at;
 use crate::fields::judge::judged;
 use crate::fields::opt_at;
+use crate::fields::passing::Passing;
 ghost use mathlib.Core.Path.{_≡_};
 ghost use mathlib.Core.List.{[]};
 ghost use Prim.Native.Nat.{_≤_, _+_};
@@ -36,15 +37,12 @@ pub fn constraint_at(s: &[u8], at: usize) -> ConstraintSeen
     ConstraintSeen::Bad
 }
 
-// number 0: all were read, and `at` is the place after them
 pub struct ConstraintsRead {
-    pub number: u8,
-    pub record: usize,
-    pub at: usize,
+    pub next: Passing,
     pub constraints: Constraints,
 }
 
-pub fn no_constraints() -> Constraints
+fn no_constraints() -> Constraints
     ensures { λ r. ⌜ (constraintsOf r ≡ []) × (r .count ≡ 0) × (length (r .items) ≡ 16) ⌝ }
 {
     Constraints {
@@ -53,38 +51,35 @@ pub fn no_constraints() -> Constraints
     }
 }
 
-pub fn read_constraints(s: &[u8], start: usize, before: usize, headed: bool) -> ConstraintsRead
-    requires { ⌜ before ≤ start ⌝ }
+pub fn read_constraints(s: &[u8], from: Passing) -> ConstraintsRead
+    requires { ⌜ from .record ≤ from .at ⌝ }
     ensures { λ r.
-        ⌜ Passed caseReading withConstraints 5 (now (s .entry)) headed start before (r .number) (r .record) (r .at) (constraintsOf (r .constraints))
-        × (r .record ≤ r .at) ⌝ }
+        ⌜ Passed caseReading withConstraints 5 (now (s .entry)) from (r .next) (constraintsOf (r .constraints))
+        × (r .next .record ≤ r .next .at) × (r .next .headed ≡ from .headed) ⌝ }
 {
     let mut constraints = no_constraints();
-    let mut number: u8 = 0;
-    let mut at = start;
-    let mut k = before;
-    while at < s.len() {
+    let mut here = from;
+    while here.at < s.len() && here.number == 0 {
+        let at = here.at;
         if s[at] != 5 {
             break;
         }
         let ConstraintSeen::Got(bits, node, next) = constraint_at(s, at + 1) else {
-            number = 1;
+            here.number = 1;
             break;
         };
         let n = constraints.count;
-        number = judged(n, 16, false, bits & 1 == 1, headed, true);
-        if number != 0 {
+        here.number = judged(n, 16, false, bits & 1 == 1, from.headed, true);
+        if here.number != 0 {
             break;
         }
         constraints.items[n] = node;
         constraints.count = n + 1;
-        at = next;
-        k = k + 1;
+        here.at = next;
+        here.record = here.record + 1;
     }
     ConstraintsRead {
-        number: number,
-        record: k,
-        at: at,
+        next: here,
         constraints: constraints,
     }
 }

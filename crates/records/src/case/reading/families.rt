@@ -5,6 +5,7 @@ use crate::fields::Field;
 use crate::fields::byte_at;
 use crate::fields::judge::judged;
 use crate::fields::opt_at;
+use crate::fields::passing::Passing;
 ghost use mathlib.Core.Path.{_≡_};
 ghost use mathlib.Core.List.{[]};
 ghost use Prim.Native.Nat.{_≤_, _+_};
@@ -49,15 +50,12 @@ pub fn family_at(s: &[u8], at: usize) -> FamilySeen
     FamilySeen::Bad
 }
 
-// number 0: all were read, and `at` is the place after them
 pub struct FamiliesRead {
-    pub number: u8,
-    pub record: usize,
-    pub at: usize,
+    pub next: Passing,
     pub families: Families,
 }
 
-pub fn no_families() -> Families
+fn no_families() -> Families
     ensures { λ r. ⌜ (familiesOf r ≡ []) × (r .count ≡ 0) × (length (r .items) ≡ 16) ⌝ }
 {
     let blank = Family {
@@ -72,38 +70,35 @@ pub fn no_families() -> Families
     }
 }
 
-pub fn read_families(s: &[u8], start: usize, before: usize, headed: bool) -> FamiliesRead
-    requires { ⌜ before ≤ start ⌝ }
+pub fn read_families(s: &[u8], from: Passing) -> FamiliesRead
+    requires { ⌜ from .record ≤ from .at ⌝ }
     ensures { λ r.
-        ⌜ Passed caseReading withFamilies 2 (now (s .entry)) headed start before (r .number) (r .record) (r .at) (familiesOf (r .families))
-        × (r .record ≤ r .at) ⌝ }
+        ⌜ Passed caseReading withFamilies 2 (now (s .entry)) from (r .next) (familiesOf (r .families))
+        × (r .next .record ≤ r .next .at) × (r .next .headed ≡ from .headed) ⌝ }
 {
     let mut families = no_families();
-    let mut number: u8 = 0;
-    let mut at = start;
-    let mut k = before;
-    while at < s.len() {
+    let mut here = from;
+    while here.at < s.len() && here.number == 0 {
+        let at = here.at;
         if s[at] != 2 {
             break;
         }
         let FamilySeen::Got(bits, family, next) = family_at(s, at + 1) else {
-            number = 1;
+            here.number = 1;
             break;
         };
         let n = families.count;
-        number = judged(n, 16, false, bits & 1 == 1, headed, true);
-        if number != 0 {
+        here.number = judged(n, 16, false, bits & 1 == 1, from.headed, true);
+        if here.number != 0 {
             break;
         }
         families.items[n] = family;
         families.count = n + 1;
-        at = next;
-        k = k + 1;
+        here.at = next;
+        here.record = here.record + 1;
     }
     FamiliesRead {
-        number: number,
-        record: k,
-        at: at,
+        next: here,
         families: families,
     }
 }

@@ -7,14 +7,16 @@ use crate::fields::byte_at;
 use crate::fields::judge::judged;
 use crate::fields::mask_at;
 use crate::fields::opt_at;
+use crate::fields::passing::Passing;
+use crate::fields::passing::at_start;
 use crate::fields::short_at;
 ghost use mathlib.Core.Path.{_≡_};
-ghost use mathlib.Core.Bool.{false};
 ghost use Prim.Native.Nat.{_≤_};
+ghost use lib.Dec.{eqb};
 ghost use Rattle.records.specs.paper.Case.{caseFormats, caseHeadingFrom, caseHeading, emptyCase};
 ghost use Rattle.records.specs.code.Decoded.{caseHeadingOf, caseHeadingsOf};
 ghost use Rattle.records.specs.code.Readers.{mapRead};
-ghost use Rattle.records.specs.code.Passes.{rawOf, withBits, Passed};
+ghost use Rattle.records.specs.code.Passes.{rawOf, withBits, atStart, Passed};
 ghost use Rattle.records.specs.code.CasePasses.{caseReading, caseHeadingRead, withCaseHeadings};
 
 // The bits, the heading, and the place after it.
@@ -63,16 +65,14 @@ pub fn heading_at(s: &[u8], at: usize) -> HeadingSeen
     HeadingSeen::Bad
 }
 
-// number 0: `at` is the place after the heading; `headings` is 1 once it is read
+// `headings` is 1 once it is read
 pub struct CaseHeadingRead {
-    pub number: u8,
-    pub record: usize,
-    pub at: usize,
+    pub next: Passing,
     pub headings: usize,
     pub heading: CaseHeading,
 }
 
-pub fn no_heading() -> CaseHeading
+fn no_heading() -> CaseHeading
     ensures { λ r. ⌜ caseHeadingOf r ≡ caseHeading emptyCase ⌝ }
 {
     CaseHeading {
@@ -89,35 +89,33 @@ pub fn no_heading() -> CaseHeading
 
 pub fn read_case_heading(s: &[u8]) -> CaseHeadingRead
     ensures { λ r.
-        ⌜ Passed caseReading withCaseHeadings 1 (now (s .entry)) false 0 0 (r .number) (r .record) (r .at) (caseHeadingsOf (r .headings) (r .heading))
-        × (r .record ≤ r .at) × (r .headings ≤ 1) ⌝ }
+        ⌜ Passed caseReading withCaseHeadings 1 (now (s .entry)) atStart (r .next) (caseHeadingsOf (r .headings) (r .heading))
+        × (r .next .record ≤ r .next .at) × (r .headings ≤ 1) × (r .next .headed ≡ eqb (r .headings) 1) ⌝ }
 {
     let mut headings: usize = 0;
     let mut heading = no_heading();
-    let mut number: u8 = 0;
-    let mut at: usize = 0;
-    let mut k: usize = 0;
-    while at < s.len() {
+    let mut here = at_start();
+    while here.at < s.len() {
+        let at = here.at;
         if s[at] != 1 {
             break;
         }
         let HeadingSeen::Got(bits, seen, next) = heading_at(s, at + 1) else {
-            number = 1;
+            here.number = 1;
             break;
         };
-        number = judged(headings, 1, false, bits & 81 == 81, true, true);
-        if number != 0 {
+        here.number = judged(headings, 1, false, bits & 81 == 81, true, true);
+        if here.number != 0 {
             break;
         }
         headings = 1;
+        here.headed = true;
         heading = seen;
-        at = next;
-        k = k + 1;
+        here.at = next;
+        here.record = here.record + 1;
     }
     CaseHeadingRead {
-        number: number,
-        record: k,
-        at: at,
+        next: here,
         headings: headings,
         heading: heading,
     }

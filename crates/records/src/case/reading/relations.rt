@@ -5,6 +5,7 @@ use crate::fields::Field;
 use crate::fields::byte_at;
 use crate::fields::judge::judged;
 use crate::fields::opt_at;
+use crate::fields::passing::Passing;
 ghost use mathlib.Core.Path.{_≡_};
 ghost use mathlib.Core.List.{[]};
 ghost use Prim.Native.Nat.{_≤_, _+_};
@@ -48,15 +49,12 @@ pub fn relation_at(s: &[u8], at: usize) -> RelationSeen
     RelationSeen::Bad
 }
 
-// number 0: all were read, and `at` is the place after them
 pub struct RelationsRead {
-    pub number: u8,
-    pub record: usize,
-    pub at: usize,
+    pub next: Passing,
     pub relations: Relations,
 }
 
-pub fn no_relations() -> Relations
+fn no_relations() -> Relations
     ensures { λ r. ⌜ (relationsOf r ≡ []) × (r .count ≡ 0) × (length (r .items) ≡ 256) ⌝ }
 {
     let blank = Relation {
@@ -70,38 +68,35 @@ pub fn no_relations() -> Relations
     }
 }
 
-pub fn read_relations(s: &[u8], start: usize, before: usize, headed: bool) -> RelationsRead
-    requires { ⌜ before ≤ start ⌝ }
+pub fn read_relations(s: &[u8], from: Passing) -> RelationsRead
+    requires { ⌜ from .record ≤ from .at ⌝ }
     ensures { λ r.
-        ⌜ Passed caseReading withRelations 4 (now (s .entry)) headed start before (r .number) (r .record) (r .at) (relationsOf (r .relations))
-        × (r .record ≤ r .at) ⌝ }
+        ⌜ Passed caseReading withRelations 4 (now (s .entry)) from (r .next) (relationsOf (r .relations))
+        × (r .next .record ≤ r .next .at) × (r .next .headed ≡ from .headed) ⌝ }
 {
     let mut relations = no_relations();
-    let mut number: u8 = 0;
-    let mut at = start;
-    let mut k = before;
-    while at < s.len() {
+    let mut here = from;
+    while here.at < s.len() && here.number == 0 {
+        let at = here.at;
         if s[at] != 4 {
             break;
         }
         let RelationSeen::Got(bits, relation, next) = relation_at(s, at + 1) else {
-            number = 1;
+            here.number = 1;
             break;
         };
         let n = relations.count;
-        number = judged(n, 256, false, bits & 7 == 7, headed, true);
-        if number != 0 {
+        here.number = judged(n, 256, false, bits & 7 == 7, from.headed, true);
+        if here.number != 0 {
             break;
         }
         relations.items[n] = relation;
         relations.count = n + 1;
-        at = next;
-        k = k + 1;
+        here.at = next;
+        here.record = here.record + 1;
     }
     RelationsRead {
-        number: number,
-        record: k,
-        at: at,
+        next: here,
         relations: relations,
     }
 }

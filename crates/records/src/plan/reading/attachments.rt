@@ -8,6 +8,7 @@ use crate::fields::judge::judged;
 use crate::fields::mask_at;
 use crate::fields::no_election;
 use crate::fields::opt_at;
+use crate::fields::passing::Passing;
 use crate::plan::Attachment;
 use crate::plan::Attachments;
 ghost use mathlib.Core.Path.{_≡_};
@@ -64,15 +65,12 @@ pub fn attachment_at(s: &[u8], at: usize) -> AttachmentSeen
     AttachmentSeen::Bad
 }
 
-// number 0: all were read, and `at` is the place after them
 pub struct AttachmentsRead {
-    pub number: u8,
-    pub record: usize,
-    pub at: usize,
+    pub next: Passing,
     pub attachments: Attachments,
 }
 
-pub fn no_attachments() -> Attachments
+fn no_attachments() -> Attachments
     ensures { λ r. ⌜ (attachmentsOf r ≡ []) × (r .count ≡ 0) × (length (r .items) ≡ 32) ⌝ }
 {
     let none = no_election();
@@ -90,38 +88,35 @@ pub fn no_attachments() -> Attachments
     }
 }
 
-pub fn read_attachments(s: &[u8], start: usize, before: usize, headed: bool) -> AttachmentsRead
-    requires { ⌜ before ≤ start ⌝ }
+pub fn read_attachments(s: &[u8], from: Passing) -> AttachmentsRead
+    requires { ⌜ from .record ≤ from .at ⌝ }
     ensures { λ r.
-        ⌜ Passed planReading withAttachments 6 (now (s .entry)) headed start before (r .number) (r .record) (r .at) (attachmentsOf (r .attachments))
-        × (r .record ≤ r .at) ⌝ }
+        ⌜ Passed planReading withAttachments 6 (now (s .entry)) from (r .next) (attachmentsOf (r .attachments))
+        × (r .next .record ≤ r .next .at) × (r .next .headed ≡ from .headed) ⌝ }
 {
     let mut attachments = no_attachments();
-    let mut number: u8 = 0;
-    let mut at = start;
-    let mut k = before;
-    while at < s.len() {
+    let mut here = from;
+    while here.at < s.len() && here.number == 0 {
+        let at = here.at;
         if s[at] != 6 {
             break;
         }
         let AttachmentSeen::Got(bits, attachment, next) = attachment_at(s, at + 1) else {
-            number = 1;
+            here.number = 1;
             break;
         };
         let n = attachments.count;
-        number = judged(n, 32, false, bits & 31 == 31, headed, true);
-        if number != 0 {
+        here.number = judged(n, 32, false, bits & 31 == 31, from.headed, true);
+        if here.number != 0 {
             break;
         }
         attachments.items[n] = attachment;
         attachments.count = n + 1;
-        at = next;
-        k = k + 1;
+        here.at = next;
+        here.record = here.record + 1;
     }
     AttachmentsRead {
-        number: number,
-        record: k,
-        at: at,
+        next: here,
         attachments: attachments,
     }
 }

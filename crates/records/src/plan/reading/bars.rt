@@ -5,6 +5,7 @@ use crate::fields::byte_at;
 use crate::fields::judge::judged;
 use crate::fields::mask_at;
 use crate::fields::opt_at;
+use crate::fields::passing::Passing;
 use crate::plan::Bar;
 use crate::plan::Bars;
 ghost use mathlib.Core.Path.{_≡_};
@@ -50,15 +51,12 @@ pub fn bar_at(s: &[u8], at: usize) -> BarSeen
     BarSeen::Bad
 }
 
-// number 0: all were read, and `at` is the place after them
 pub struct BarsRead {
-    pub number: u8,
-    pub record: usize,
-    pub at: usize,
+    pub next: Passing,
     pub bars: Bars,
 }
 
-pub fn no_bars() -> Bars
+fn no_bars() -> Bars
     ensures { λ r. ⌜ (barsOf r ≡ []) × (r .count ≡ 0) × (length (r .items) ≡ 32) ⌝ }
 {
     let blank = Bar {
@@ -72,38 +70,35 @@ pub fn no_bars() -> Bars
     }
 }
 
-pub fn read_bars(s: &[u8], start: usize, before: usize, headed: bool) -> BarsRead
-    requires { ⌜ before ≤ start ⌝ }
+pub fn read_bars(s: &[u8], from: Passing) -> BarsRead
+    requires { ⌜ from .record ≤ from .at ⌝ }
     ensures { λ r.
-        ⌜ Passed planReading withBars 7 (now (s .entry)) headed start before (r .number) (r .record) (r .at) (barsOf (r .bars))
-        × (r .record ≤ r .at) ⌝ }
+        ⌜ Passed planReading withBars 7 (now (s .entry)) from (r .next) (barsOf (r .bars))
+        × (r .next .record ≤ r .next .at) × (r .next .headed ≡ from .headed) ⌝ }
 {
     let mut bars = no_bars();
-    let mut number: u8 = 0;
-    let mut at = start;
-    let mut k = before;
-    while at < s.len() {
+    let mut here = from;
+    while here.at < s.len() && here.number == 0 {
+        let at = here.at;
         if s[at] != 7 {
             break;
         }
         let BarSeen::Got(bits, bar, next) = bar_at(s, at + 1) else {
-            number = 1;
+            here.number = 1;
             break;
         };
         let n = bars.count;
-        number = judged(n, 32, false, bits & 7 == 7, headed, true);
-        if number != 0 {
+        here.number = judged(n, 32, false, bits & 7 == 7, from.headed, true);
+        if here.number != 0 {
             break;
         }
         bars.items[n] = bar;
         bars.count = n + 1;
-        at = next;
-        k = k + 1;
+        here.at = next;
+        here.record = here.record + 1;
     }
     BarsRead {
-        number: number,
-        record: k,
-        at: at,
+        next: here,
         bars: bars,
     }
 }

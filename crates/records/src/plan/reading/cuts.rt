@@ -13,6 +13,7 @@ use crate::fields::mask_at;
 use crate::fields::no_election;
 use crate::fields::opt_at;
 use crate::fields::pairs_at;
+use crate::fields::passing::Passing;
 use crate::plan::Cut;
 use crate::plan::Cuts;
 use crate::plan::Decisions;
@@ -108,15 +109,12 @@ fn cut_from(s: &[u8], fields: CutFields) -> Cut
     }
 }
 
-// number 0: all were read, and `at` is the place after them
 pub struct CutsRead {
-    pub number: u8,
-    pub record: usize,
-    pub at: usize,
+    pub next: Passing,
     pub cuts: Cuts,
 }
 
-pub fn no_cuts() -> Cuts
+fn no_cuts() -> Cuts
     ensures { λ r. ⌜ (cutsOf r ≡ []) × (r .count ≡ 0) × (length (r .items) ≡ 16) ⌝ }
 {
     let election = no_election();
@@ -143,24 +141,23 @@ pub fn no_cuts() -> Cuts
     }
 }
 
-pub fn read_cuts(s: &[u8], start: usize, before: usize, headed: bool) -> CutsRead
-    requires { ⌜ before ≤ start ⌝ }
+pub fn read_cuts(s: &[u8], from: Passing) -> CutsRead
+    requires { ⌜ from .record ≤ from .at ⌝ }
     ensures { λ r.
-        ⌜ Passed planReading withCuts 5 (now (s .entry)) headed start before (r .number) (r .record) (r .at) (cutsOf (r .cuts))
-        × (r .record ≤ r .at) × (ltb 16 (paper.unresolved (cutsOf (r .cuts))) ≡ false)
+        ⌜ Passed planReading withCuts 5 (now (s .entry)) from (r .next) (cutsOf (r .cuts))
+        × (r .next .record ≤ r .next .at) × (r .next .headed ≡ from .headed) × (ltb 16 (paper.unresolved (cutsOf (r .cuts))) ≡ false)
         × (allOf (λ c. paper.decidedOnce (c .decisions)) (cutsOf (r .cuts)) ≡ true) ⌝ }
 {
     let mut cuts = no_cuts();
     let mut pending: usize = 0;
-    let mut number: u8 = 0;
-    let mut at = start;
-    let mut k = before;
-    while at < s.len() {
+    let mut here = from;
+    while here.at < s.len() && here.number == 0 {
+        let at = here.at;
         if s[at] != 5 {
             break;
         }
         let CutSeen::Got(bits, fields, next) = cut_at(s, at + 1) else {
-            number = 1;
+            here.number = 1;
             break;
         };
         let n = cuts.count;
@@ -168,20 +165,18 @@ pub fn read_cuts(s: &[u8], start: usize, before: usize, headed: bool) -> CutsRea
         let decisions = cut.decisions;
         let total = pending + unresolved_in(decisions);
         let once = decided_once(decisions);
-        number = judged(n, 16, 16 < total, bits & 7 == 7, headed, once);
-        if number != 0 {
+        here.number = judged(n, 16, 16 < total, bits & 7 == 7, from.headed, once);
+        if here.number != 0 {
             break;
         }
         cuts.items[n] = cut;
         cuts.count = n + 1;
         pending = total;
-        at = next;
-        k = k + 1;
+        here.at = next;
+        here.record = here.record + 1;
     }
     CutsRead {
-        number: number,
-        record: k,
-        at: at,
+        next: here,
         cuts: cuts,
     }
 }

@@ -6,6 +6,7 @@ use crate::fields::judge::judged;
 use crate::fields::list_at;
 use crate::fields::lists::numbers_from;
 use crate::fields::opt_at;
+use crate::fields::passing::Passing;
 use crate::plan::Edge;
 use crate::plan::Edges;
 use crate::plan::Numbers;
@@ -85,15 +86,12 @@ fn edge_from(s: &[u8], bits: u8, fields: EdgeFields) -> Edge
     }
 }
 
-// number 0: all were read, and `at` is the place after them
 pub struct EdgesRead {
-    pub number: u8,
-    pub record: usize,
-    pub at: usize,
+    pub next: Passing,
     pub edges: Edges,
 }
 
-pub fn no_edges() -> Edges
+fn no_edges() -> Edges
     ensures { λ r. ⌜ (edgesOf r ≡ []) × (r .count ≡ 0) × (length (r .items) ≡ 64) ⌝ }
 {
     let none = Numbers {
@@ -114,38 +112,35 @@ pub fn no_edges() -> Edges
     }
 }
 
-pub fn read_edges(s: &[u8], start: usize, before: usize, headed: bool) -> EdgesRead
-    requires { ⌜ before ≤ start ⌝ }
+pub fn read_edges(s: &[u8], from: Passing) -> EdgesRead
+    requires { ⌜ from .record ≤ from .at ⌝ }
     ensures { λ r.
-        ⌜ Passed planReading withEdges 4 (now (s .entry)) headed start before (r .number) (r .record) (r .at) (edgesOf (r .edges))
-        × (r .record ≤ r .at) ⌝ }
+        ⌜ Passed planReading withEdges 4 (now (s .entry)) from (r .next) (edgesOf (r .edges))
+        × (r .next .record ≤ r .next .at) × (r .next .headed ≡ from .headed) ⌝ }
 {
     let mut edges = no_edges();
-    let mut number: u8 = 0;
-    let mut at = start;
-    let mut k = before;
-    while at < s.len() {
+    let mut here = from;
+    while here.at < s.len() && here.number == 0 {
+        let at = here.at;
         if s[at] != 4 {
             break;
         }
         let EdgeSeen::Got(bits, fields, next) = edge_at(s, at + 1) else {
-            number = 1;
+            here.number = 1;
             break;
         };
         let n = edges.count;
-        number = judged(n, 64, false, bits & 15 == 15, headed, true);
-        if number != 0 {
+        here.number = judged(n, 64, false, bits & 15 == 15, from.headed, true);
+        if here.number != 0 {
             break;
         }
         edges.items[n] = edge_from(s, bits, fields);
         edges.count = n + 1;
-        at = next;
-        k = k + 1;
+        here.at = next;
+        here.record = here.record + 1;
     }
     EdgesRead {
-        number: number,
-        record: k,
-        at: at,
+        next: here,
         edges: edges,
     }
 }

@@ -6,6 +6,7 @@ use crate::fields::judge::judged;
 use crate::fields::list_at;
 use crate::fields::lists::tuple_from;
 use crate::fields::opt_at;
+use crate::fields::passing::Passing;
 use crate::plan::Fact;
 use crate::plan::Facts;
 use crate::plan::checks::fact_order::fact_rises;
@@ -61,11 +62,8 @@ fn fact_from(s: &[u8], bits: u8, family: u8, first: usize, count: u8) -> Fact
     }
 }
 
-// number 0: all were read, and `at` is the place after them
 pub struct FactsRead {
-    pub number: u8,
-    pub record: usize,
-    pub at: usize,
+    pub next: Passing,
     pub facts: Facts,
 }
 
@@ -81,7 +79,7 @@ fn no_fact() -> Fact
     }
 }
 
-pub fn no_facts() -> Facts
+fn no_facts() -> Facts
     ensures { λ r. ⌜ (factsOf r ≡ []) × (r .count ≡ 0) × (length (r .items) ≡ 64) ⌝ }
 {
     let blank = no_fact();
@@ -91,42 +89,39 @@ pub fn no_facts() -> Facts
     }
 }
 
-pub fn read_facts(s: &[u8], start: usize, before: usize, headed: bool) -> FactsRead
-    requires { ⌜ before ≤ start ⌝ }
+pub fn read_facts(s: &[u8], from: Passing) -> FactsRead
+    requires { ⌜ from .record ≤ from .at ⌝ }
     ensures { λ r.
-        ⌜ Passed planReading withFacts 2 (now (s .entry)) headed start before (r .number) (r .record) (r .at) (factsOf (r .facts))
-        × (r .record ≤ r .at) × (paper.factsRise (factsOf (r .facts)) ≡ true) ⌝ }
+        ⌜ Passed planReading withFacts 2 (now (s .entry)) from (r .next) (factsOf (r .facts))
+        × (r .next .record ≤ r .next .at) × (r .next .headed ≡ from .headed) × (paper.factsRise (factsOf (r .facts)) ≡ true) ⌝ }
 {
     let mut facts = no_facts();
     let mut last = no_fact();
-    let mut number: u8 = 0;
-    let mut at = start;
-    let mut k = before;
-    while at < s.len() {
+    let mut here = from;
+    while here.at < s.len() && here.number == 0 {
+        let at = here.at;
         if s[at] != 2 {
             break;
         }
         let FactSeen::Got(bits, family, first, count, next) = fact_at(s, at + 1) else {
-            number = 1;
+            here.number = 1;
             break;
         };
         let n = facts.count;
         let fact = fact_from(s, bits, family, first, count);
         let rises = fact_rises(last, fact);
-        number = judged(n, 64, false, both_or_none(bits), headed, rises);
-        if number != 0 {
+        here.number = judged(n, 64, false, both_or_none(bits), from.headed, rises);
+        if here.number != 0 {
             break;
         }
         facts.items[n] = fact;
         facts.count = n + 1;
         last = fact;
-        at = next;
-        k = k + 1;
+        here.at = next;
+        here.record = here.record + 1;
     }
     FactsRead {
-        number: number,
-        record: k,
-        at: at,
+        next: here,
         facts: facts,
     }
 }

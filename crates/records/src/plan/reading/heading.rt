@@ -3,12 +3,14 @@ use crate::fields::Field;
 use crate::fields::byte_at;
 use crate::fields::judge::judged;
 use crate::fields::opt_at;
+use crate::fields::passing::Passing;
+use crate::fields::passing::at_start;
 ghost use mathlib.Core.Path.{_≡_};
-ghost use mathlib.Core.Bool.{false};
 ghost use Prim.Native.Nat.{_≤_};
+ghost use lib.Dec.{eqb};
 ghost use Rattle.records.specs.paper.Plan.{planFormats};
 ghost use Rattle.records.specs.code.Readers.{mapRead};
-ghost use Rattle.records.specs.code.Passes.{rawOf, withBits, Passed};
+ghost use Rattle.records.specs.code.Passes.{rawOf, withBits, atStart, Passed};
 ghost use Rattle.records.specs.paper.Plan.{headingFrom};
 ghost use Rattle.records.specs.code.PlanPasses.{planReading, headingRead, withHeadings};
 ghost use Rattle.records.specs.code.Decoded.{headingsOf};
@@ -37,11 +39,8 @@ pub fn heading_at(s: &[u8], at: usize) -> HeadingSeen
     HeadingSeen::Bad
 }
 
-// number 0: `at` is the place after the heading
 pub struct HeadingRead {
-    pub number: u8,
-    pub record: usize,
-    pub at: usize,
+    pub next: Passing,
     pub headings: usize,
     pub relation: u8,
     pub chained: bool,
@@ -50,39 +49,37 @@ pub struct HeadingRead {
 
 pub fn read_heading(s: &[u8]) -> HeadingRead
     ensures { λ r.
-        ⌜ Passed planReading withHeadings 1 (now (s .entry)) false 0 0 (r .number) (r .record) (r .at) (headingsOf (r .headings) (r .relation) (r .chained) (r .chain))
-        × (r .record ≤ r .at) × (r .headings ≤ 1) ⌝ }
+        ⌜ Passed planReading withHeadings 1 (now (s .entry)) atStart (r .next) (headingsOf (r .headings) (r .relation) (r .chained) (r .chain))
+        × (r .next .record ≤ r .next .at) × (r .headings ≤ 1) × (r .next .headed ≡ eqb (r .headings) 1) ⌝ }
 {
     let mut headings: usize = 0;
     let mut relation: u8 = 0;
     let mut chained = false;
     let mut chain: u8 = 0;
-    let mut number: u8 = 0;
-    let mut at: usize = 0;
-    let mut k: usize = 0;
-    while at < s.len() {
+    let mut here = at_start();
+    while here.at < s.len() {
+        let at = here.at;
         if s[at] != 1 {
             break;
         }
         let HeadingSeen::Got(bits, named, cited, next) = heading_at(s, at + 1) else {
-            number = 1;
+            here.number = 1;
             break;
         };
-        number = judged(headings, 1, false, bits & 1 == 1, true, true);
-        if number != 0 {
+        here.number = judged(headings, 1, false, bits & 1 == 1, true, true);
+        if here.number != 0 {
             break;
         }
         headings = 1;
+        here.headed = true;
         relation = named;
         chained = bits / 2 % 2 == 1;
         chain = cited;
-        at = next;
-        k = k + 1;
+        here.at = next;
+        here.record = here.record + 1;
     }
     HeadingRead {
-        number: number,
-        record: k,
-        at: at,
+        next: here,
         headings: headings,
         relation: relation,
         chained: chained,

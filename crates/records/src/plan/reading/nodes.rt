@@ -6,6 +6,7 @@ use crate::fields::judge::judged;
 use crate::fields::list_at;
 use crate::fields::lists::numbers_from;
 use crate::fields::opt_at;
+use crate::fields::passing::Passing;
 use crate::fields::to_u64;
 use crate::plan::Node;
 use crate::plan::Nodes;
@@ -127,15 +128,12 @@ fn one_bit(bits: u8) -> bool
     u64::count_ones(to_u64(bits)) == 1
 }
 
-// number 0: all were read, and `at` is the place after them
 pub struct NodesRead {
-    pub number: u8,
-    pub record: usize,
-    pub at: usize,
+    pub next: Passing,
     pub nodes: Nodes,
 }
 
-pub fn no_nodes() -> Nodes
+fn no_nodes() -> Nodes
     ensures { λ r. ⌜ (nodesOf r ≡ []) × (r .count ≡ 0) × (length (r .items) ≡ 256) ⌝ }
 {
     let none = Numbers {
@@ -153,38 +151,35 @@ pub fn no_nodes() -> Nodes
     }
 }
 
-pub fn read_nodes(s: &[u8], start: usize, before: usize, headed: bool) -> NodesRead
-    requires { ⌜ before ≤ start ⌝ }
+pub fn read_nodes(s: &[u8], from: Passing) -> NodesRead
+    requires { ⌜ from .record ≤ from .at ⌝ }
     ensures { λ r.
-        ⌜ Passed planReading withNodes 3 (now (s .entry)) headed start before (r .number) (r .record) (r .at) (nodesOf (r .nodes))
-        × (r .record ≤ r .at) ⌝ }
+        ⌜ Passed planReading withNodes 3 (now (s .entry)) from (r .next) (nodesOf (r .nodes))
+        × (r .next .record ≤ r .next .at) × (r .next .headed ≡ from .headed) ⌝ }
 {
     let mut nodes = no_nodes();
-    let mut number: u8 = 0;
-    let mut at = start;
-    let mut k = before;
-    while at < s.len() {
+    let mut here = from;
+    while here.at < s.len() && here.number == 0 {
+        let at = here.at;
         if s[at] != 3 {
             break;
         }
         let NodeSeen::Got(bits, fields, next) = node_at(s, at + 1) else {
-            number = 1;
+            here.number = 1;
             break;
         };
         let n = nodes.count;
-        number = judged(n, 256, false, one_bit(bits), headed, true);
-        if number != 0 {
+        here.number = judged(n, 256, false, one_bit(bits), from.headed, true);
+        if here.number != 0 {
             break;
         }
         nodes.items[n] = node_from(s, bits, fields);
         nodes.count = n + 1;
-        at = next;
-        k = k + 1;
+        here.at = next;
+        here.record = here.record + 1;
     }
     NodesRead {
-        number: number,
-        record: k,
-        at: at,
+        next: here,
         nodes: nodes,
     }
 }

@@ -3,6 +3,7 @@ use crate::fields::Field;
 use crate::fields::byte_at;
 use crate::fields::judge::judged;
 use crate::fields::opt_at;
+use crate::fields::passing::Passing;
 use crate::plan::Status;
 use crate::plan::Statuses;
 ghost use mathlib.Core.Path.{_≡_};
@@ -48,15 +49,12 @@ pub fn status_at(s: &[u8], at: usize) -> StatusSeen
     StatusSeen::Bad
 }
 
-// number 0: all were read, and `at` is the place after them
 pub struct StatusesRead {
-    pub number: u8,
-    pub record: usize,
-    pub at: usize,
+    pub next: Passing,
     pub statuses: Statuses,
 }
 
-pub fn no_statuses() -> Statuses
+fn no_statuses() -> Statuses
     ensures { λ r. ⌜ (statusesOf r ≡ []) × (r .count ≡ 0) × (length (r .items) ≡ 32) ⌝ }
 {
     let blank = Status {
@@ -70,38 +68,35 @@ pub fn no_statuses() -> Statuses
     }
 }
 
-pub fn read_statuses(s: &[u8], start: usize, before: usize, headed: bool) -> StatusesRead
-    requires { ⌜ before ≤ start ⌝ }
+pub fn read_statuses(s: &[u8], from: Passing) -> StatusesRead
+    requires { ⌜ from .record ≤ from .at ⌝ }
     ensures { λ r.
-        ⌜ Passed planReading withStatuses 8 (now (s .entry)) headed start before (r .number) (r .record) (r .at) (statusesOf (r .statuses))
-        × (r .record ≤ r .at) ⌝ }
+        ⌜ Passed planReading withStatuses 8 (now (s .entry)) from (r .next) (statusesOf (r .statuses))
+        × (r .next .record ≤ r .next .at) × (r .next .headed ≡ from .headed) ⌝ }
 {
     let mut statuses = no_statuses();
-    let mut number: u8 = 0;
-    let mut at = start;
-    let mut k = before;
-    while at < s.len() {
+    let mut here = from;
+    while here.at < s.len() && here.number == 0 {
+        let at = here.at;
         if s[at] != 8 {
             break;
         }
         let StatusSeen::Got(bits, status, next) = status_at(s, at + 1) else {
-            number = 1;
+            here.number = 1;
             break;
         };
         let n = statuses.count;
-        number = judged(n, 32, false, bits & 7 == 7, headed, true);
-        if number != 0 {
+        here.number = judged(n, 32, false, bits & 7 == 7, from.headed, true);
+        if here.number != 0 {
             break;
         }
         statuses.items[n] = status;
         statuses.count = n + 1;
-        at = next;
-        k = k + 1;
+        here.at = next;
+        here.record = here.record + 1;
     }
     StatusesRead {
-        number: number,
-        record: k,
-        at: at,
+        next: here,
         statuses: statuses,
     }
 }

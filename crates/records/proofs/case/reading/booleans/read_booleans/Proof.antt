@@ -9,7 +9,7 @@ use Rattle.records.specs.code.Decoded.{booleanOf, booleansOf}
 use Rattle.records.specs.code.CasePasses.{booleanRead}
 use Rattle.sets.proofs.LoopLaws.{length-made}
 use Rattle.records.proofs.Reading.{seen}
-use Rattle.records.proofs.Passing.{Going, going, ends-short, ends-other, refused-bad, refused-judged, goes-on, goes-later}
+use Rattle.records.proofs.Passing.{Going, going, ends-short, ends-other, ends-refused, refused-bad, refused-judged, goes-on, goes-later, counted}
 use Rattle.records.proofs.KindLaws.{needs-test, made-more, judge-same}
 use Rattle.records.proofs.CaseKinds.{booleanKind}
 use Rattle.records.specs.paper.Fields as fields
@@ -18,77 +18,87 @@ use Rattle.records.proofs.case.reading.booleans.read_booleans.Statement
 use Rattle.records.proofs.case.reading.booleans.read_booleans.Tie as tie
 
 abbrev Inv-loop : tie.InvT-loop
-Inv-loop s start before headed booleans₀ number₀ at₀ k₀ booleans number at k =
-    (k ≤ at) × (booleans .count ≤ 64) × (length (booleans .items) ≡ 64) × Going booleanKind s headed start before k at (booleansOf booleans) × (number ≡ 0)
+Inv-loop s from booleans₀ here₀ booleans here =
+    (here .«record» ≤ here .at) × (booleans .count ≤ 64) × (length (booleans .items) ≡ 64) × Going booleanKind s from (here .number) (here .«record») (here .at) (booleansOf booleans) × (here .headed ≡ from .headed)
 
 abbrev μ-loop : tie.MeasureT-loop
-μ-loop s start before headed booleans₀ number₀ at₀ k₀ booleans number at k = length s - at
+μ-loop s from booleans₀ here₀ booleans here = length s - here .at
 
 loop-holds : tie.Need-loop-holds Inv-loop μ-loop
 loop-holds c =
     let a = c .before .before .args in
     let e = c .no-booleans .ensures in
-    (c .before .before .pre, omega (arith, e .1), e .2, going booleanKind (now (a .s)) (a .headed) (a .start) (a .before) (booleansOf (c .no-booleans .result)) (e .0), refl)
+    (c .before .before .pre, omega (arith, e .1), e .2, going booleanKind (now (a .s)) (a .from) (booleansOf (c .no-booleans .result)) (e .0), refl)
 
 observations-from-requires : tie.Need-observations-from-requires Inv-loop μ-loop
-observations-from-requires c κs = let f = rw (c .before .before .before .bits .given .1) at (c .before .before .before .before .before .boolean-at .ensures .1) in (f .0, f .1)
+observations-from-requires c κs = let f = rw (c .before .before .before .before .bits .given .1) at (c .before .before .before .before .before .before .boolean-at .ensures .1) in (f .0, f .1)
 
 element-set-from-booleans : tie.Need-element-set-from-booleans Inv-loop μ-loop
-element-set-from-booleans c = let h = c .before .before .judged .ensures .1 (c .before .if2 .left) in search (needs, h)
+element-set-from-booleans c = let h = c .before .before .before .judged .ensures .1 (c .before .if4 .left) in search (needs, h)
 
 add-booleans : tie.Need-add-booleans Inv-loop μ-loop
-add-booleans c = let h = c .before .before .judged .ensures .1 (c .before .if2 .left) in search (needs, h)
+add-booleans c = let h = c .before .before .before .judged .ensures .1 (c .before .if4 .left) in search (needs, h)
+
+add-boolean-at : tie.Need-add-boolean-at Inv-loop μ-loop
+add-boolean-at c = search needs
+
+add-here : tie.Need-add-here Inv-loop μ-loop
+add-here c = counted (c .before .before .before .before .before .before .before .before .before .before .before .before .before .before .before .loop .inv .0) (add-boolean-at (c .before .before .before .before .before .before .before .before .before))
 
 loop-less : tie.Need-loop-less Inv-loop μ-loop
 loop-less c =
-    let i = c .before .before .before .before .before .before .before .before .before .before .loop .inv in
-    let z = goes-later booleanKind _ _ _ _ (i .3) (i .0) (c .before .before .before .before .before .before .before .before .before .loop-test .taken) (c .before .before .before .before .before .before .before .if1 .left) tt (seen (booleanRead (now (c .before .before .before .before .before .before .before .before .before .before .before .before .before .args .s))) (c .before .before .before .before .before .before .boolean-at .ensures .0) (c .before .before .before .before .bits .given .1)) in
+    let i = c .before .before .before .before .before .before .before .before .before .before .before .before .before .before .before .loop .inv in
+    let z = goes-later booleanKind _ _ (i .3) (c .before .before .before .before .before .before .before .before .before .before .before .if2 .taken) (i .0) (c .before .before .before .before .before .before .before .before .before .before .before .before .before .if1 .taken) (c .before .before .before .before .before .before .before .before .before .if3 .left) tt (seen (booleanRead (now (c .before .before .before .before .before .before .before .before .before .before .before .before .before .before .before .before .before .before .args .s))) (c .before .before .before .before .before .before .before .before .boolean-at .ensures .0) (c .before .before .before .before .before .before .bits .given .1)) in
     omega (arith, z)
 
 loop-again : tie.Need-loop-again Inv-loop μ-loop
 unfolding booleanOf
 loop-again c =
-    let i = c .before .before .before .before .before .before .before .before .before .before .loop .inv in
-    let l = c .before .before .before .before .before .before .before .before .before .before .loop .booleans in
-    let b = c .before .before .before .before .bits .given .0 .0 in
-    let f = seen (booleanRead (now (c .before .before .before .before .before .before .before .before .before .before .before .before .before .args .s))) (c .before .before .before .before .before .before .boolean-at .ensures .0) (c .before .before .before .before .bits .given .1) in
-    let z = goes-later booleanKind _ _ _ _ (i .3) (i .0) (c .before .before .before .before .before .before .before .before .before .loop-test .taken) (c .before .before .before .before .before .before .before .if1 .left) tt f in
-    let h = c .before .before .judged .ensures .1 (c .before .if2 .left) in
-    let j = judge-same 64 (l .count) (length (booleansOf l)) false false _ (fields.needs 1 b) (c .before .before .before .before .before .before .before .before .before .before .before .before .before .args .headed) true true (c .before .before .judged .ensures .0) (length-made booleanOf (l .items) (l .count) (omega (arith, i .1, i .2))) refl (needs-test b 1) refl in (
+    let i = c .before .before .before .before .before .before .before .before .before .before .before .before .before .before .before .loop .inv in
+    let l = c .before .before .before .before .before .before .before .before .before .before .before .before .before .before .before .loop .booleans in
+    let b = c .before .before .before .before .before .before .bits .given .0 .0 in
+    let f = seen (booleanRead (now (c .before .before .before .before .before .before .before .before .before .before .before .before .before .before .before .before .before .before .args .s))) (c .before .before .before .before .before .before .before .before .boolean-at .ensures .0) (c .before .before .before .before .before .before .bits .given .1) in
+    let z = goes-later booleanKind _ _ (i .3) (c .before .before .before .before .before .before .before .before .before .before .before .if2 .taken) (i .0) (c .before .before .before .before .before .before .before .before .before .before .before .before .before .if1 .taken) (c .before .before .before .before .before .before .before .before .before .if3 .left) tt f in
+    let h = c .before .before .before .before .judged .ensures .1 (c .before .before .if4 .left) in
+    let j = judge-same 64 (l .count) (length (booleansOf l)) false false _ (fields.needs 1 b) (c .before .before .before .before .before .before .before .before .before .before .before .before .before .before .before .before .before .before .args .from .headed) true true (c .before .before .before .before .judged .ensures .0) (length-made booleanOf (l .items) (l .count) (omega (arith, i .1, i .2))) refl (needs-test b 1) refl in (
       omega (arith, z),
       omega (arith, h),
       rw length-set (i .2),
-      goes-on booleanKind _ _ _ _ (i .3) (i .0) (c .before .before .before .before .before .before .before .before .before .loop-test .taken) (c .before .before .before .before .before .before .before .if1 .left) tt f _ j (c .before .if2 .left) _
-          (made-more booleanOf (l .items) (l .count) _ (omega (arith, i .2, h)) ∙ rw (c .observations-from .ensures)),
-      c .before .if2 .left,
+      goes-on booleanKind _ _ (i .3) (c .before .before .before .before .before .before .before .before .before .before .before .if2 .taken) (i .0) (c .before .before .before .before .before .before .before .before .before .before .before .before .before .if1 .taken) (c .before .before .before .before .before .before .before .before .before .if3 .left) tt f _ j (c .before .before .if4 .left) _
+          (made-more booleanOf (l .items) (l .count) _ (omega (arith, i .2, h)) ∙ rw (c .before .observations-from .ensures)),
+      i .4,
     )
 
 returns : tie.Need-returns Inv-loop μ-loop
 returns c =
-    let i = c .before .loop .inv in
-    (ends-short booleanKind _ _ _ _ (i .3) (i .4) (c .loop-test .left), i .0)
+    let i = c .before .before .before .before .loop .inv in
+    (ends-refused booleanKind _ _ (i .3) (c .if2 .left), i .0, i .4)
 
 returns-2 : tie.Need-returns-2 Inv-loop μ-loop
 returns-2 c =
-    let i = c .before .before .before .loop .inv in
-    (ends-other booleanKind _ _ _ _ (i .3) (i .4) (c .if1 .taken), i .0)
+    let i = c .before .before .loop .inv in
+    (ends-short booleanKind _ _ (i .3) (c .if1 .left), i .0, i .4)
 
 returns-3 : tie.Need-returns-3 Inv-loop μ-loop
 returns-3 c =
     let i = c .before .before .before .before .before .before .loop .inv in
-    (refused-bad booleanKind _ _ _ _ (i .3) (i .0) (c .before .before .before .before .before .loop-test .taken) (c .before .before .before .if1 .left) (seen (booleanRead (now (c .before .before .before .before .before .before .before .before .before .args .s))) (c .before .before .boolean-at .ensures .0) (c .enum-told .given .1)), i .0)
+    (ends-other booleanKind _ _ (i .3) (c .if3 .taken), i .0, i .4)
 
 returns-4 : tie.Need-returns-4 Inv-loop μ-loop
 returns-4 c =
     let i = c .before .before .before .before .before .before .before .before .before .loop .inv in
-    let l = c .before .before .before .before .before .before .before .before .before .loop .booleans in
-    let j = judge-same 64 (l .count) (length (booleansOf l)) false false _ (fields.needs 1 (c .before .before .before .bits .given .0 .0)) (c .before .before .before .before .before .before .before .before .before .before .before .before .args .headed) true true (c .before .judged .ensures .0) (length-made booleanOf (l .items) (l .count) (omega (arith, i .1, i .2))) refl (needs-test (c .before .before .before .bits .given .0 .0) 1) refl in
-    (refused-judged booleanKind _ _ _ _ (i .3) (i .0) (c .before .before .before .before .before .before .before .before .loop-test .taken) (c .before .before .before .before .before .before .if1 .left) tt (seen (booleanRead (now (c .before .before .before .before .before .before .before .before .before .before .before .before .args .s))) (c .before .before .before .before .before .boolean-at .ensures .0) (c .before .before .before .bits .given .1)) _ j (c .if2 .taken), i .0)
+    (refused-bad booleanKind _ _ (i .3) (c .before .before .before .before .before .if2 .taken) (i .0) (c .before .before .before .before .before .before .before .if1 .taken) (c .before .before .before .if3 .left) (seen (booleanRead (now (c .before .before .before .before .before .before .before .before .before .before .before .before .args .s))) (c .before .before .boolean-at .ensures .0) (c .enum-told .given .1)), i .0, i .4)
+
+returns-5 : tie.Need-returns-5 Inv-loop μ-loop
+returns-5 c =
+    let i = c .before .before .before .before .before .before .before .before .before .before .before .before .before .loop .inv in
+    let l = c .before .before .before .before .before .before .before .before .before .before .before .before .before .loop .booleans in
+    let j = judge-same 64 (l .count) (length (booleansOf l)) false false _ (fields.needs 1 (c .before .before .before .before .bits .given .0 .0)) (c .before .before .before .before .before .before .before .before .before .before .before .before .before .before .before .before .args .from .headed) true true (c .before .before .judged .ensures .0) (length-made booleanOf (l .items) (l .count) (omega (arith, i .1, i .2))) refl (needs-test (c .before .before .before .before .bits .given .0 .0) 1) refl in
+    (refused-judged booleanKind _ _ (i .3) (c .before .before .before .before .before .before .before .before .before .if2 .taken) (i .0) (c .before .before .before .before .before .before .before .before .before .before .before .if1 .taken) (c .before .before .before .before .before .before .before .if3 .left) tt (seen (booleanRead (now (c .before .before .before .before .before .before .before .before .before .before .before .before .before .before .before .before .args .s))) (c .before .before .before .before .before .before .boolean-at .ensures .0) (c .before .before .before .before .bits .given .1)) _ j (c .if4 .taken), i .0, i .4)
 
 pub read-booleans-spec : {M : Type 1} → statement M
 read-booleans-spec =
     tie.close
-    (tie.spec Inv-loop μ-loop (λ c κs. search needs) loop-holds (λ c. search needs) (λ c. search needs)
+    (tie.spec Inv-loop μ-loop (λ c κs. search needs) loop-holds (λ c. search needs) add-boolean-at
     (λ c κs. search needs) (λ c. search needs) (λ c. search needs) (λ c κs. search needs) observations-from-requires
-    (λ c. search needs) element-set-from-booleans add-booleans (λ c. search needs) loop-less loop-again returns
-    returns-2 returns-3 returns-4)
+    (λ c. search needs) element-set-from-booleans add-booleans add-here loop-less loop-again returns returns-2 returns-3 returns-4 returns-5)

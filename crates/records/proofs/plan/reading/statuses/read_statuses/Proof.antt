@@ -10,79 +10,89 @@ use Rattle.records.specs.code.Decoded.{statusOf, statusesOf}
 use Rattle.records.specs.code.PlanPasses.{statusRead}
 use Rattle.sets.proofs.LoopLaws.{length-made}
 use Rattle.records.proofs.Reading.{seen}
-use Rattle.records.proofs.Passing.{Going, going, ends-short, ends-other, refused-bad, refused-judged, goes-on, goes-later}
+use Rattle.records.proofs.Passing.{Going, going, ends-short, ends-other, ends-refused, refused-bad, refused-judged, goes-on, goes-later, counted}
 use Rattle.records.proofs.KindLaws.{statusKind, needs-test, made-more, judge-same}
 use borrow.Author.Needs.{needs}
 use Rattle.records.proofs.plan.reading.statuses.read_statuses.Statement.{statement}
 use Rattle.records.proofs.plan.reading.statuses.read_statuses.Tie as tie
 
 abbrev Inv-loop : tie.InvT-loop
-Inv-loop s start before headed statuses₀ number₀ at₀ k₀ statuses number at k =
-    (k ≤ at) × (statuses .count ≤ 32) × (length (statuses .items) ≡ 32) × Going statusKind s headed start before k at (statusesOf statuses) × (number ≡ 0)
+Inv-loop s from statuses₀ here₀ statuses here =
+    (here .«record» ≤ here .at) × (statuses .count ≤ 32) × (length (statuses .items) ≡ 32) × Going statusKind s from (here .number) (here .«record») (here .at) (statusesOf statuses) × (here .headed ≡ from .headed)
 
 abbrev μ-loop : tie.MeasureT-loop
-μ-loop s start before headed statuses₀ number₀ at₀ k₀ statuses number at k = length s - at
+μ-loop s from statuses₀ here₀ statuses here = length s - here .at
 
 loop-holds : tie.Need-loop-holds Inv-loop μ-loop
 loop-holds c =
     let a = c .before .before .args in
     let e = c .no-statuses .ensures in
-    (c .before .before .pre, omega (arith, e .1), e .2, going statusKind (now (a .s)) (a .headed) (a .start) (a .before) (statusesOf (c .no-statuses .result)) (e .0), refl)
+    (c .before .before .pre, omega (arith, e .1), e .2, going statusKind (now (a .s)) (a .from) (statusesOf (c .no-statuses .result)) (e .0), refl)
 
 element-set-from-status : tie.Need-element-set-from-status Inv-loop μ-loop
-element-set-from-status c = let h = c .before .judged .ensures .1 (c .if2 .left) in search (needs, h)
+element-set-from-status c = let h = c .before .before .judged .ensures .1 (c .if4 .left) in search (needs, h)
 
 add-statuses : tie.Need-add-statuses Inv-loop μ-loop
-add-statuses c = let h = c .before .judged .ensures .1 (c .if2 .left) in search (needs, h)
+add-statuses c = let h = c .before .before .judged .ensures .1 (c .if4 .left) in search (needs, h)
+
+add-status-at : tie.Need-add-status-at Inv-loop μ-loop
+add-status-at c = search needs
+
+add-here : tie.Need-add-here Inv-loop μ-loop
+add-here c = counted (c .before .before .before .before .before .before .before .before .before .before .before .before .before .before .loop .inv .0) (add-status-at (c .before .before .before .before .before .before .before .before))
 
 loop-less : tie.Need-loop-less Inv-loop μ-loop
 loop-less c =
-    let i = c .before .before .before .before .before .before .before .before .before .loop .inv in
-    let z = goes-later statusKind _ _ _ _ (i .3) (i .0) (c .before .before .before .before .before .before .before .before .loop-test .taken) (c .before .before .before .before .before .before .if1 .left) tt (seen statusRead (c .before .before .before .before .before .status-at .ensures) (c .before .before .before .bits .given .1)) in
+    let i = c .before .before .before .before .before .before .before .before .before .before .before .before .before .before .loop .inv in
+    let z = goes-later statusKind _ _ (i .3) (c .before .before .before .before .before .before .before .before .before .before .if2 .taken) (i .0) (c .before .before .before .before .before .before .before .before .before .before .before .before .if1 .taken) (c .before .before .before .before .before .before .before .before .if3 .left) tt (seen statusRead (c .before .before .before .before .before .before .before .status-at .ensures) (c .before .before .before .before .before .bits .given .1)) in
     omega (arith, z)
 
 loop-again : tie.Need-loop-again Inv-loop μ-loop
 loop-again c =
-    let i = c .before .before .before .before .before .before .before .before .before .loop .inv in
-    let l = c .before .before .before .before .before .before .before .before .before .loop .statuses in
-    let b = c .before .before .before .bits .given .0 .0 in
-    let f = seen statusRead (c .before .before .before .before .before .status-at .ensures) (c .before .before .before .bits .given .1) in
-    let z = goes-later statusKind _ _ _ _ (i .3) (i .0) (c .before .before .before .before .before .before .before .before .loop-test .taken) (c .before .before .before .before .before .before .if1 .left) tt f in
-    let h = c .before .judged .ensures .1 (c .if2 .left) in
-    let j = judge-same 32 (l .count) (length (statusesOf l)) false false _ (fields.needs 7 b) (c .before .before .before .before .before .before .before .before .before .before .before .before .args .headed) true true (c .before .judged .ensures .0) (length-made statusOf (l .items) (l .count) (omega (arith, i .1, i .2))) refl (needs-test b 7) refl in (
+    let i = c .before .before .before .before .before .before .before .before .before .before .before .before .before .before .loop .inv in
+    let l = c .before .before .before .before .before .before .before .before .before .before .before .before .before .before .loop .statuses in
+    let b = c .before .before .before .before .before .bits .given .0 .0 in
+    let f = seen statusRead (c .before .before .before .before .before .before .before .status-at .ensures) (c .before .before .before .before .before .bits .given .1) in
+    let z = goes-later statusKind _ _ (i .3) (c .before .before .before .before .before .before .before .before .before .before .if2 .taken) (i .0) (c .before .before .before .before .before .before .before .before .before .before .before .before .if1 .taken) (c .before .before .before .before .before .before .before .before .if3 .left) tt f in
+    let h = c .before .before .before .judged .ensures .1 (c .before .if4 .left) in
+    let j = judge-same 32 (l .count) (length (statusesOf l)) false false _ (fields.needs 7 b) (c .before .before .before .before .before .before .before .before .before .before .before .before .before .before .before .before .before .args .from .headed) true true (c .before .before .before .judged .ensures .0) (length-made statusOf (l .items) (l .count) (omega (arith, i .1, i .2))) refl (needs-test b 7) refl in (
       omega (arith, z),
       omega (arith, h),
       rw length-set (i .2),
-      goes-on statusKind _ _ _ _ (i .3) (i .0) (c .before .before .before .before .before .before .before .before .loop-test .taken) (c .before .before .before .before .before .before .if1 .left) tt f _ j (c .if2 .left) _ (made-more statusOf (l .items) (l .count) _ (omega (arith, i .2, h))),
-      c .if2 .left,
+      goes-on statusKind _ _ (i .3) (c .before .before .before .before .before .before .before .before .before .before .if2 .taken) (i .0) (c .before .before .before .before .before .before .before .before .before .before .before .before .if1 .taken) (c .before .before .before .before .before .before .before .before .if3 .left) tt f _ j (c .before .if4 .left) _ (made-more statusOf (l .items) (l .count) _ (omega (arith, i .2, h))),
+      i .4,
     )
 
 returns : tie.Need-returns Inv-loop μ-loop
 returns c =
-    let i = c .before .loop .inv in
-    (ends-short statusKind _ _ _ _ (i .3) (i .4) (c .loop-test .left), i .0)
+    let i = c .before .before .before .before .loop .inv in
+    (ends-refused statusKind _ _ (i .3) (c .if2 .left), i .0, i .4)
 
 returns-2 : tie.Need-returns-2 Inv-loop μ-loop
 returns-2 c =
-    let i = c .before .before .before .loop .inv in
-    (ends-other statusKind _ _ _ _ (i .3) (i .4) (c .if1 .taken), i .0)
+    let i = c .before .before .loop .inv in
+    (ends-short statusKind _ _ (i .3) (c .if1 .left), i .0, i .4)
 
 returns-3 : tie.Need-returns-3 Inv-loop μ-loop
 returns-3 c =
     let i = c .before .before .before .before .before .before .loop .inv in
-    (refused-bad statusKind _ _ _ _ (i .3) (i .0) (c .before .before .before .before .before .loop-test .taken) (c .before .before .before .if1 .left) (seen statusRead (c .before .before .status-at .ensures) (c .enum-told .given .1)), i .0)
+    (ends-other statusKind _ _ (i .3) (c .if3 .taken), i .0, i .4)
 
 returns-4 : tie.Need-returns-4 Inv-loop μ-loop
 returns-4 c =
     let i = c .before .before .before .before .before .before .before .before .before .loop .inv in
-    let l = c .before .before .before .before .before .before .before .before .before .loop .statuses in
-    let j = judge-same 32 (l .count) (length (statusesOf l)) false false _ (fields.needs 7 (c .before .before .before .bits .given .0 .0)) (c .before .before .before .before .before .before .before .before .before .before .before .before .args .headed) true true (c .before .judged .ensures .0) (length-made statusOf (l .items) (l .count) (omega (arith, i .1, i .2))) refl (needs-test (c .before .before .before .bits .given .0 .0) 7) refl in
-    (refused-judged statusKind _ _ _ _ (i .3) (i .0) (c .before .before .before .before .before .before .before .before .loop-test .taken) (c .before .before .before .before .before .before .if1 .left) tt (seen statusRead (c .before .before .before .before .before .status-at .ensures) (c .before .before .before .bits .given .1)) _ j (c .if2 .taken), i .0)
+    (refused-bad statusKind _ _ (i .3) (c .before .before .before .before .before .if2 .taken) (i .0) (c .before .before .before .before .before .before .before .if1 .taken) (c .before .before .before .if3 .left) (seen statusRead (c .before .before .status-at .ensures) (c .enum-told .given .1)), i .0, i .4)
+
+returns-5 : tie.Need-returns-5 Inv-loop μ-loop
+returns-5 c =
+    let i = c .before .before .before .before .before .before .before .before .before .before .before .before .before .loop .inv in
+    let l = c .before .before .before .before .before .before .before .before .before .before .before .before .before .loop .statuses in
+    let j = judge-same 32 (l .count) (length (statusesOf l)) false false _ (fields.needs 7 (c .before .before .before .before .bits .given .0 .0)) (c .before .before .before .before .before .before .before .before .before .before .before .before .before .before .before .before .args .from .headed) true true (c .before .before .judged .ensures .0) (length-made statusOf (l .items) (l .count) (omega (arith, i .1, i .2))) refl (needs-test (c .before .before .before .before .bits .given .0 .0) 7) refl in
+    (refused-judged statusKind _ _ (i .3) (c .before .before .before .before .before .before .before .before .before .if2 .taken) (i .0) (c .before .before .before .before .before .before .before .before .before .before .before .if1 .taken) (c .before .before .before .before .before .before .before .if3 .left) tt (seen statusRead (c .before .before .before .before .before .before .status-at .ensures) (c .before .before .before .before .bits .given .1)) _ j (c .if4 .taken), i .0, i .4)
 
 pub read-statuses-spec : {M : Type 1} → statement M
 read-statuses-spec =
     tie.close
-    (tie.spec Inv-loop μ-loop (λ c κs. search needs) loop-holds (λ c. search needs) (λ c. search needs)
+    (tie.spec Inv-loop μ-loop (λ c κs. search needs) loop-holds (λ c. search needs) add-status-at
     (λ c κs. search needs) (λ c. search needs) (λ c. search needs) (λ c κs. search needs) (λ c. search needs)
-    element-set-from-status add-statuses (λ c. search needs) loop-less loop-again returns returns-2 returns-3
-    returns-4)
+    element-set-from-status add-statuses add-here loop-less loop-again returns returns-2 returns-3 returns-4 returns-5)
