@@ -66,17 +66,17 @@ pub fn open_case(plan: Plan, case: Case, uses: &[u64; 256], room: usize) -> Open
     ensures { λ r. ⌜ OpensCase plan case room r ⌝ }
 {
     let heading = case.heading;
-    let constraints = case.constraints;
-    let statuses = plan.statuses;
-    let reach = reach_of(plan, uses, heading.roster, constraints);
-    let groups = reach.groups;
-    let persons = rule_persons(groups, statuses);
+    let reach = reach_of(plan, uses, heading.roster, case.constraints);
+    let persons = rule_persons(reach.groups, plan.statuses);
     let fault = heading_fault(heading, plan.relation, persons, room);
     let found = bindable(case);
-    let undecided = reach.undecided;
     let bound = bind_facts(plan, case, reach.bound);
-    let codes = bound.codes;
-    let count = count_worlds(codes, reach.count, undecided.count, heading.most_worlds);
+    let count = count_worlds(
+        bound.codes,
+        reach.count,
+        reach.undecided.count,
+        heading.most_worlds,
+    );
     let stop = stop_of(fault, heading.complete, found, count);
     Opened {
         stop: stop,

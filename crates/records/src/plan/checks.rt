@@ -41,8 +41,7 @@ pub fn decode_plan(s: &[u8]) -> PlanRead
     if read.number != 0 {
         return read;
     }
-    let plan = read.plan;
-    let found = plan_faults(plan);
+    let found = plan_faults(read.plan);
     let Checked::Refused { number, record } = found else {
         return read;
     };

@@ -20,17 +20,17 @@ returns c =
 returns-2 : tie.Need-returns-2
 unfolding checkedPlan planReadOf
 returns-2 c =
-    let r = c .before .before .before .before .before .before .read-plan in let P = planOf (r .result .plan) in
+    let r = c .before .before .before .before .before .read-plan in let P = planOf (r .result .plan) in
     let e : planReadOf (r .result) ≡ onFine (planReadOf (r .result)) planFaults =
-    rw (eq-eqb (r .result .number) 0 (c .before .before .before .before .if1 .left)) (sym (faults-accepted P (sym (c .enum-told .given .1) ∙ c .before .before .plan-faults .ensures))) in
+    rw (eq-eqb (r .result .number) 0 (c .before .before .before .if1 .left)) (sym (faults-accepted P (sym (c .enum-told .given .1) ∙ c .before .before .plan-faults .ensures))) in
     e ∙ ap (λ v. onFine v planFaults) (r .ensures)
 
 returns-3 : tie.Need-returns-3
 unfolding checkedPlan planReadOf
 returns-3 c =
-    let r = c .before .before .before .before .before .before .before .read-plan in let P = planOf (r .result .plan) in
+    let r = c .before .before .before .before .before .before .read-plan in let P = planOf (r .result .plan) in
     let f = sym (c .before .found .given .1) ∙ c .before .before .before .plan-faults .ensures in
-    rw (ne-eqb _ 0 (faults-number P f)) (sym (ap (λ v. onFine v planFaults) (sym (r .ensures)) ∙ rw (eq-eqb (r .result .number) 0 (c .before .before .before .before .before .if1 .left)) (refused-is (planFaults P) f)))
+    rw (ne-eqb _ 0 (faults-number P f)) (sym (ap (λ v. onFine v planFaults) (sym (r .ensures)) ∙ rw (eq-eqb (r .result .number) 0 (c .before .before .before .before .if1 .left)) (refused-is (planFaults P) f)))
 
 pub decode-plan-spec : {M : Type 1} → statement M
 decode-plan-spec =
