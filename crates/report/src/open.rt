@@ -66,13 +66,14 @@ pub fn open_case(plan: Plan, case: Case, uses: &[u64; 256], room: usize) -> Open
     ensures { λ r. ⌜ OpensCase plan case room r ⌝ }
 {
     let heading = case.heading;
+    let found = bindable(case);
     let reach = reach_of(plan, uses, heading.roster, case.constraints);
     let persons = rule_persons(reach.groups, plan.statuses);
     let fault = heading_fault(heading, plan.relation, persons, room);
-    let found = bindable(case);
     let bound = bind_facts(plan, case, reach.bound);
+    let codes = bound.codes;
     let count = count_worlds(
-        bound.codes,
+        codes,
         reach.count,
         reach.undecided.count,
         heading.most_worlds,
