@@ -1,5 +1,7 @@
 //! copies: how much the proved code copies and clears, by class of inputs; `copies touched CLASS` prints for one class the bytes of both together
 //! that an answer takes, for bench. Where the code calls memcpy, memmove or memset, the linker sends it through the functions below (build.rs).
+//! A slow copy is long and its target lies a few bytes behind its source, modulo 4,096: on some processors it takes twenty times as long. Where such
+//! copies stand depends on how the compiler lays out the stack, so a change anywhere may bring one.
 
 use std::process::exit;
 use std::sync::atomic::{AtomicU64, Ordering::Relaxed};
@@ -15,6 +17,7 @@ struct Tally {
 }
 
 static COPIED: Tally = Tally::none();
+static SLOW: Tally = Tally::none();
 static CLEARED: Tally = Tally::none();
 
 impl Tally {
@@ -35,6 +38,14 @@ impl Tally {
     }
 }
 
+fn note_copy(to: *mut u8, from: *const u8, length: usize) {
+    let behind = (to as usize).wrapping_sub(from as usize) % 4096;
+    COPIED.note(length);
+    if length >= 2048 && (1..64).contains(&behind) {
+        SLOW.note(length);
+    }
+}
+
 unsafe extern "C" {
     fn __real_memcpy(to: *mut u8, from: *const u8, length: usize) -> *mut u8;
     fn __real_memmove(to: *mut u8, from: *const u8, length: usize) -> *mut u8;
@@ -44,13 +55,13 @@ unsafe extern "C" {
 // Each notes the length and does what was asked, by the rules of the function for which it stands.
 #[unsafe(no_mangle)]
 unsafe extern "C" fn __wrap_memcpy(to: *mut u8, from: *const u8, length: usize) -> *mut u8 {
-    COPIED.note(length);
+    note_copy(to, from, length);
     unsafe { __real_memcpy(to, from, length) }
 }
 
 #[unsafe(no_mangle)]
 unsafe extern "C" fn __wrap_memmove(to: *mut u8, from: *const u8, length: usize) -> *mut u8 {
-    COPIED.note(length);
+    note_copy(to, from, length);
     unsafe { __real_memmove(to, from, length) }
 }
 
@@ -60,22 +71,25 @@ unsafe extern "C" fn __wrap_memset(to: *mut u8, value: i32, length: usize) -> *m
     unsafe { __real_memset(to, value, length) }
 }
 
-/// Copies, bytes copied, clearings and bytes cleared by a call.
-fn counted(call: impl FnOnce()) -> [u64; 4] {
-    let ([copies, copied], [clearings, cleared]) = (COPIED.read(), CLEARED.read());
+/// Copies, bytes copied, slow copies, clearings and bytes cleared.
+type Counts = [u64; 5];
+
+fn so_far() -> Counts {
+    let ([copies, copied], [slow, _], [clearings, cleared]) =
+        (COPIED.read(), SLOW.read(), CLEARED.read());
+    [copies, copied, slow, clearings, cleared]
+}
+
+/// What a call adds.
+fn counted(call: impl FnOnce()) -> Counts {
+    let before = so_far();
     call();
-    let ([more_copies, more_copied], [more_clearings, more_cleared]) =
-        (COPIED.read(), CLEARED.read());
-    [
-        more_copies - copies,
-        more_copied - copied,
-        more_clearings - clearings,
-        more_cleared - cleared,
-    ]
+    let after = so_far();
+    std::array::from_fn(|what| after[what] - before[what])
 }
 
 /// Of a check of the plan, then of an answer.
-fn of_input(class: &Class, input: &Measured) -> [[u64; 4]; 2] {
+fn of_input(class: &Class, input: &Measured) -> [Counts; 2] {
     let (plan, case) = (&input.plan, &input.case);
     let fitting = (
         LINE * input.known.lines as usize,
@@ -89,8 +103,8 @@ fn of_input(class: &Class, input: &Measured) -> [[u64; 4]; 2] {
     [check, answer]
 }
 
-/// Copies, bytes copied, clearings and bytes cleared by a check of the plan, then by an answer: mean of the class's inputs.
-fn means(class: &Class) -> (usize, [[u64; 4]; 2]) {
+/// Counts of a check of the plan, then of an answer: mean of the class's inputs.
+fn means(class: &Class) -> (usize, [Counts; 2]) {
     let all: Vec<_> = inputs_of(class)
         .map(|input| of_input(class, &input))
         .collect();
@@ -98,15 +112,15 @@ fn means(class: &Class) -> (usize, [[u64; 4]; 2]) {
         let sum: u64 = all.iter().map(|found| found[call][what]).sum();
         sum / all.len() as u64
     };
-    let means = [0, 1].map(|call| [0, 1, 2, 3].map(|what| mean(call, what)));
+    let means = [0, 1].map(|call| std::array::from_fn(|what| mean(call, what)));
     (all.len(), means)
 }
 
 fn row(class: &Class) {
     let (inputs, means) = means(class);
     print!("{:<10} {inputs:>6}", class.name);
-    for [copies, copied, clearings, cleared] in means {
-        print!("   {copies:>7} {copied:>9} {clearings:>9} {cleared:>9}");
+    for [copies, copied, slow, clearings, cleared] in means {
+        print!("   {copies:>7} {copied:>9} {slow:>5} {clearings:>9} {cleared:>9}");
     }
     println!();
 }
@@ -116,8 +130,8 @@ fn table() {
     print!("{:<10} {:>6}", "class", "inputs");
     for _ in 0..2 {
         print!(
-            "   {:>7} {:>9} {:>9} {:>9}",
-            "copies", "bytes", "clearings", "bytes"
+            "   {:>7} {:>9} {:>5} {:>9} {:>9}",
+            "copies", "bytes", "slow", "clearings", "bytes"
         );
     }
     println!();
@@ -132,7 +146,7 @@ fn fail(what: &str) -> ! {
 fn touched(name: &str) {
     let class = ALL.iter().find(|class| class.name == name);
     let class = class.unwrap_or_else(|| fail("no such class"));
-    let (_, [_, [_, copied, _, cleared]]) = means(class);
+    let (_, [_, [_, copied, _, _, cleared]]) = means(class);
     println!("{}", copied + cleared);
 }
 
