@@ -1,6 +1,6 @@
 //! copies: how much the proved code copies and clears, by class of inputs; `copies touched CLASS` prints for one class the bytes of both together
 //! that an answer takes, for bench. Where the code calls memcpy, memmove or memset, the linker sends it through the functions below (build.rs).
-//! A slow copy is long and its target lies a few bytes behind its source, modulo 4,096: on some processors it takes twenty times as long. Where such
+//! A slow copy is long and its target lies a few bytes behind its source, modulo 4,096: one such was seen to take twenty times as long. Where such
 //! copies stand depends on how the compiler lays out the stack, so a change anywhere may bring one.
 
 use std::process::exit;
