@@ -48,6 +48,7 @@ pub struct HeadingRead {
     pub chain: u8,
 }
 
+// What the pass hands on when it ends early.
 fn heading_read(
     next: Passing,
     headings: usize,
