@@ -6,6 +6,7 @@ use crate::fields::byte_at;
 use crate::fields::judge::judged;
 use crate::fields::opt_at;
 use crate::fields::passing::Passing;
+use crate::fields::passing::refused;
 ghost use mathlib.Core.Path.{_≡_};
 ghost use mathlib.Core.List.{[]};
 ghost use Prim.Native.Nat.{_≤_, _+_};
@@ -84,11 +85,13 @@ pub fn read_families(s: &[u8], from: Passing) -> FamiliesRead
             break;
         }
         let FamilySeen::Got(bits, family, next) = family_at(s, at + 1) else {
-            here.number = 1;
-            break;
+            return FamiliesRead {
+                next: refused(here, 1),
+                families: families,
+            };
         };
         let n = families.count;
-        here.number = judged(n, 16, false, bits & 1 == 1, from.headed, true);
+        here.number = judged(n, 16, bits & 1 == 1, from.headed);
         if here.number != 0 {
             break;
         }

@@ -9,6 +9,7 @@ use crate::fields::mask_at;
 use crate::fields::opt_at;
 use crate::fields::passing::Passing;
 use crate::fields::passing::at_start;
+use crate::fields::passing::refused;
 use crate::fields::short_at;
 ghost use mathlib.Core.Path.{_≡_};
 ghost use Prim.Native.Nat.{_≤_};
@@ -101,10 +102,13 @@ pub fn read_case_heading(s: &[u8]) -> CaseHeadingRead
             break;
         }
         let HeadingSeen::Got(bits, seen, next) = heading_at(s, at + 1) else {
-            here.number = 1;
-            break;
+            return CaseHeadingRead {
+                next: refused(here, 1),
+                headings: headings,
+                heading: heading,
+            };
         };
-        here.number = judged(headings, 1, false, bits & 81 == 81, true, true);
+        here.number = judged(headings, 1, bits & 81 == 81, true);
         if here.number != 0 {
             break;
         }

@@ -6,6 +6,7 @@ use crate::fields::byte_at;
 use crate::fields::judge::judged;
 use crate::fields::opt_at;
 use crate::fields::passing::Passing;
+use crate::fields::passing::refused;
 ghost use mathlib.Core.Path.{_≡_};
 ghost use mathlib.Core.List.{[]};
 ghost use Prim.Native.Nat.{_≤_, _+_};
@@ -82,11 +83,13 @@ pub fn read_relations(s: &[u8], from: Passing) -> RelationsRead
             break;
         }
         let RelationSeen::Got(bits, relation, next) = relation_at(s, at + 1) else {
-            here.number = 1;
-            break;
+            return RelationsRead {
+                next: refused(here, 1),
+                relations: relations,
+            };
         };
         let n = relations.count;
-        here.number = judged(n, 256, false, bits & 7 == 7, from.headed, true);
+        here.number = judged(n, 256, bits & 7 == 7, from.headed);
         if here.number != 0 {
             break;
         }

@@ -9,6 +9,7 @@ use crate::fields::mask_at;
 use crate::fields::no_election;
 use crate::fields::opt_at;
 use crate::fields::passing::Passing;
+use crate::fields::passing::refused;
 use crate::plan::Attachment;
 use crate::plan::Attachments;
 ghost use mathlib.Core.Path.{_≡_};
@@ -102,11 +103,13 @@ pub fn read_attachments(s: &[u8], from: Passing) -> AttachmentsRead
             break;
         }
         let AttachmentSeen::Got(bits, attachment, next) = attachment_at(s, at + 1) else {
-            here.number = 1;
-            break;
+            return AttachmentsRead {
+                next: refused(here, 1),
+                attachments: attachments,
+            };
         };
         let n = attachments.count;
-        here.number = judged(n, 32, false, bits & 31 == 31, from.headed, true);
+        here.number = judged(n, 32, bits & 31 == 31, from.headed);
         if here.number != 0 {
             break;
         }

@@ -6,6 +6,7 @@ use crate::fields::judge::judged;
 use crate::fields::mask_at;
 use crate::fields::opt_at;
 use crate::fields::passing::Passing;
+use crate::fields::passing::refused;
 use crate::plan::Bar;
 use crate::plan::Bars;
 ghost use mathlib.Core.Path.{_≡_};
@@ -84,11 +85,13 @@ pub fn read_bars(s: &[u8], from: Passing) -> BarsRead
             break;
         }
         let BarSeen::Got(bits, bar, next) = bar_at(s, at + 1) else {
-            here.number = 1;
-            break;
+            return BarsRead {
+                next: refused(here, 1),
+                bars: bars,
+            };
         };
         let n = bars.count;
-        here.number = judged(n, 32, false, bits & 7 == 7, from.headed, true);
+        here.number = judged(n, 32, bits & 7 == 7, from.headed);
         if here.number != 0 {
             break;
         }

@@ -7,6 +7,7 @@ use crate::fields::list_at;
 use crate::fields::lists::numbers_from;
 use crate::fields::opt_at;
 use crate::fields::passing::Passing;
+use crate::fields::passing::refused;
 use crate::plan::Edge;
 use crate::plan::Edges;
 use crate::plan::Numbers;
@@ -126,11 +127,13 @@ pub fn read_edges(s: &[u8], from: Passing) -> EdgesRead
             break;
         }
         let EdgeSeen::Got(bits, fields, next) = edge_at(s, at + 1) else {
-            here.number = 1;
-            break;
+            return EdgesRead {
+                next: refused(here, 1),
+                edges: edges,
+            };
         };
         let n = edges.count;
-        here.number = judged(n, 64, false, bits & 15 == 15, from.headed, true);
+        here.number = judged(n, 64, bits & 15 == 15, from.headed);
         if here.number != 0 {
             break;
         }

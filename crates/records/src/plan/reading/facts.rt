@@ -2,11 +2,12 @@
 use crate::fields::Field;
 use crate::fields::Listed;
 use crate::fields::byte_at;
-use crate::fields::judge::judged;
+use crate::fields::judge::judged_fully;
 use crate::fields::list_at;
 use crate::fields::lists::tuple_from;
 use crate::fields::opt_at;
 use crate::fields::passing::Passing;
+use crate::fields::passing::refused;
 use crate::plan::Fact;
 use crate::plan::Facts;
 use crate::plan::checks::fact_order::fact_rises;
@@ -104,13 +105,15 @@ pub fn read_facts(s: &[u8], from: Passing) -> FactsRead
             break;
         }
         let FactSeen::Got(bits, family, first, count, next) = fact_at(s, at + 1) else {
-            here.number = 1;
-            break;
+            return FactsRead {
+                next: refused(here, 1),
+                facts: facts,
+            };
         };
         let n = facts.count;
         let fact = fact_from(s, bits, family, first, count);
         let rises = fact_rises(last, fact);
-        here.number = judged(n, 64, false, both_or_none(bits), from.headed, rises);
+        here.number = judged_fully(n, 64, false, both_or_none(bits), from.headed, rises);
         if here.number != 0 {
             break;
         }

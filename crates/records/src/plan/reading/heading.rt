@@ -5,6 +5,7 @@ use crate::fields::judge::judged;
 use crate::fields::opt_at;
 use crate::fields::passing::Passing;
 use crate::fields::passing::at_start;
+use crate::fields::passing::refused;
 ghost use mathlib.Core.Path.{_≡_};
 ghost use Prim.Native.Nat.{_≤_};
 ghost use lib.Dec.{eqb};
@@ -47,6 +48,25 @@ pub struct HeadingRead {
     pub chain: u8,
 }
 
+// What the pass hands on when it ends early.
+fn heading_read(
+    next: Passing,
+    headings: usize,
+    relation: u8,
+    chained: bool,
+    chain: u8,
+) -> HeadingRead
+    ensures { λ r. ⌜ r ≡ record { next = next; headings = headings; relation = relation; chained = chained; chain = chain } ⌝ }
+{
+    HeadingRead {
+        next: next,
+        headings: headings,
+        relation: relation,
+        chained: chained,
+        chain: chain,
+    }
+}
+
 pub fn read_heading(s: &[u8]) -> HeadingRead
     ensures { λ r.
         ⌜ Passed planReading withHeadings 1 (now (s .entry)) atStart (r .next) (headingsOf (r .headings) (r .relation) (r .chained) (r .chain))
@@ -63,10 +83,9 @@ pub fn read_heading(s: &[u8]) -> HeadingRead
             break;
         }
         let HeadingSeen::Got(bits, named, cited, next) = heading_at(s, at + 1) else {
-            here.number = 1;
-            break;
+            return heading_read(refused(here, 1), headings, relation, chained, chain);
         };
-        here.number = judged(headings, 1, false, bits & 1 == 1, true, true);
+        here.number = judged(headings, 1, bits & 1 == 1, true);
         if here.number != 0 {
             break;
         }

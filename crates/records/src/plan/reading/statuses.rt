@@ -4,6 +4,7 @@ use crate::fields::byte_at;
 use crate::fields::judge::judged;
 use crate::fields::opt_at;
 use crate::fields::passing::Passing;
+use crate::fields::passing::refused;
 use crate::plan::Status;
 use crate::plan::Statuses;
 ghost use mathlib.Core.Path.{_≡_};
@@ -82,11 +83,13 @@ pub fn read_statuses(s: &[u8], from: Passing) -> StatusesRead
             break;
         }
         let StatusSeen::Got(bits, status, next) = status_at(s, at + 1) else {
-            here.number = 1;
-            break;
+            return StatusesRead {
+                next: refused(here, 1),
+                statuses: statuses,
+            };
         };
         let n = statuses.count;
-        here.number = judged(n, 32, false, bits & 7 == 7, from.headed, true);
+        here.number = judged(n, 32, bits & 7 == 7, from.headed);
         if here.number != 0 {
             break;
         }

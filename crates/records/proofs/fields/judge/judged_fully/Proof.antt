@@ -5,8 +5,8 @@ use native.Mathlib.Omega.{arith}
 use borrow.Author.Needs.{needs}
 use borrow.Author.Tests.{not-true, not-false}
 use Rattle.records.proofs.KindLaws.{room-left}
-use Rattle.records.proofs.fields.judge.judged.Statement.{statement}
-use Rattle.records.proofs.fields.judge.judged.Tie as tie
+use Rattle.records.proofs.fields.judge.judged_fully.Statement.{statement}
+use Rattle.records.proofs.fields.judge.judged_fully.Tie as tie
 
 returns : tie.Need-returns
 returns c = (rw (sym (c .before .before .past .ensures) ∙ c .if1 .taken), λ z. omega (arith, z))
@@ -28,5 +28,5 @@ returns-4 c =
     let p = sym (c .before .before .before .before .past .ensures) ∙ c .before .before .if1 .left in
     (rw (p, not-false (a .fits && a .headed) (sym (c .before .before .before .unsuited .ensures) ∙ c .before .if2 .left), c .if3 .left), λ z. omega (arith, z))
 
-pub judged-spec : {M : Type 1} → statement M
-judged-spec = tie.close (tie.spec (λ c κs. search needs) (λ c κs. search needs) returns returns-2 returns-3 returns-4)
+pub judged-fully-spec : {M : Type 1} → statement M
+judged-fully-spec = tie.close (tie.spec (λ c κs. search needs) (λ c κs. search needs) returns returns-2 returns-3 returns-4)
