@@ -11,15 +11,16 @@ use sets::bit;
 use sets::union;
 ghost use mathlib.Core.Path.{_≡_};
 ghost use mathlib.Core.List.{map};
-ghost use Prim.Native.Nat.{ℕ, _<_};
+ghost use Prim.Native.Nat.{ℕ};
 ghost use lib.Dec.{eqb};
 ghost use lib.ListN.{length, getD, take};
 ghost use Rattle.sets.specs.paper.Sets.{one, union as both, only, unionOf, All};
+ghost use Rattle.records.specs.promises.Sound.{Evidence};
 ghost use Rattle.records.specs.code.Decoded.{observationsOf, booleanOf, relationOf, caseOf};
 ghost use Rattle.expressions.specs.code.Evident.{evidenceMark, booleanEvidence, Evident, EvidentBoolean, EvidentRelation, ReadCase, EvidenceBy};
 
 fn mark(m: u64, e: u8) -> u64
-    requires { ⌜ e < 64 ⌝ }
+    requires { ⌜ Evidence e ⌝ }
     ensures { λ r. ⌜ r ≡ both m (one e) ⌝ }
 {
     union(m, bit(e))

@@ -11,6 +11,7 @@ ghost use mathlib.Core.List.{_∷_};
 ghost use Prim.Native.Nat.{_+_, _*_, _≤_};
 ghost use lib.ListN.{length};
 ghost use Rattle.sets.specs.paper.Sets.{members};
+ghost use Rattle.report.specs.paper.Line.{lineLength};
 ghost use Rattle.report.specs.paper.LineAt.{linesFrom};
 ghost use Rattle.listing.specs.Text.{decimal, persons, cell, rowOf, rows, refusedRow};
 ghost use Rattle.listing.specs.Page.{puts};
@@ -69,7 +70,7 @@ fn put_row(out: &mut [u8], at: usize, line: Fields) -> usize
 
 // A row for each of the first n lines.
 pub fn put_rows(out: &mut [u8], at: usize, lines: &[u8], n: usize) -> usize
-    requires { ⌜ 29 * n ≤ length (now lines) ⌝ }
+    requires { ⌜ lineLength * n ≤ length (now lines) ⌝ }
     ensures { λ r. ⌜ record { count = r; out = now (out .exit) } ≡ puts (record { count = at; out = now (out .entry) }) (rows (linesFrom (now (lines .entry)) 0 n)) ⌝ }
 {
     let mut next = at;

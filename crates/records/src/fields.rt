@@ -13,6 +13,13 @@ ghost use Rattle.records.specs.code.Readers.{fieldRead, wideRead, shortR
 ghost use Rattle.records.specs.paper.Plan.{electionFrom};
 ghost use Rattle.records.specs.code.Decoded.{noElection};
 
+// the highest person, citation and evidence that a field holds; the lowest is 0
+pub const PERSON: u8 = 63;
+
+pub const CITATION: u8 = 63;
+
+pub const EVIDENCE: u8 = 63;
+
 pub enum Field {
     Got(u8, usize),
     Bad,
@@ -161,7 +168,7 @@ pub fn election_at(s: &[u8], at: usize, present: bool) -> Elected
     let Field::Got(policy, r) = byte_at(s, q, 0, 2) else {
         return Elected::Bad;
     };
-    let Field::Got(citation, t) = byte_at(s, r, 0, 63) else {
+    let Field::Got(citation, t) = byte_at(s, r, 0, CITATION) else {
         return Elected::Bad;
     };
     let election = Election {

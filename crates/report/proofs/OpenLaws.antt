@@ -142,11 +142,11 @@ module _ (plan : Coded) (c : CodedCase) (sound : Sound (planOf plan)) (sane : So
       roster-peopled : c .heading .roster ≡ 0 → ⊥
       roster-peopled e = somebody Pl (caseHeading Ca) room z (roster-is ∙ e)
 
-      lines-fit : 29 * size (c .heading .roster) ≤ room
+      lines-fit : lineLength * size (c .heading .roster) ≤ room
       unfolding headingFault
       lines-fit =
-          subst (λ (m : ℕ). 29 * size m ≤ room) roster-is
-          (ltb-false room (29 * size (caseHeading Ca .roster))
+          subst (λ (m : ℕ). lineLength * size m ≤ room) roster-is
+          (ltb-false room (lineLength * size (caseHeading Ca .roster))
           (fits (caseHeading Ca .segmentComplete) (mismatched Pl (caseHeading Ca)) (ltb room (lineLength * size (caseHeading Ca .roster))) z))
         where
           fits : (a b d : Bool) → _≡_ {A = ℕ} (cond a (cond b 9 (cond d 12 0)) 8) 0 → d ≡ false
@@ -270,7 +270,7 @@ module _ (plan : Coded) (c : CodedCase) (sound : Sound (planOf plan)) (sane : So
   -- ---- what follows for lines and worlds
 
   module _ (lines : List ℕ) (o : CodedOpened) (h : OpensCase plan c (length lines) o) where
-    pub bare-fits : o .stop ≡ Incomplete → 29 * size (c .heading .roster) ≤ length lines
+    pub bare-fits : o .stop ≡ Incomplete → lineLength * size (c .heading .roster) ≤ length lines
     bare-fits e = lines-fit (length lines) (faultless (length lines) (h .opened ∙ ap (openedOf plan c) e) refl)
 
     pub is-ready : o .stop ≡ Nothing → (uses events : List ℕ) → HoldsUses (plan .nodes) uses → lines ≡ replicate (length lines) 0 → events ≡ replicate (length events) 0

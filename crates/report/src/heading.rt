@@ -1,4 +1,5 @@
 // The refusals of a case's heading: 8 segment not complete, 9 it does not fit the plan, 12 lines do not fit.
+use crate::line::LINE;
 use expressions::counts::upto;
 use expressions::groups::Groups;
 use records::case::CaseHeading;
@@ -70,7 +71,7 @@ pub fn heading_fault(heading: CaseHeading, relation: u8, persons: u64, room: usi
     if !subset(persons, heading.roster) {
         return 9;
     }
-    if room < 29 * (size(heading.roster) as usize) {
+    if room < LINE * (size(heading.roster) as usize) {
         return 12;
     }
     0

@@ -5,6 +5,7 @@ use Prim.Native.Nat.{ℕ, _<_}
 use lib.ListN.{getD, take}
 use Rattle.sets.specs.paper.Sets.{All}
 use Rattle.records.specs.paper.Plan.{Fact, Node, literal, fact, conj, disj, neg, Edge, Cut, Attachment, Bar, Status}
+use Rattle.records.specs.promises.Sound.{Person}
 use Rattle.records.specs.code.Decoded.{factOf, nodeOf, edgeOf, cutOf, attachmentOf, barOf, statusOf, planOf}
 use Rattle.expressions.specs.paper.Nodes.{usesFrom}
 use Rattle.expressions.specs.paper.Influence.{Frame}
@@ -57,16 +58,16 @@ FactFits (neg i) = Unit {0}
 
 -- the persons that a rule names by number have a place in a mask
 abbrev pub EndsFit : Edge → Type 0
-EndsFit e = (e .left < 64) × (e .right < 64)
+EndsFit e = Person (e .left) × Person (e .right)
 
 abbrev pub AnchorFits : Attachment → Type 0
-AnchorFits a = a .anchor < 64
+AnchorFits a = Person (a .anchor)
 
 abbrev pub PersonFits : Status → Type 0
-PersonFits t = t .person < 64
+PersonFits t = Person (t .person)
 
 abbrev pub TupleFits : Fact → Type 0
-TupleFits f = All (λ p. p < 64) (f .tuple)
+TupleFits f = All Person (f .tuple)
 
 -- plan, roster and constraints, from which touch and circles follow
 unfoldable pub frameBy : Coded → ℕ → Constraints → Frame

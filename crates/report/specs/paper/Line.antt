@@ -18,11 +18,12 @@ pub record Line : Type 0 where
   pub openDecisions : ℕ
   pub citations : ℕ
 
--- "person, kind, role, block mask, open facts mask (8), open decisions (2 bytes), citations mask (8)": 29 bytes
+-- "person, kind, role, block mask, open facts mask (8), open decisions (2 bytes), citations mask (8)"
 unfoldable pub lineBytes : Line → List ℕ
 lineBytes l =
     l .person ∷ l .kind ∷ l .role ∷ (littleBytes 8 (l .block) ++ (littleBytes 8 (l .openFacts) ++ (littleBytes 2 (l .openDecisions) ++ littleBytes 8 (l .citations))))
 
+-- "29 bytes"
 abbrev pub lineLength : ℕ
 lineLength = 29
 

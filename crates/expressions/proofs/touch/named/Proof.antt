@@ -1,10 +1,11 @@
 -- `touch::named`: what is joined so far, with what is left, is the set of the tuple.
-use Prim.Native.Nat.{ℕ, _+_, _≤_, _<_, _-_, min}
+use Prim.Native.Nat.{ℕ, _+_, _≤_, _-_, min}
 use mathlib.Core.Path.{_≡_, refl, sym, ap, _∙_}
 use mathlib.Core.List.{List}
 use lib.ListN.{length, drop, getD, length-map}
 use borrow.Author.Needs.{needs}
 use Rattle.sets.specs.paper.Sets.{one, union, unionOf}
+use Rattle.records.specs.promises.Sound.{Person}
 use Rattle.records.specs.code.Decoded.{factOf}
 use Rattle.expressions.proofs.ListLaws.{used-next, used-end, used-each}
 use Rattle.sets.proofs.UnionLaws.{union-go, union-none, none-union, set-union}
@@ -33,7 +34,7 @@ bit-requires c κs =
     let l = c .before .before in
     let a = l .before in
     let s = a .before .before in
-    used-each (s .args .t1 .tuple) (s .args .t1 .count) 4 (a .upto .result) (long s) (some a) (λ p. p < 64) (l .loop .i) 0 (search needs) (s .pre)
+    used-each (s .args .t1 .tuple) (s .args .t1 .count) 4 (a .upto .result) (long s) (some a) Person (l .loop .i) 0 (search needs) (s .pre)
 
 loop-again : tie.Need-loop-again Inv-loop μ-loop
 unfolding factOf

@@ -2,6 +2,7 @@
 use crate::case::Boolean;
 use crate::case::Booleans;
 use crate::case::Observations;
+use crate::fields::EVIDENCE;
 use crate::fields::Field;
 use crate::fields::Listed;
 use crate::fields::byte_at;
@@ -38,10 +39,11 @@ pub fn boolean_at(s: &[u8], at: usize) -> BooleanSeen
     let Field::Got(fact, p0) = opt_at(s, p, bits % 2 == 1, 0, 255) else {
         return BooleanSeen::Bad;
     };
-    let Field::Got(evidence, p1) = opt_at(s, p0, bits / 2 % 2 == 1, 0, 63) else {
+    let Field::Got(evidence, p1) = opt_at(s, p0, bits / 2 % 2 == 1, 0, EVIDENCE) else {
         return BooleanSeen::Bad;
     };
-    let Listed::Got(first, count, next) = pairs_at(s, p1, bits / 4 % 2 == 1, 16, 1, 0, 63) else {
+    let Listed::Got(first, count, next) = pairs_at(s, p1, bits / 4 % 2 == 1, 16, 1, 0, EVIDENCE)
+    else {
         return BooleanSeen::Bad;
     };
     if bits / 8 == 0 {

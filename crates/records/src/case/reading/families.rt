@@ -1,6 +1,7 @@
 // Families: one record from its bit map on, and the pass over all of them.
 use crate::case::Families;
 use crate::case::Family;
+use crate::fields::EVIDENCE;
 use crate::fields::Field;
 use crate::fields::byte_at;
 use crate::fields::judge::judged;
@@ -36,7 +37,7 @@ pub fn family_at(s: &[u8], at: usize) -> FamilySeen
     let Field::Got(scope, p1) = opt_at(s, p0, bits / 2 % 2 == 1, 0, 255) else {
         return FamilySeen::Bad;
     };
-    let Field::Got(evidence, next) = opt_at(s, p1, bits / 4 % 2 == 1, 0, 63) else {
+    let Field::Got(evidence, next) = opt_at(s, p1, bits / 4 % 2 == 1, 0, EVIDENCE) else {
         return FamilySeen::Bad;
     };
     if bits / 8 == 0 {

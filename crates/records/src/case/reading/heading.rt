@@ -1,5 +1,6 @@
 // The heading of a case: one record from its bit map on, and the pass over all of them.
 use crate::case::CaseHeading;
+use crate::fields::EVIDENCE;
 use crate::fields::Field;
 use crate::fields::Short;
 use crate::fields::Wide;
@@ -44,7 +45,7 @@ pub fn heading_at(s: &[u8], at: usize) -> HeadingSeen
     let Wide::Got(roster, p4) = mask_at(s, p2, bits / 16 % 2 == 1) else {
         return HeadingSeen::Bad;
     };
-    let Field::Got(evidence, p5) = opt_at(s, p4, bits / 32 % 2 == 1, 0, 63) else {
+    let Field::Got(evidence, p5) = opt_at(s, p4, bits / 32 % 2 == 1, 0, EVIDENCE) else {
         return HeadingSeen::Bad;
     };
     let Short::Got(most, next) = short_at(s, p5, bits / 64 % 2 == 1) else {

@@ -1,6 +1,7 @@
 // Relations: one record from its bit map on, and the pass over all of them.
 use crate::case::Relation;
 use crate::case::Relations;
+use crate::fields::EVIDENCE;
 use crate::fields::Field;
 use crate::fields::byte_at;
 use crate::fields::judge::judged;
@@ -36,7 +37,7 @@ pub fn relation_at(s: &[u8], at: usize) -> RelationSeen
     let Field::Got(value, p1) = opt_at(s, p0, bits / 2 % 2 == 1, 0, 1) else {
         return RelationSeen::Bad;
     };
-    let Field::Got(evidence, next) = opt_at(s, p1, bits / 4 % 2 == 1, 0, 63) else {
+    let Field::Got(evidence, next) = opt_at(s, p1, bits / 4 % 2 == 1, 0, EVIDENCE) else {
         return RelationSeen::Bad;
     };
     if bits / 8 == 0 {

@@ -1,4 +1,5 @@
 // Bars: one record from its bit map on, and the pass over all of them.
+use crate::fields::CITATION;
 use crate::fields::Field;
 use crate::fields::Wide;
 use crate::fields::byte_at;
@@ -38,7 +39,7 @@ pub fn bar_at(s: &[u8], at: usize) -> BarSeen
     let Field::Got(condition, p1) = opt_at(s, p0, bits / 2 % 2 == 1, 0, 255) else {
         return BarSeen::Bad;
     };
-    let Field::Got(citation, next) = opt_at(s, p1, bits / 4 % 2 == 1, 0, 63) else {
+    let Field::Got(citation, next) = opt_at(s, p1, bits / 4 % 2 == 1, 0, CITATION) else {
         return BarSeen::Bad;
     };
     if bits / 8 == 0 {

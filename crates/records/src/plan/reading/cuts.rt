@@ -1,4 +1,5 @@
 // Cuts: one record from its bit map on, and the pass over all of them.
+use crate::fields::CITATION;
 use crate::fields::Elected;
 use crate::fields::Field;
 use crate::fields::Listed;
@@ -65,7 +66,7 @@ pub fn cut_at(s: &[u8], at: usize) -> CutSeen
     let Field::Got(condition, p1) = opt_at(s, p0, bits / 2 % 2 == 1, 0, 255) else {
         return CutSeen::Bad;
     };
-    let Field::Got(citation, p2) = opt_at(s, p1, bits / 4 % 2 == 1, 0, 63) else {
+    let Field::Got(citation, p2) = opt_at(s, p1, bits / 4 % 2 == 1, 0, CITATION) else {
         return CutSeen::Bad;
     };
     let Elected::Got(election, p3) = election_at(s, p2, bits / 8 % 2 == 1) else {

@@ -1,6 +1,7 @@
 // Facts: one record from its bit map on, and the pass over all of them.
 use crate::fields::Field;
 use crate::fields::Listed;
+use crate::fields::PERSON;
 use crate::fields::byte_at;
 use crate::fields::judge::judged_fully;
 use crate::fields::list_at;
@@ -39,7 +40,7 @@ pub fn fact_at(s: &[u8], at: usize) -> FactSeen
     let Field::Got(family, p0) = opt_at(s, p, bits % 2 == 1, 0, 255) else {
         return FactSeen::Bad;
     };
-    let Listed::Got(first, count, next) = list_at(s, p0, bits / 2 % 2 == 1, 4, 63) else {
+    let Listed::Got(first, count, next) = list_at(s, p0, bits / 2 % 2 == 1, 4, PERSON) else {
         return FactSeen::Bad;
     };
     if bits / 4 == 0 {

@@ -1,4 +1,5 @@
 // The heading: one record from its bit map on, and the pass over all of them.
+use crate::fields::CITATION;
 use crate::fields::Field;
 use crate::fields::byte_at;
 use crate::fields::judge::judged;
@@ -31,7 +32,7 @@ pub fn heading_at(s: &[u8], at: usize) -> HeadingSeen
     let Field::Got(relation, p0) = opt_at(s, p, bits % 2 == 1, 0, 255) else {
         return HeadingSeen::Bad;
     };
-    let Field::Got(chain, next) = opt_at(s, p0, bits / 2 % 2 == 1, 0, 63) else {
+    let Field::Got(chain, next) = opt_at(s, p0, bits / 2 % 2 == 1, 0, CITATION) else {
         return HeadingSeen::Bad;
     };
     if bits / 4 == 0 {

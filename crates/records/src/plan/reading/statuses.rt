@@ -1,5 +1,7 @@
 // Statuses: one record from its bit map on, and the pass over all of them.
+use crate::fields::CITATION;
 use crate::fields::Field;
+use crate::fields::PERSON;
 use crate::fields::byte_at;
 use crate::fields::judge::judged;
 use crate::fields::opt_at;
@@ -30,13 +32,13 @@ pub fn status_at(s: &[u8], at: usize) -> StatusSeen
     let Field::Got(bits, p) = byte_at(s, at, 0, 255) else {
         return StatusSeen::Bad;
     };
-    let Field::Got(person, p0) = opt_at(s, p, bits % 2 == 1, 0, 63) else {
+    let Field::Got(person, p0) = opt_at(s, p, bits % 2 == 1, 0, PERSON) else {
         return StatusSeen::Bad;
     };
     let Field::Got(condition, p1) = opt_at(s, p0, bits / 2 % 2 == 1, 0, 255) else {
         return StatusSeen::Bad;
     };
-    let Field::Got(citation, next) = opt_at(s, p1, bits / 4 % 2 == 1, 0, 63) else {
+    let Field::Got(citation, next) = opt_at(s, p1, bits / 4 % 2 == 1, 0, CITATION) else {
         return StatusSeen::Bad;
     };
     if bits / 8 == 0 {

@@ -9,7 +9,7 @@ use borrow.Author.Needs.{needs}
 use denote.Ref.{now}
 use Rattle.sets.specs.paper.Sets.{has, members}
 use Rattle.worlds.specs.paper.View.{View}
-use Rattle.report.specs.paper.Line.{lineBytes, lineOver}
+use Rattle.report.specs.paper.Line.{lineBytes, lineOver, lineLength}
 use Rattle.report.specs.code.Written.{SumsOf, lineFrom}
 use Rattle.report.proofs.WriteLaws.{Filled, fill-none, fill-room, fill-has, fill-next, fill-end, line-length, holding-lt}
 use Rattle.report.proofs.lines.write_lines.Statement.{statement}
@@ -29,7 +29,7 @@ abbrev μ-loop : tie.MeasureT-loop
 μ-loop lines₀ sums persons facts decisions at₀ m₀ lines at m = m
 
 -- in the loop a line fits
-room : (k : tie.In-loop Inv-loop μ-loop) → k .before .loop .at + 29 ≤ length (k .before .loop .lines)
+room : (k : tie.In-loop Inv-loop μ-loop) → k .before .loop .at + lineLength ≤ length (k .before .loop .lines)
 room k =
     let a = k .before .before .before .before .before .args in
     fill-room (over (a .persons) (now (a .sums)) (now (a .facts)) (now (a .decisions))) (a .persons) (k .before .loop .inv) (k .loop-test .taken)
