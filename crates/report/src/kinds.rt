@@ -1,23 +1,22 @@
 // The events of all worlds kind by kind, rising by rule; each writer starts at a place and hands back the place behind its last event.
 use crate::event::Event;
 use crate::event::write_event;
-use expressions::counts::wide;
 use expressions::elections::elect;
 use records::plan::Attachments;
 use records::plan::Cuts;
 use records::plan::Edges;
 use records::plan::Election;
 use records::plan::Statuses;
-use worlds::over::low;
-use worlds::over::others;
+use sets::low;
+use sets::numbers::wide;
+use sets::others;
 ghost use mathlib.Core.Path.{_≡_};
 ghost use Prim.Native.Nat.{_+_, _*_, _≤_};
 ghost use lib.ListN.{length};
 ghost use Rattle.sets.specs.paper.Sets.{size};
 ghost use Rattle.records.specs.paper.Plan.{Plan as Paper};
 ghost use Rattle.records.specs.paper.Case.{Case as PaperCase};
-ghost use Rattle.records.specs.code.Decoded.{electionOf};
-ghost use Rattle.expressions.specs.code.Coded.{edgesOf, cutsOf, attachmentsOf, statusesOf};
+ghost use Rattle.records.specs.code.Decoded.{electionOf, edgesOf, cutsOf, attachmentsOf, statusesOf};
 ghost use Rattle.expressions.specs.code.Evident.{EvidenceBy};
 ghost use Rattle.expressions.specs.paper.Rules.{edgeCount, cutCount, attachmentCount, barCount, statusCount, factCount};
 ghost use Rattle.worlds.specs.paper.Events.{electionActor, electionEvidence};
