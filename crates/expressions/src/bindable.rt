@@ -1,10 +1,10 @@
 // Refusals 5 and 10 of a case: a family twice; explicit unknown beside observations, a fact twice. Each names the later record.
-use crate::counts::upto;
 use records::case::Boolean;
 use records::case::Booleans;
 use records::case::Case;
 use records::case::Families;
 use records::checked::Checked;
+use sets::numbers::upto;
 ghost use mathlib.Core.Path.{_≡_};
 ghost use mathlib.Core.Bool.{_||_, not};
 ghost use mathlib.Core.List.{List, [], map};

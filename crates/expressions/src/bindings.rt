@@ -1,6 +1,5 @@
 // The binding of each fact, as a number: 0 unbound, 1 known false, 2 known true, 3 unknown, 4 conflict of false, 5 conflict of true, 6 conflict of both.
 // What case and plan tell of the facts is gathered by fact first, so that a binding looks at no table.
-use crate::counts::upto;
 use crate::elections::elect;
 use crate::observations::Sight;
 use crate::observations::said_unknown;
@@ -12,6 +11,7 @@ use records::plan::Fact;
 use records::plan::Plan;
 use sets::bit;
 use sets::contains;
+use sets::numbers::upto;
 use sets::union;
 ghost use mathlib.Core.Path.{_≡_};
 ghost use mathlib.Core.Bool.{not};

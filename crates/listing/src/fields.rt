@@ -1,6 +1,6 @@
 // The fields of a line that the table shows, read out of the buffer of lines.
-use records::fields::to_u64;
 use report::line::LINE;
+use sets::numbers::to_u64;
 ghost use mathlib.Core.Path.{_≡_};
 ghost use Prim.Native.Nat.{_+_, _*_, _≤_};
 ghost use lib.ListN.{length, take, drop};

@@ -4,7 +4,9 @@ use crate::fields::fields_at;
 use crate::page::put;
 use crate::page::put_all;
 use crate::page::put_number;
-use records::fields::to_index;
+use sets::low;
+use sets::numbers::wide;
+use sets::others;
 ghost use mathlib.Core.Path.{_≡_};
 ghost use mathlib.Core.Bool.{cond};
 ghost use mathlib.Core.List.{_∷_};
@@ -33,16 +35,12 @@ pub fn put_persons(out: &mut [u8], at: usize, block: u64) -> usize
     ensures { λ r. ⌜ record { count = r; out = now (out .exit) } ≡ puts (record { count = at; out = now (out .entry) }) (persons (members block)) ⌝ }
 {
     let mut next = at;
-    let mut rest = block;
-    let mut p: usize = 0;
+    let mut m = block;
     let mut first = true;
-    while p < 64 {
-        if rest % 2 == 1 {
-            next = put_person(out, next, p, first);
-            first = false;
-        }
-        rest = rest / 2;
-        p += 1;
+    while m != 0 {
+        next = put_person(out, next, low(m), first);
+        first = false;
+        m = others(m);
     }
     if first {
         return put(out, next, b'-');
@@ -54,7 +52,7 @@ pub fn put_persons(out: &mut [u8], at: usize, block: u64) -> usize
 fn put_cell(out: &mut [u8], at: usize, n: u8) -> usize
     ensures { λ r. ⌜ record { count = r; out = now (out .exit) } ≡ puts (record { count = at; out = now (out .entry) }) (cell n) ⌝ }
 {
-    let next = put_number(out, at, to_index(n));
+    let next = put_number(out, at, wide(n));
     put(out, next, b' ')
 }
 

@@ -4,6 +4,8 @@ pub mod lists;
 pub mod passing;
 
 use crate::plan::Election;
+use sets::numbers::to_u64;
+use sets::numbers::wide;
 ghost use mathlib.Core.Path.{_≡_};
 ghost use mathlib.Core.List.{[], _∷_};
 ghost use Prim.Native.Nat.{_+_, _*_, _≤_, _<_};
@@ -48,22 +50,10 @@ pub enum Elected {
     Bad,
 }
 
-pub fn to_u64(x: u8) -> u64
-    ensures { λ r. ⌜ (r ≡ x) × (r < 256) ⌝ }
-{
-    x as u64
-}
-
 pub fn to_u16(x: u8) -> u16
     ensures { λ r. ⌜ (r ≡ x) × (r < 256) ⌝ }
 {
     x as u16
-}
-
-pub fn to_index(x: u8) -> usize
-    ensures { λ r. ⌜ (r ≡ x) × (r < 256) ⌝ }
-{
-    x as usize
 }
 
 // a byte from `low` to `top`
@@ -226,7 +216,7 @@ pub fn list_at(s: &[u8], at: usize, present: bool, limit: u8, top: u8) -> Listed
     let Field::Got(count, first) = byte_at(s, at, 0, limit) else {
         return Listed::Bad;
     };
-    let n = to_index(count);
+    let n = wide(count);
     if entries_stand(s, first, n, top) {
         return Listed::Got(first, count, first + n);
     }
@@ -243,7 +233,7 @@ pub fn pairs_at(s: &[u8], at: usize, present: bool, limit: u8, top: u8, low: u8,
     let Field::Got(count, first) = byte_at(s, at, 0, limit) else {
         return Listed::Bad;
     };
-    let n = to_index(count);
+    let n = wide(count);
     if pairs_stand(s, first, n, top, low, high) {
         return Listed::Got(first, count, first + n * 2);
     }

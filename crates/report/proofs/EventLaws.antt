@@ -19,7 +19,7 @@ use Rattle.sets.proofs.SetLaws.{has-zero, has-suc, has-none, lt-or-le}
 use Rattle.sets.proofs.MemberLaws.{members-length}
 use Rattle.expressions.proofs.ListLaws.{flat-append}
 use Rattle.records.specs.paper.Plan.{Plan, Election}
-use Rattle.records.specs.code.Decoded.{edgeOf, cutOf, attachmentOf, statusOf}
+use Rattle.records.specs.code.Decoded.{edgeOf, cutOf, attachmentOf, statusOf, edgesOf, cutsOf, attachmentsOf, statusesOf}
 use Rattle.records.specs.declared.plan.Edge.{Edge}
 use Rattle.records.specs.declared.plan.Edges.{Edges}
 use Rattle.records.specs.declared.plan.Cut.{Cut}
@@ -29,11 +29,10 @@ use Rattle.records.specs.declared.plan.Attachments.{Attachments}
 use Rattle.records.specs.declared.plan.Status.{Status}
 use Rattle.records.specs.declared.plan.Statuses.{Statuses}
 use Rattle.records.proofs.ListLaws.{getD-front}
-use Rattle.expressions.specs.code.Coded.{edgesOf, cutsOf, attachmentsOf, statusesOf}
 use Rattle.expressions.specs.paper.Rules.{edgeCount, cutCount, attachmentCount, statusCount, edge, cut, attachment, status}
 use Rattle.expressions.specs.paper.Bindings.{defaultOf}
 use Rattle.worlds.specs.paper.Events.{event, littleBytes, listed, electionActor}
-use Rattle.worlds.proofs.OverLaws.{members-next, members-none, and-less, turn-has}
+use Rattle.sets.proofs.TurnLaws.{members-next, members-none, and-less, turn-has}
 use Rattle.report.specs.paper.EventList.{numberOf, electionCitation, eventLength}
 use Rattle.report.specs.code.EventBytes.{Below, Writes, sizes}
 
@@ -209,20 +208,20 @@ read {A} {B} g list n items h i d e l = sym (ap (λ (xs : List B). getD xs i e) 
 
 module _ (P : Plan) (i : ℕ) where
   pub edge-read : (edges : Edges) (d : Edge) → P .edges ≡ edgesOf edges → i < edgeCount P → edgeOf (getD (edges .items) i d) ≡ edge P i
-  unfolding edge edgesOf
+  unfolding edge
   edge-read edges d e l = read edgeOf (P .edges) (edges .count) (edges .items) e i d _ l
 
   pub cut-read : (cuts : Cuts) (d : Cut) → P .cuts ≡ cutsOf cuts → i < cutCount P → cutOf (getD (cuts .items) i d) ≡ cut P i
-  unfolding cut cutsOf
+  unfolding cut
   cut-read cuts d e l = read cutOf (P .cuts) (cuts .count) (cuts .items) e i d _ l
 
   pub attachment-read : (attachments : Attachments) (d : Attachment) → P .attachments ≡ attachmentsOf attachments → i < attachmentCount P
       → attachmentOf (getD (attachments .items) i d) ≡ attachment P i
-  unfolding attachment attachmentsOf
+  unfolding attachment
   attachment-read attachments d e l = read attachmentOf (P .attachments) (attachments .count) (attachments .items) e i d _ l
 
   pub status-read : (statuses : Statuses) (d : Status) → P .statuses ≡ statusesOf statuses → i < statusCount P → statusOf (getD (statuses .items) i d) ≡ status P i
-  unfolding status statusesOf
+  unfolding status
   status-read statuses d e l = read statusOf (P .statuses) (statuses .count) (statuses .items) e i d _ l
 
 -- the first election says all

@@ -15,7 +15,7 @@ use Rattle.records.specs.paper.Plan.{Plan, Heading}
 use Rattle.records.specs.paper.Case.{Case, CaseHeading, caseHeading}
 use Rattle.records.specs.promises.Sound.{Sound, SoundCase}
 use Rattle.records.specs.code.Check.{checkedOf}
-use Rattle.records.specs.code.Decoded.{planOf, caseOf, caseHeadingOf, ifGiven}
+use Rattle.records.specs.code.Decoded.{planOf, caseOf, caseHeadingOf, ifGiven, statusesOf}
 use Rattle.records.specs.declared.plan.Plan.{Plan as Coded}
 use Rattle.records.specs.declared.case.Case.{Case as CodedCase}
 use Rattle.records.specs.declared.checked.Checked.{Checked}
@@ -27,8 +27,8 @@ use Rattle.expressions.specs.paper.Influence.{Frame, openDecisions}
 use Rattle.expressions.specs.paper.Bindings.{Bound, bindings, bindingsBy, bindingAt, bindable, frameOf}
 use Rattle.expressions.specs.paper.Variables.{worldCount}
 use Rattle.expressions.specs.code.Codes.{boundOf}
-use Rattle.expressions.specs.code.Coded.{frameBy, statusesOf, PersonFits, HoldsUses}
-use Rattle.expressions.specs.code.Counted.{countOf, Counts}
+use Rattle.expressions.specs.code.Coded.{frameBy, PersonFits, HoldsUses}
+use Rattle.expressions.specs.code.Counted.{countAgainst, Counts}
 use Rattle.expressions.specs.code.Reached.{Reached}
 use Rattle.expressions.specs.code.Told.{BindsFacts}
 use Rattle.expressions.specs.declared.bindings.Bound.{Bound as CodedBound}
@@ -78,8 +78,8 @@ not-both (fine a) e f = let z : _≡_ {A = ℕ} 0 1 = cc in omega arith
 not-both (refused m j) e f = let z : _≡_ {A = ℕ} 0 1 = cc in omega arith
 
 -- the code's count and maximum are those of refusal 11
-too-many : (n most : ℕ) → tooMany n most ≡ TooManyWorlds (countOf n most .count) (countOf n most .maximum)
-unfolding tooMany countOf
+too-many : (n most : ℕ) → tooMany n most ≡ TooManyWorlds (countAgainst n most .count) (countAgainst n most .maximum)
+unfolding tooMany countAgainst
 too-many n most = refl
 
 -- ---- the heading
@@ -106,7 +106,7 @@ module _ (plan : Coded) (c : CodedCase) (sound : Sound (planOf plan)) (sane : So
       ap (λ (h : Heading). h .relation) (sym (getD-take (plan .headings) (h ∷ []) 0 (record { relation = 0; chain = [] }) (omega (arith, l, sound .heading))))
 
   pub persons-fit : All PersonFits (statusesOf (plan .statuses))
-  unfolding statusesOf planOf
+  unfolding planOf
   persons-fit = statuses-fit Pl sound
 
   module _ (room : ℕ) where
@@ -195,14 +195,14 @@ module _ (plan : Coded) (c : CodedCase) (sound : Sound (planOf plan)) (sane : So
     codes-bound f = coded f ∙ ap (λ (m : ℕ). bindingAt (bindingsBy Pl Ca m) f) (over .bound) ∙ ap (λ (l : List Bound). bindingAt l f) (bindings-by Pl Ca)
 
     module _ (r : Count) (counts : Counts codes (reach .count) (reach .undecided .count) (c .heading .«most_worlds») r) where
-      worlds-counted : r ≡ countOf (worldCount Pl bs) (caseHeading Ca .mostWorlds)
+      worlds-counted : r ≡ countAgainst (worldCount Pl bs) (caseHeading Ca .mostWorlds)
       unfolding caseHeadingOf
       worlds-counted =
           counts .worlds Pl bs (sym (over .count)) (sym (opens-number (reach .undecided) (openDecisions Pl) (over .opens))) codes-bound
-          ∙ ap (λ (h : CaseHeading). countOf (worldCount Pl bs) (h .mostWorlds)) (sym headed-by)
+          ∙ ap (λ (h : CaseHeading). countAgainst (worldCount Pl bs) (h .mostWorlds)) (sym headed-by)
 
       over-most : ltb (caseHeading Ca .mostWorlds) (worldCount Pl bs) ≡ r .refused
-      unfolding countOf
+      unfolding countAgainst
       over-most = sym (ap (λ (k : Count). k .refused) worlds-counted)
 
       module _ (e : checkedOf (bindable Ca) ≡ checked.Accepted) where
@@ -235,7 +235,7 @@ module _ (plan : Coded) (c : CodedCase) (sound : Sound (planOf plan)) (sane : So
       (b : CodedBound) (binds : BindsFacts Pl Ca (reach .bound) b)
       (n : Count) (counts : Counts (b .codes) (reach .count) (reach .undecided .count) (c .heading .«most_worlds») n) where
     fault-is : k ≡ fault room
-    unfolding frameBy statusesOf planOf
+    unfolding frameBy planOf
     fault-is = told .at Pl relation-is (listed .at Pl (reached .groups) refl) ∙ ap (λ (h : CaseHeading). headingFault Pl h room) (sym headed-by)
 
     by-count : checkedOf (bindable Ca) ≡ checked.Accepted → (q : Bool) → n .refused ≡ q

@@ -12,7 +12,7 @@ use borrow.Author.Tests.{ltb-true, lt-ltb, eqb-false}
 use Rattle.sets.specs.paper.Sets.{has, anyOf, subset, size, All}
 use Rattle.records.specs.paper.Plan as paper
 use Rattle.records.specs.paper.Case as paper-case
-use Rattle.records.specs.code.Decoded.{planOf, caseOf, caseHeadingOf}
+use Rattle.records.specs.code.Decoded.{planOf, caseOf, caseHeadingOf, factsOf}
 use Rattle.records.specs.declared.plan.Plan.{Plan}
 use Rattle.records.specs.declared.case.Case.{Case}
 use Rattle.sets.proofs.SetLaws.{and-parts, has-none}
@@ -25,7 +25,7 @@ use Rattle.expressions.specs.declared.bindings.Bound as code-bound
 use Rattle.expressions.specs.paper.Bindings.{Bound, bindings, bindingOf, frameOf, tookDefault, tookDefaultBy}
 use Rattle.expressions.specs.paper.Variables as variables
 use Rattle.expressions.specs.paper.Variables.{Values, slotsBy, slots, worlds, booleansAmong, booleanCount, isVariable, factInfluence, decisionInfluence, influence}
-use Rattle.expressions.specs.code.Coded.{factsOf, frameBy}
+use Rattle.expressions.specs.code.Coded.{frameBy}
 use Rattle.expressions.specs.code.Slots.{slotOf, slotsOf}
 use Rattle.expressions.specs.code.Reached.{Reached}
 use Rattle.expressions.specs.code.Influences.{setsOf, influenceBy}
@@ -245,7 +245,7 @@ module _ {plan : Plan} {c : Case} {reach : Reach} {given : code-bound.Bound} {us
 
   module _ {booleans : ℕ} (b : booleans ≡ booleansAmong (factsOf (plan .facts))) where
     booleans-are : booleans ≡ booleanCount P
-    unfolding factsOf booleanCount planOf
+    unfolding booleanCount planOf
     booleans-are = b
 
     pub booleans-fit : booleans ≤ reach .count

@@ -21,7 +21,7 @@ use Rattle.expressions.specs.paper.Variables.{Influence}
 use Rattle.worlds.specs.paper.Events.{littleBytes}
 use Rattle.worlds.specs.paper.View.{View}
 use Rattle.worlds.specs.code.Tables.{row}
-use Rattle.worlds.proofs.OverLaws.{has-members, members-next, members-none}
+use Rattle.sets.proofs.TurnLaws.{has-members, members-next, members-none}
 use Rattle.report.specs.paper.Line.{Line, lineBytes, lineBy, lineOver, firstKind, holding, lineLength}
 use Rattle.report.specs.code.Summed.{stands, rolesAgree}
 use Rattle.report.specs.code.Written.{LineBy}

@@ -1,6 +1,6 @@
 // A line, LINE bytes, written into the rest of the lent buffer.
-use worlds::over::low;
-use worlds::over::others;
+use sets::low;
+use sets::others;
 ghost use mathlib.Core.Path.{_≡_};
 ghost use mathlib.Core.List.{_++_, flatMap};
 ghost use Prim.Native.Nat.{_*_, _≤_};

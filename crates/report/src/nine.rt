@@ -1,8 +1,8 @@
 // Components at discretion as events of kind 9, kept rising at the start of the lent buffer while worlds go by.
 use crate::event::Event;
 use crate::event::encode_event;
-use worlds::over::low;
-use worlds::over::others;
+use sets::low;
+use sets::others;
 ghost use mathlib.Core.Path.{_≡_};
 ghost use mathlib.Core.List.{_++_, map};
 ghost use Prim.Native.Nat.{ℕ, _+_, _*_, _<_, _≤_};

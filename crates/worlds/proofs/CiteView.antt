@@ -34,7 +34,7 @@ use Rattle.worlds.specs.declared.tables.Common.{Common}
 use Rattle.worlds.specs.declared.tables.Settled.{Settled}
 use Rattle.worlds.proofs.FirstBlocks.{Blocks}
 use Rattle.worlds.proofs.Partition.{world-blocks}
-use Rattle.worlds.proofs.OverLaws.{and-pred, and-less, members-next}
+use Rattle.sets.proofs.TurnLaws.{and-pred, and-less, members-next}
 use Rattle.worlds.proofs.CiteLaws.{minus-le, lowest-in, lowest-below, filled, cites-both}
 use Rattle.worlds.proofs.CiteTurns.{meets-sym, meets-none, far-other, far-same}
 use Rattle.worlds.proofs.CiteRules.{only-none, only-both, union-comm, lowest-one, ends-inside, meets-person, rules-same, rules-all, no-members, unless-same}

@@ -22,7 +22,7 @@ use Rattle.worlds.specs.code.Settled.{blocks, clashes, CutsSettled}
 use Rattle.worlds.specs.declared.tables.Common.{Common}
 use Rattle.worlds.specs.declared.tables.Active.{Active}
 use Rattle.worlds.specs.declared.cuts.CutsDone.{CutsDone}
-use Rattle.worlds.proofs.OverLaws.{union-has, has-union-of}
+use Rattle.sets.proofs.TurnLaws.{union-has, has-union-of}
 use Rattle.worlds.proofs.SpreadLaws.{spread-members}
 use Rattle.worlds.proofs.Partition.{cut-on}
 use Rattle.worlds.proofs.FindLaws.{union-members, few-low}

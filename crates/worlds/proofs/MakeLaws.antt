@@ -18,13 +18,12 @@ use Rattle.sets.proofs.LoopLaws.{all-at}
 use Rattle.sets.proofs.Every.{all-then}
 use Rattle.records.specs.paper.Plan.{Plan, Cut, Heading}
 use Rattle.records.specs.promises.Sound.{Sound, SoundEdge, SoundDecision, SoundCut, SoundAttachment, SoundBar, SoundStatus}
-use Rattle.records.specs.code.Decoded.{ifGiven, planOf}
+use Rattle.records.specs.code.Decoded.{ifGiven, planOf, edgesOf, cutsOf, attachmentsOf, barsOf, statusesOf}
 use Rattle.records.specs.declared.plan.Plan.{Plan as Coded}
 use Rattle.expressions.specs.paper.Rules.{edgeCount, cutCount, edge, cut, pair, chained, ruleSets, rulePersons}
 use Rattle.expressions.specs.paper.Influence.{openDecisions}
 use Rattle.expressions.specs.code.Undecided.{Named, opensOf}
 use Rattle.expressions.specs.paper.Variables.{Influence}
-use Rattle.expressions.specs.code.Coded.{edgesOf, cutsOf, attachmentsOf, barsOf, statusesOf}
 use Rattle.expressions.specs.declared.decisions.Undecided.{Undecided}
 use Rattle.expressions.proofs.ListLaws.{filled-at}
 use Rattle.expressions.proofs.OpenLaws.{all-named}
@@ -35,7 +34,7 @@ use Rattle.worlds.specs.code.Laid.{EdgeFits, CutFits, AttachmentFits, Ba
 use Rattle.worlds.specs.code.Related.{PrecedesFit, chainBy, Preceding, Chained, RelatedAt, CutsRelated}
 use Rattle.worlds.specs.code.Made.{Combination, SpreadLaid, CommonFor}
 use Rattle.worlds.specs.declared.tables.Common.{Common}
-use Rattle.worlds.proofs.OverLaws.{union-has, has-union-of}
+use Rattle.sets.proofs.TurnLaws.{union-has, has-union-of}
 use Rattle.worlds.proofs.ClassLaws.{gathered}
 
 -- ---- a set of the numbers that pass a test, number by number
@@ -379,23 +378,23 @@ module _ (plan : Coded) (undecided : Undecided) (roster all combination steps : 
   P = planOf plan
 
   the-edges : P .edges ≡ edgesOf (plan .edges)
-  unfolding planOf edgesOf
+  unfolding planOf
   the-edges = refl
 
   the-cuts : P .cuts ≡ cutsOf (plan .cuts)
-  unfolding planOf cutsOf
+  unfolding planOf
   the-cuts = refl
 
   the-attachments : P .attachments ≡ attachmentsOf (plan .attachments)
-  unfolding planOf attachmentsOf
+  unfolding planOf
   the-attachments = refl
 
   the-bars : P .bars ≡ barsOf (plan .bars)
-  unfolding planOf barsOf
+  unfolding planOf
   the-bars = refl
 
   the-statuses : P .statuses ≡ statusesOf (plan .statuses)
-  unfolding planOf statusesOf
+  unfolding planOf
   the-statuses = refl
 
   -- rows that the last calls leave

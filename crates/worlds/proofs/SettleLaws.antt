@@ -26,7 +26,7 @@ use Rattle.worlds.specs.declared.tables.Common.{Common}
 use Rattle.worlds.specs.declared.tables.Active.{Active}
 use Rattle.worlds.specs.declared.tables.Settled.{Settled}
 use Rattle.worlds.specs.declared.cuts.CutsDone.{CutsDone}
-use Rattle.worlds.proofs.OverLaws.{union-has, has-union-of}
+use Rattle.sets.proofs.TurnLaws.{union-has, has-union-of}
 use Rattle.worlds.proofs.FindLaws.{few-low}
 use Rattle.worlds.proofs.DiscretionLaws.{parts-are, discretion-is}
 use Rattle.worlds.proofs.AttachLaws.{marksIn, settled-moved, settled-attached}

@@ -1,9 +1,6 @@
 // Steps 3 to 5 by sets of cuts: which are kept, which overlap, which are blocked.
 use crate::over::gather;
-use crate::over::low;
 use crate::over::meeting;
-use crate::over::others;
-use crate::over::whole;
 use crate::tables::Active;
 use crate::tables::BLOCKINGS;
 use crate::tables::CLASHES;
@@ -20,11 +17,15 @@ use crate::tables::SAID;
 use crate::tables::SPREAD;
 use crate::tables::TWINS;
 use crate::tables::Tables;
+use sets::low;
 use sets::minus;
+use sets::others;
+use sets::whole::whole_3_rows;
+use sets::whole::whole_64_words;
 ghost use mathlib.Core.Path.{_≡_};
 ghost use Prim.Native.Nat.{ℕ, _<_};
 ghost use mathlib.Core.List.{[]};
-ghost use lib.ListN.{length, getD};
+ghost use lib.ListN.{getD};
 ghost use mathlib.Core.Bool.{_&&_, not};
 ghost use Rattle.sets.specs.paper.Sets.{has, meet, union, minus as without, unionOf, meets, members};
 ghost use Rattle.worlds.specs.code.Tables.{row};
@@ -60,7 +61,7 @@ pub fn blocked(t: &Tables, standing: u64, frozen: u64, decisions: u64, noted: &m
     ensures twins { λ r. ⌜ r ≡ blockedTwins (now (t .entry)) frozen decisions (members standing) ⌝ }
     ensures noted { λ r. ⌜ Noted standing (blockers (now (t .entry)) frozen decisions) (now (noted .entry)) (now (noted .exit)) ⌝ }
 {
-    whole(*noted);
+    whole_64_words(*noted);
     let mut found: u64 = 0;
     let mut m = standing;
     while m != 0 {
@@ -86,7 +87,7 @@ pub fn lowest_twins(t: &Tables, cuts: u64) -> u64
 pub fn note_clashes(t: &Tables, cuts: u64, noted: &mut [u64; 64])
     ensures { λ r. ⌜ Noted cuts (λ c. meet (row (now (t .entry)) 6 c) cuts) (now (noted .entry)) (now (noted .exit)) ⌝ }
 {
-    whole(*noted);
+    whole_64_words(*noted);
     let mut m = cuts;
     while m != 0 {
         let c = low(m);
@@ -94,11 +95,6 @@ pub fn note_clashes(t: &Tables, cuts: u64, noted: &mut [u64; 64])
         m = others(m);
     }
 }
-
-// A reference to the notes does not tell the proof how long they are. The compiler drops the call with its copy.
-pub fn whole_notes(noted: Noted)
-    ensures { λ r. ⌜ length noted ≡ 3 ⌝ }
-{}
 
 pub struct CutsDone {
     pub overlap: u64,
@@ -110,7 +106,7 @@ pub fn settle_cuts(t: &Tables, active: Active, noted: &mut Noted) -> CutsDone
     ensures cuts { λ r. ⌜ CutsSettled (now (t .entry)) active r (getD (now (noted .entry)) 1 []) (getD (now (noted .exit)) 1 []) (getD (now (noted .entry)) 2 []) (getD (now (noted .exit)) 2 []) ⌝ }
     ensures parts { λ r. ⌜ getD (now (noted .exit)) 0 [] ≡ getD (now (noted .entry)) 0 [] ⌝ }
 {
-    whole_notes(*noted);
+    whole_3_rows(*noted);
     let left = kept(t, active.cuts);
     let clash = overlapping(t, left);
     note_clashes(t, lowest_twins(t, clash), &mut noted[CLASHES]);

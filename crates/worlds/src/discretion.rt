@@ -1,12 +1,12 @@
 // Step 2: Base components of more than two persons that are no cliques.
 use crate::over::gather;
 use crate::over::give;
-use crate::over::low;
-use crate::over::others;
-use crate::over::whole;
 use sets::bit;
+use sets::low;
 use sets::minus;
+use sets::others;
 use sets::subset;
+use sets::whole::whole_64_words;
 ghost use mathlib.Core.Path.{_≡_};
 ghost use Prim.Native.Nat.{ℕ, _<_};
 ghost use Rattle.sets.specs.paper.Sets.{has, one, union, only, unionOf, members};
@@ -79,7 +79,7 @@ fn heads(lead: &[u64; 64], persons: u64, parts: &mut [u64; 64]) -> Parted
     ensures heads { λ r. ⌜ HeadsBy (now (lead .entry)) persons (r .heads) (now (parts .exit)) ⌝ }
     ensures fresh { λ r. ⌜ Renewed (r .heads) (r .fresh) (now (parts .entry)) (now (parts .exit)) ⌝ }
 {
-    whole(*parts);
+    whole_64_words(*parts);
     let mut found: u64 = 0;
     let mut fresh: u64 = 0;
     let mut m = persons;

@@ -14,8 +14,6 @@ use crate::tables::SAID;
 use crate::tables::STATUS_CITATIONS;
 use crate::tables::STATUSES;
 use crate::tables::Tables;
-use expressions::counts::upto;
-use expressions::counts::wide;
 use expressions::decisions::Undecided;
 use expressions::rules::ends;
 use records::plan::Attachments;
@@ -25,28 +23,23 @@ use records::plan::Decisions;
 use records::plan::Edges;
 use records::plan::Statuses;
 use sets::bit;
+use sets::numbers::upto;
+use sets::numbers::wide;
+use sets::whole::whole_21_rows;
 ghost use mathlib.Core.Path.{_≡_};
-ghost use mathlib.Core.List.{[]};
 ghost use Prim.Native.Nat.{ℕ, _<_, _≤_};
-ghost use lib.ListN.{length, getD};
 ghost use Rattle.sets.specs.paper.Sets.{has, All};
-ghost use Rattle.records.specs.code.Decoded.{decisionsOf};
-ghost use Rattle.expressions.specs.code.Coded.{edgesOf, cutsOf, attachmentsOf, barsOf, statusesOf};
+ghost use Rattle.records.specs.code.Decoded.{decisionsOf, edgesOf, cutsOf, attachmentsOf, barsOf, statusesOf};
 ghost use Rattle.expressions.specs.paper.Influence.{hasVerdict};
 ghost use Rattle.expressions.specs.code.Undecided.{opensOf};
 ghost use Rattle.worlds.specs.code.Laid.{Laid, EdgesLaid, CutsLaid, AttachmentsLaid, BarsLaid, StatusesLaid, DecisionsLaid, EdgeFits, CutFits, AttachmentFits, BarFits, StatusFits, OpenFits};
-
-// A reference to the tables does not tell the proof how long they are. The compiler drops the call with its copy.
-pub fn whole_tables(t: Tables)
-    ensures { λ r. ⌜ (length t ≡ 21) × ((k : ℕ) → k < 21 → length (getD t k []) ≡ 64) ⌝ }
-{}
 
 // One entry of a row.
 pub fn lay(t: &mut Tables, k: usize, i: usize, value: u64)
     requires { ⌜ (k < 21) × (i < 64) ⌝ }
     ensures { λ r. ⌜ Laid k i value (now (t .entry)) (now (t .exit)) ⌝ }
 {
-    whole_tables(*t);
+    whole_21_rows(*t);
     t[k][i] = value;
 }
 

@@ -2,11 +2,8 @@
 use crate::classes::alone;
 use crate::classes::join_pairs;
 use crate::over::gather;
-use crate::over::low;
 use crate::over::mark;
-use crate::over::others;
 use crate::over::put;
-use crate::over::whole;
 use crate::tables::ANCHORS;
 use crate::tables::Active;
 use crate::tables::Common;
@@ -16,8 +13,11 @@ use crate::tables::PAIRS;
 use crate::tables::Settled;
 use crate::tables::Tables;
 use sets::contains;
+use sets::low;
 use sets::minus;
+use sets::others;
 use sets::subset;
+use sets::whole::whole_64_words;
 ghost use mathlib.Core.Path.{_≡_};
 ghost use Prim.Native.Nat.{ℕ, _<_};
 ghost use Rattle.worlds.specs.code.Over.{entry, Marked};
@@ -60,7 +60,7 @@ fn cut_blocks(blocks: &mut [u64; 64], members: &[u64; 64], applied: u64, placed:
 fn regroup(blocks: &mut [u64; 64], persons: u64, target: u64, movers: u64)
     ensures { λ r. ⌜ Regrouped persons target movers (now (blocks .entry)) (now (blocks .exit)) ⌝ }
 {
-    whole(*blocks);
+    whole_64_words(*blocks);
     let mut m = persons;
     while m != 0 {
         let p = low(m);

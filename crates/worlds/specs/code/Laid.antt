@@ -14,7 +14,7 @@ use Rattle.records.specs.declared.plan.Bars.{Bars}
 use Rattle.records.specs.declared.plan.Statuses.{Statuses}
 use Rattle.expressions.specs.paper.Rules.{edgeCount, cutCount, attachmentCount, barCount, statusCount, edge, cut, attachment, bar, status, pair}
 use Rattle.expressions.specs.paper.Influence.{Open, says, openDecisions, decisionCount, openDecision}
-use Rattle.expressions.specs.code.Coded.{edgesOf, cutsOf, attachmentsOf, barsOf, statusesOf}
+use Rattle.records.specs.code.Decoded.{edgesOf, cutsOf, attachmentsOf, barsOf, statusesOf}
 use Rattle.expressions.specs.code.Undecided.{opensOf}
 use Rattle.expressions.specs.declared.decisions.Undecided.{Undecided}
 use Rattle.worlds.specs.code.Tables.{row}

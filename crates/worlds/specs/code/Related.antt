@@ -8,7 +8,7 @@ use Rattle.sets.specs.paper.Sets.{has, union, meets, setOf, risingLess, unionOf
 use Rattle.records.specs.paper.Plan.{Plan, Cut}
 use Rattle.records.specs.declared.plan.Cuts.{Cuts}
 use Rattle.expressions.specs.paper.Rules.{cutCount, cut}
-use Rattle.expressions.specs.code.Coded.{cutsOf}
+use Rattle.records.specs.code.Decoded.{cutsOf}
 use Rattle.worlds.specs.code.Over.{entry}
 use Rattle.worlds.specs.code.Tables.{row}
 use Rattle.worlds.specs.code.Laid.{Same}

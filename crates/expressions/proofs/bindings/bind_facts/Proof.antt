@@ -9,7 +9,6 @@ use lib.ListN.{length, getD, take, length-map, length-set}
 use borrow.Author.Needs.{needs}
 use Rattle.sets.specs.paper.Sets.{has, one, union, only, unionBelow}
 use Rattle.records.specs.code.Decoded.{planOf, caseOf, familyOf}
-use Rattle.expressions.specs.code.Coded.{cutsOf, attachmentsOf}
 use Rattle.expressions.specs.code.Told.{TellsFact, bindingFrom, defaultFrom}
 use Rattle.sets.proofs.UnionLaws.{joined-if, left-if}
 use Rattle.sets.proofs.MaskLaws.{built, built-next}
@@ -59,7 +58,7 @@ loop-again c =
     )
 
 returns : tie.Need-returns Inv-loop μ-loop
-unfolding caseOf planOf cutsOf attachmentsOf
+unfolding caseOf planOf
 returns c =
     let l = c .before in
     let s = c .before .before .before .before .before .before .before .before .before .before .before .before .before in

@@ -5,9 +5,8 @@ use lib.ListN.{length-take, length-drop}
 use borrow.Author.Needs.{needs}
 use Rattle.records.specs.paper.Plan.{Plan, Attachment}
 use Rattle.records.specs.paper.Case.{Case}
-use Rattle.records.specs.code.Decoded.{attachmentOf}
+use Rattle.records.specs.code.Decoded.{attachmentOf, attachmentsOf}
 use Rattle.expressions.specs.code.Evident.{EvidenceBy}
-use Rattle.expressions.specs.code.Coded.{attachmentsOf}
 use Rattle.expressions.specs.paper.Rules.{attachmentCount, attachment}
 use Rattle.report.specs.code.EventBytes.{Below}
 use Rattle.worlds.specs.paper.Events.{event, electionEvidence}

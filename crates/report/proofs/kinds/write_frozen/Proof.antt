@@ -4,8 +4,7 @@ use native.Mathlib.Omega.{arith}
 use lib.ListN.{length-take, length-drop}
 use borrow.Author.Needs.{needs}
 use Rattle.records.specs.paper.Plan.{Plan, Edge}
-use Rattle.records.specs.code.Decoded.{edgeOf}
-use Rattle.expressions.specs.code.Coded.{edgesOf}
+use Rattle.records.specs.code.Decoded.{edgeOf, edgesOf}
 use Rattle.expressions.specs.paper.Rules.{edgeCount, edge}
 use Rattle.report.specs.code.EventBytes.{Below}
 use Rattle.worlds.specs.paper.Events.{event}

@@ -4,8 +4,7 @@ use native.Mathlib.Omega.{arith}
 use lib.ListN.{length-take, length-drop}
 use borrow.Author.Needs.{needs}
 use Rattle.records.specs.paper.Plan.{Plan, Status}
-use Rattle.records.specs.code.Decoded.{statusOf}
-use Rattle.expressions.specs.code.Coded.{statusesOf}
+use Rattle.records.specs.code.Decoded.{statusOf, statusesOf}
 use Rattle.expressions.specs.paper.Rules.{statusCount, status}
 use Rattle.report.specs.code.EventBytes.{Below}
 use Rattle.worlds.specs.paper.Events.{event}

@@ -6,9 +6,8 @@ use native.Mathlib.Omega.{arith}
 use borrow.Author.Needs.{needs}
 use Rattle.records.specs.paper.Plan.{Plan, Cut}
 use Rattle.records.specs.paper.Case.{Case}
-use Rattle.records.specs.code.Decoded.{cutOf}
+use Rattle.records.specs.code.Decoded.{cutOf, cutsOf}
 use Rattle.expressions.specs.code.Evident.{EvidenceBy}
-use Rattle.expressions.specs.code.Coded.{cutsOf}
 use Rattle.expressions.specs.paper.Rules.{cutCount, cut}
 use Rattle.worlds.specs.code.Over.{entry}
 use Rattle.worlds.specs.paper.Events.{event, electionActor, electionEvidence}

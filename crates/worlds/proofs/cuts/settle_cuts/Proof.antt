@@ -18,7 +18,7 @@ returns c =
     let notes = left .before in
     let a = notes .before .before .args in
     let t = a .t .now in
-    let whole = notes .whole-notes .ensures in (
+    let whole = notes .whole-3-rows .ensures .0 in (
       rows-noted (a .noted .now) whole _ _ (CutsSettled t (a .active) _)
           (cuts-made t (a .active) _ _ _ _ _ (left .kept .result) (clashing .overlapping .result) (lowest .lowest-twins .result)
           (stood .minus .result) (out .blocked .result) (gathered .gather .result) (left .kept .ensures) (clashing .overlapping .ensures)
