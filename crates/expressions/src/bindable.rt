@@ -1,4 +1,5 @@
-// Refusals 5 and 10 of a case: a family twice; explicit unknown beside observations, a fact twice. Each names the later record.
+// Refusals 5 and 10 of a case: a family twice; per boolean explicit unknown beside observations, a fact twice. What stands twice is refused by its
+// later record.
 use records::case::Boolean;
 use records::case::Booleans;
 use records::case::Case;

@@ -54,7 +54,7 @@ fn elect_by_cuts(elected: Elected, cuts: Cuts) -> Elected
 }
 
 // In one pass over the rules that may have elections.
-pub fn elect(cuts: Cuts, attachments: Attachments) -> Elected
+pub fn election_policies(cuts: Cuts, attachments: Attachments) -> Elected
     ensures { λ r. ⌜ ((P : Paper) → P .cuts ≡ cutsOf cuts → P .attachments ≡ attachmentsOf attachments → ElectedBy P r) ⌝ }
 {
     let none = Elected {

@@ -38,7 +38,7 @@ fn close_each(known: &mut [u64; 80], at: usize, groups: &[u64], touches: &[u64],
 }
 
 // The influence of each fact that is a variable, then of each unresolved decision.
-pub fn influence_of(reach: Reach, variables: u64) -> Influence
+pub fn influence_sets(reach: Reach, variables: u64) -> Influence
     requires { ⌜ (reach .count ≤ 64) × (reach .undecided .count ≤ 16) ⌝ }
     ensures { λ r. ⌜ setsOf r ≡ influenceBy reach variables ⌝ }
 {

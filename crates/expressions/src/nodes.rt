@@ -1,4 +1,4 @@
-// Conditions in a table of nodes, each valued once; the facts that each uses.
+// Conditions in a table of nodes, each valued once.
 use records::plan::Node;
 use records::plan::Nodes;
 use records::plan::Numbers;

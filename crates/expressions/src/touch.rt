@@ -61,7 +61,7 @@ fn users(uses: &[u64], persons: &[u64], f: u8) -> u64
 }
 
 // The persons that a fact names.
-fn named(fact: Fact) -> u64
+fn named_persons(fact: Fact) -> u64
     requires { ⌜ TupleFits (factOf fact) ⌝ }
     ensures { λ r. ⌜ r ≡ setOf (factOf fact .tuple) ⌝ }
 {
@@ -90,7 +90,7 @@ pub fn touched(
     if contains(constraints, f) {
         all = roster;
     }
-    union(named(fact), union(all, users(uses, persons, f)))
+    union(named_persons(fact), union(all, users(uses, persons, f)))
 }
 
 // Whom each fact touches; nobody for a fact that is not bound.

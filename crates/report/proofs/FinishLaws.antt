@@ -31,7 +31,6 @@ use Rattle.worlds.specs.paper.World.{World, marked}
 use Rattle.worlds.specs.paper.Active.{active}
 use Rattle.worlds.specs.paper.View.{View, view, roleOf}
 use Rattle.worlds.specs.paper.Events.{littleBytes, event, eventsOf}
-use Rattle.worlds.specs.code.Settled.{blocks, clashes}
 use Rattle.worlds.specs.code.Tables.{row}
 use Rattle.report.specs.paper.Line.{Line, lineBytes, bareLine, lineOver, lineIn, firstKind, holding, lineLength}
 use Rattle.report.specs.paper.EventList.{insert, rising, defaultEvents, eventLength}
@@ -147,7 +146,6 @@ module _ (P : paper.Plan) (C : case.Case) (roster : ℕ) (ws : List World) (sums
 
 gathered : (P : paper.Plan) (C : case.Case) (roster : ℕ) (ws : List World) (sums noted : List (List ℕ)) (defaults : ℕ) {l : Listing} {events : List ℕ} (K : Kept P roster ws sums noted l events)
     → gatheredBy P C roster ws sums noted defaults (K .masks)
-unfolding blocks clashes
 gathered P C roster ws sums noted defaults K = record {
   edges = λ e h. K .frozen e;
   cuts = λ c h. K .applied c;

@@ -39,9 +39,9 @@ use Rattle.expressions.proofs.OpenLaws.{opens-number}
 use Rattle.expressions.proofs.FactLaws.{bindings-by}
 use Rattle.expressions.proofs.ReachLaws.{heading-of, frame-of}
 use Rattle.report.specs.paper.Line.{lineLength}
-use Rattle.report.specs.paper.Operations.{relationOf, mismatched, headingFault, tooMany, Opened, stopped, incomplete, ready, orStop, unlessFault, counted, bound}
+use Rattle.report.specs.paper.Operations.{relationOf, mismatched, headingFault, tooMany, Opened, stopped, incomplete, ready, orStop, unlessFault, counted, boundAndCounted, bound}
 use Rattle.report.specs.code.Opening.{RulePersons, HeadingFault}
-use Rattle.report.specs.code.Operate.{judged, headed}
+use Rattle.report.specs.code.Operate.{headed}
 use Rattle.report.specs.code.Ready.{IsReady}
 use Rattle.report.specs.code.Open.{stopBy, openedOf, OpensCase}
 use Rattle.report.specs.declared.Answer.the-variants.{Refused, TooManyWorlds}
@@ -157,13 +157,13 @@ module _ (plan : Coded) (c : CodedCase) (sound : Sound (planOf plan)) (sane : So
 
       -- by whether the roster is complete
       by-complete : (b : Bool) → c .heading .complete ≡ b
-          → bound Pl Ca ≡ cond (eqb (length (ifGiven b (c .heading .evidence))) 0) (incomplete (c .heading .roster)) (judged plan c)
-      unfolding bound judged caseHeadingOf
+          → bound Pl Ca ≡ cond (eqb (length (ifGiven b (c .heading .evidence))) 0) (incomplete (c .heading .roster)) (boundAndCounted Pl Ca)
+      unfolding bound caseHeadingOf
       by-complete b e =
-          ap (λ (h : CaseHeading). cond (eqb (length (h .complete)) 0) (incomplete (h .roster)) (judged plan c)) headed-by
-          ∙ ap (λ (b : Bool). cond (eqb (length (ifGiven b (c .heading .evidence))) 0) (incomplete (c .heading .roster)) (judged plan c)) e
+          ap (λ (h : CaseHeading). cond (eqb (length (h .complete)) 0) (incomplete (h .roster)) (boundAndCounted Pl Ca)) headed-by
+          ∙ ap (λ (b : Bool). cond (eqb (length (ifGiven b (c .heading .evidence))) 0) (incomplete (c .heading .roster)) (boundAndCounted Pl Ca)) e
 
-      roster-complete : c .heading .complete ≡ true → judged plan c ≡ headed plan c room
+      roster-complete : c .heading .complete ≡ true → boundAndCounted Pl Ca ≡ headed plan c room
       roster-complete e = sym (heading-passes ∙ by-complete true e)
 
       roster-incomplete : c .heading .complete ≡ false → headed plan c room ≡ incomplete (c .heading .roster)
@@ -174,12 +174,12 @@ module _ (plan : Coded) (c : CodedCase) (sound : Sound (planOf plan)) (sane : So
   abbrev bs : List Bound
   bs = bindings Pl Ca
 
-  binding-stops : (n k : ℕ) → checkedOf (bindable Ca) ≡ checked.Refused n k → judged plan c ≡ stopped (Refused n k)
-  unfolding judged
+  binding-stops : (n k : ℕ) → checkedOf (bindable Ca) ≡ checked.Refused n k → boundAndCounted Pl Ca ≡ stopped (Refused n k)
+  unfolding boundAndCounted
   binding-stops n k e = ap (λ (v : Verdict Case). orStop v (λ C. counted Pl C (bindings Pl C))) (refused-is (bindable Ca) (sym e))
 
-  binding-passes : checkedOf (bindable Ca) ≡ checked.Accepted → judged plan c ≡ counted Pl Ca bs
-  unfolding judged
+  binding-passes : checkedOf (bindable Ca) ≡ checked.Accepted → boundAndCounted Pl Ca ≡ counted Pl Ca bs
+  unfolding boundAndCounted
   binding-passes e = ap (λ (v : Verdict Case). orStop v (λ C. counted Pl C (bindings Pl C))) (whole (bindable-split Ca))
     where
       whole : (bindable Ca ≡ fine Ca) ⊎ ((n : ℕ) × (j : ℕ) × (bindable Ca ≡ refused (suc n) j)) → bindable Ca ≡ fine Ca
@@ -206,14 +206,14 @@ module _ (plan : Coded) (c : CodedCase) (sound : Sound (planOf plan)) (sane : So
       over-most = sym (ap (λ (k : Count). k .refused) worlds-counted)
 
       module _ (e : checkedOf (bindable Ca) ≡ checked.Accepted) where
-        count-stops : r .refused ≡ true → judged plan c ≡ stopped (TooManyWorlds (r .count) (r .maximum))
+        count-stops : r .refused ≡ true → boundAndCounted Pl Ca ≡ stopped (TooManyWorlds (r .count) (r .maximum))
         unfolding counted
         count-stops h =
             binding-passes e
             ∙ ap (λ (b : Bool). cond b (stopped (tooMany (worldCount Pl bs) (caseHeading Ca .mostWorlds))) (ready Pl Ca bs)) (over-most ∙ h)
             ∙ ap stopped (too-many (worldCount Pl bs) (caseHeading Ca .mostWorlds) ∙ ap (λ (k : Count). TooManyWorlds (k .count) (k .maximum)) (sym worlds-counted))
 
-        count-passes : r .refused ≡ false → judged plan c ≡ ready Pl Ca bs
+        count-passes : r .refused ≡ false → boundAndCounted Pl Ca ≡ ready Pl Ca bs
         unfolding counted
         count-passes h =
             binding-passes e
@@ -239,11 +239,11 @@ module _ (plan : Coded) (c : CodedCase) (sound : Sound (planOf plan)) (sane : So
     fault-is = told .at Pl relation-is (listed .at Pl (reached .groups) refl) ∙ ap (λ (h : CaseHeading). headingFault Pl h room) (sym headed-by)
 
     by-count : checkedOf (bindable Ca) ≡ checked.Accepted → (q : Bool) → n .refused ≡ q
-        → judged plan c ≡ openedOf plan c (cond q (Stopped (TooManyWorlds (n .count) (n .maximum))) Nothing)
+        → boundAndCounted Pl Ca ≡ openedOf plan c (cond q (Stopped (TooManyWorlds (n .count) (n .maximum))) Nothing)
     by-count e true h = count-stops reach reached (b .codes) (binds .codes) n counts e h
     by-count e false h = count-passes reach reached (b .codes) (binds .codes) n counts e h
 
-    by-found : (f : Checked) → checkedOf (bindable Ca) ≡ f → judged plan c ≡ openedOf plan c (stopBy zero true f n)
+    by-found : (f : Checked) → checkedOf (bindable Ca) ≡ f → boundAndCounted Pl Ca ≡ openedOf plan c (stopBy zero true f n)
     unfolding stopBy
     by-found (checked.Refused m j) e = binding-stops m j e
     by-found checked.Accepted e = by-count e (n .refused) refl

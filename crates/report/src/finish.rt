@@ -24,7 +24,8 @@ ghost use Rattle.report.specs.paper.Line.{lineLength};
 ghost use Rattle.report.specs.code.Written.{LinesBy};
 ghost use Rattle.report.specs.code.Finish.{Ends, Finishes};
 
-// What the lines of open persons need: the sets of influence, `facts` of them of facts; none of them for a shown world.
+// What lines and events need beside the worlds: the sets of influence, `facts` of them of facts, and the facts that took their default; nothing
+// of it for a shown world.
 pub struct Opens {
     pub influence: Influence,
     pub facts: usize,

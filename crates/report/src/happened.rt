@@ -1,4 +1,4 @@
-// The events of all worlds, written once: those by rule in front, those of kind 9 behind them.
+// The events of all worlds, written once: kinds 1 to 8 in front, those of kind 9 behind them.
 use crate::event::EVENT;
 use crate::kinds::write_applied;
 use crate::kinds::write_attachments;

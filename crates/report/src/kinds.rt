@@ -2,7 +2,7 @@
 use crate::event::EVENT;
 use crate::event::Event;
 use crate::event::write_event;
-use expressions::elections::elect;
+use expressions::elections::election_policies;
 use records::plan::Attachments;
 use records::plan::Cuts;
 use records::plan::Edges;
@@ -200,7 +200,7 @@ pub fn write_defaults(
     if defaults == 0 {
         return at;
     }
-    let elections = elect(cuts, attachments);
+    let elections = election_policies(cuts, attachments);
     let mut place = at;
     let mut m = defaults;
     while m != 0 {

@@ -22,8 +22,8 @@ ghost use Rattle.sets.specs.paper.Sets.{size};
 ghost use Rattle.report.specs.paper.Line.{holding as holdingOf, lineLength};
 ghost use Rattle.report.specs.code.Written.{LineBy, LinesBy};
 
-// The numbers of the sets that hold a person.
-fn holding(sets: &[u64], p: u8) -> u64
+// The variables that could still concern a person: the numbers of the sets of influence that hold the person.
+fn unresolved_for_person(sets: &[u64], p: u8) -> u64
     requires { ⌜ length (now sets) ≤ 64 ⌝ }
     ensures { λ r. ⌜ r ≡ holdingOf (now (sets .entry)) p ⌝ }
 {
@@ -93,8 +93,8 @@ pub fn write_lines(lines: &mut [u8], sums: &Sums, persons: u64, facts: &[u64], d
     let mut m = persons;
     while m != 0 {
         let p = low(m);
-        let open_facts = holding(facts, p as u8);
-        let open_decisions = holding(decisions, p as u8);
+        let open_facts = unresolved_for_person(facts, p as u8);
+        let open_decisions = unresolved_for_person(decisions, p as u8);
         let l = line_of(sums, p, open_facts, open_decisions as u16);
         write_line(&mut lines[at..], l);
         at = at + LINE;

@@ -9,7 +9,7 @@ use crate::run::run;
 use crate::run::started;
 use expressions::bindings::Bound;
 use expressions::influence::Influence;
-use expressions::influence::influence_of;
+use expressions::influence::influence_sets;
 use expressions::influence::variables_of;
 use expressions::reach::Reach;
 use expressions::slots::boolean_count;
@@ -67,7 +67,7 @@ pub fn answer_ready(
     let constraints = case.constraints;
     let undecided = reach.undecided;
     let groups = reach.groups;
-    let influence = influence_of(reach, variables_of(codes));
+    let influence = influence_sets(reach, variables_of(codes));
     let mut t = [[0u64; 64]; 21];
     lay_tables(&mut t, plan, undecided, groups, influence, roster);
     let common = common_of(plan, roster);

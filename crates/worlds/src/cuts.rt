@@ -6,13 +6,13 @@ use crate::tables::BLOCKINGS;
 use crate::tables::CLASHES;
 use crate::tables::CLASHING;
 use crate::tables::CROSSING;
-use crate::tables::DECIDED;
 use crate::tables::DROPPERS;
-use crate::tables::EARLIER;
+use crate::tables::LATER_CLASHING;
 use crate::tables::LOWER_TWINS;
 use crate::tables::MEMBERS;
 use crate::tables::Noted;
 use crate::tables::OPEN;
+use crate::tables::OPEN_EDGES;
 use crate::tables::SAID;
 use crate::tables::SPREAD;
 use crate::tables::TWINS;
@@ -33,7 +33,7 @@ ghost use Rattle.worlds.specs.code.Cuts.{blockers, blockedTwins, Noted};
 ghost use Rattle.worlds.specs.code.Settled.{CutsSettled};
 
 // Step 3: the active cuts that no active cut drops; drops are decided together.
-pub fn kept(t: &Tables, active: u64) -> u64
+pub fn apply_cut_precedence(t: &Tables, active: u64) -> u64
     ensures { λ r. ⌜ ((c : ℕ) → has r c ≡ (has active c && not (meets (row (now (t .entry)) 4 c) active))) ⌝ }
 {
     minus(active, meeting(&t[DROPPERS], active, active))
@@ -52,7 +52,7 @@ pub fn blocking(t: &Tables, c: usize, frozen: u64, decisions: u64) -> u64
     ensures { λ r. ⌜ r ≡ blockers (now (t .entry)) frozen decisions c ⌝ }
 {
     let open = minus(t[OPEN][c], decisions);
-    let said = t[SAID][c] | gather(&t[DECIDED], open);
+    let said = t[SAID][c] | gather(&t[OPEN_EDGES], open);
     frozen & t[CROSSING][c] & said
 }
 
@@ -91,7 +91,7 @@ pub fn note_clashes(t: &Tables, cuts: u64, noted: &mut [u64; 64])
     let mut m = cuts;
     while m != 0 {
         let c = low(m);
-        noted[c] = noted[c] | t[EARLIER][c] & cuts;
+        noted[c] = noted[c] | t[LATER_CLASHING][c] & cuts;
         m = others(m);
     }
 }
@@ -107,7 +107,7 @@ pub fn settle_cuts(t: &Tables, active: Active, noted: &mut Noted) -> CutsDone
     ensures parts { λ r. ⌜ getD (now (noted .exit)) 0 [] ≡ getD (now (noted .entry)) 0 [] ⌝ }
 {
     whole_3_rows(*noted);
-    let left = kept(t, active.cuts);
+    let left = apply_cut_precedence(t, active.cuts);
     let clash = overlapping(t, left);
     note_clashes(t, lowest_twins(t, clash), &mut noted[CLASHES]);
     let standing = minus(left, clash);

@@ -4,11 +4,11 @@ use crate::tables::ATTACHMENT_CITATIONS;
 use crate::tables::BAR_CITATIONS;
 use crate::tables::BARS;
 use crate::tables::CUT_CITATIONS;
-use crate::tables::DECIDED;
 use crate::tables::EDGE_CITATIONS;
 use crate::tables::MEMBERS;
 use crate::tables::MOVERS;
 use crate::tables::OPEN;
+use crate::tables::OPEN_EDGES;
 use crate::tables::PAIRS;
 use crate::tables::SAID;
 use crate::tables::STATUS_CITATIONS;
@@ -145,7 +145,7 @@ pub fn lay_decisions(t: &mut Tables, undecided: Undecided)
     while i < n {
         let c = wide(undecided.cuts[i]);
         let e = undecided.edges[i];
-        lay(t, DECIDED, i, bit(e));
+        lay(t, OPEN_EDGES, i, bit(e));
         let before = t[OPEN][c];
         lay(t, OPEN, c, before | bit(i as u8));
         i = i + 1;

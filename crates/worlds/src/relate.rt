@@ -5,7 +5,7 @@ use crate::over::meeting;
 use crate::tables::CLASHING;
 use crate::tables::CROSSING;
 use crate::tables::DROPPERS;
-use crate::tables::EARLIER;
+use crate::tables::LATER_CLASHING;
 use crate::tables::LOWER_TWINS;
 use crate::tables::MEMBERS;
 use crate::tables::PAIRS;
@@ -128,7 +128,7 @@ fn relate_cut(t: &mut Tables, preceded: &[u64; 64], c: usize, cuts: u64, combina
     let own = t[MEMBERS][c];
     let sharing = meeting(&t[MEMBERS], cuts, own);
     let twins = equal_cuts(&t[MEMBERS], cuts, own);
-    let earlier = later_cuts(&t[MEMBERS], sharing, own);
+    let later = later_cuts(&t[MEMBERS], sharing, own);
     let inward = meeting(&t[PAIRS], combination, own);
     let crossing = meeting(&t[PAIRS], inward, !own);
     let place = bit(c as u8);
@@ -138,7 +138,7 @@ fn relate_cut(t: &mut Tables, preceded: &[u64; 64], c: usize, cuts: u64, combina
     lay(t, LOWER_TWINS, c, twins & (place - 1));
     lay(t, DROPPERS, c, droppers);
     lay(t, CLASHING, c, minus(sharing, twins));
-    lay(t, EARLIER, c, earlier);
+    lay(t, LATER_CLASHING, c, later);
     lay(t, CROSSING, c, crossing);
 }
 

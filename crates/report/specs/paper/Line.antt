@@ -36,7 +36,7 @@ unfoldable pub firstKind : List View → ℕ
 firstKind [] = 0
 firstKind (v ∷ vs) = cond (eqb (v .kind) 0) (firstKind vs) (v .kind)
 
--- the numbers of a list that hold the person
+-- the numbers of the sets of a list that hold the person
 unfoldable pub holding : List ℕ → ℕ → ℕ
 holding sets p = unionBelow (length sets) (λ i. only (has (getD sets i 0) p) (one i))
 

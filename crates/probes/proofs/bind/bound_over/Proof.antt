@@ -48,7 +48,7 @@ returns c =
     let count = worlds-counted (s .args .plan) (s .args .case) (s .pre .0) (s .pre .1) (r .result) (r .ensures) (b .bindings .result) coded (w .count-worlds .result) (w .count-worlds .ensures) in
     record {
       codes = coded;
-      influence = i .influence-of .ensures
+      influence = i .influence-sets .ensures
           ∙ listed-sets (s .args .plan) (s .args .case) (s .pre .0) (s .pre .1) (r .result) (r .ensures) (b .bindings .result) coded (m .variables-of .result) (m .variables-of .ensures);
       order = v .variable-order .ensures
           ∙ in-order (s .args .plan) (s .args .case) (s .pre .0) (s .pre .1) (r .result) (r .ensures) (n .boolean-count .result) (n .boolean-count .ensures .0);

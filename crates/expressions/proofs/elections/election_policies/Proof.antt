@@ -1,4 +1,4 @@
--- `elections::elect`: the first of the attachments, over it the first of the cuts.
+-- `elections::election_policies`: the first of the attachments, over it the first of the cuts.
 use mathlib.Core.Path.{sym, ap, _∙_}
 use mathlib.Core.List.{List, _++_, map, append-nil}
 use lib.ListN.{take}
@@ -8,8 +8,8 @@ use Rattle.records.specs.code.Decoded.{electionOf, noElection}
 use Rattle.expressions.specs.paper.Bindings.{electionsIn}
 use Rattle.expressions.proofs.ListLaws.{filled-at}
 use Rattle.expressions.proofs.ElectionLaws.{elections-of, first-of-both}
-use Rattle.expressions.proofs.elections.elect.Statement.{statement}
-use Rattle.expressions.proofs.elections.elect.Tie as tie
+use Rattle.expressions.proofs.elections.election_policies.Statement.{statement}
+use Rattle.expressions.proofs.elections.election_policies.Tie as tie
 
 returns : tie.Need-returns
 unfolding electionOf
@@ -23,5 +23,5 @@ returns c = λ P k l. record {
       ∙ first-of-both xs ys ∙ ap (take 1) (sym (elections-of P (a .cuts) (a .attachments) f k l));
 }
 
-pub elect-spec : {M : Type 1} → statement M
-elect-spec = tie.close (tie.spec (λ c κs. search needs) (λ c κs. search needs) returns)
+pub election-policies-spec : {M : Type 1} → statement M
+election-policies-spec = tie.close (tie.spec (λ c κs. search needs) (λ c κs. search needs) returns)

@@ -1,4 +1,4 @@
--- `influence::influence_of`: facts, then decisions.
+-- `influence::influence_sets`: facts, then decisions.
 use mathlib.Core.Path.{_≡_, sym, _∙_}
 use native.Mathlib.Omega.{arith}
 use lib.ListN.{length, length-map}
@@ -6,8 +6,8 @@ use lib.Seq.{length-take-le}
 use borrow.Author.Needs.{needs}
 use Rattle.expressions.specs.code.Influences.{setsOf}
 use Rattle.expressions.proofs.InfluenceLaws.{influence-made}
-use Rattle.expressions.proofs.influence.influence_of.Statement.{statement}
-use Rattle.expressions.proofs.influence.influence_of.Tie as tie
+use Rattle.expressions.proofs.influence.influence_sets.Statement.{statement}
+use Rattle.expressions.proofs.influence.influence_sets.Tie as tie
 
 long : (c : tie.Start) → length (c .args .reach .groups .sets) ≡ 144
 long c = sym (length-map (c .args .reach .groups .sets) (λ v. v)) ∙ c .good .0 .1 .1 .0 .1 .1 .1 .0 .1 .0 .1
@@ -54,8 +54,8 @@ returns c =
     let s = c .before .before .before .before .before .before .before .before .before .before .before .before .before .before .before .before in
     influence-made (s .args .reach) (s .args .variables) (c .before .before .before .before .before .before .before .before .before .before .upto .result) (c .before .before .before .before .before .before .before .before .before .before .upto .ensures .0) (long s) (omega (arith, wide s, s .pre .0)) (omega (arith, deep s, s .pre .1)) (omega (arith, s .pre .1)) _ _ (c .before .before .before .before .before .before .close-each .ensures) (c .before .before .close-each2 .ensures)
 
-pub influence-of-spec : {M : Type 1} → statement M
-influence-of-spec =
+pub influence-sets-spec : {M : Type 1} → statement M
+influence-sets-spec =
     tie.close
     (tie.spec
     (λ c κs. search needs)

@@ -1,4 +1,4 @@
--- `touch::named`: what is joined so far, with what is left, is the set of the tuple.
+-- `touch::named_persons`: what is joined so far, with what is left, is the set of the tuple.
 use Prim.Native.Nat.{ℕ, _+_, _≤_, _-_, min}
 use mathlib.Core.Path.{_≡_, refl, sym, ap, _∙_}
 use mathlib.Core.List.{List}
@@ -9,8 +9,8 @@ use Rattle.records.specs.promises.Sound.{Person}
 use Rattle.records.specs.code.Decoded.{factOf}
 use Rattle.expressions.proofs.ListLaws.{used-next, used-end, used-each}
 use Rattle.sets.proofs.UnionLaws.{union-go, union-none, none-union, set-union}
-use Rattle.expressions.proofs.touch.named.Statement.{statement}
-use Rattle.expressions.proofs.touch.named.Tie as tie
+use Rattle.expressions.proofs.touch.named_persons.Statement.{statement}
+use Rattle.expressions.proofs.touch.named_persons.Tie as tie
 
 abbrev Inv-loop : tie.InvT-loop
 Inv-loop fact n m₀ i₀ m i = (i ≤ n) × (union m (unionOf one (drop i (factOf fact .tuple))) ≡ unionOf one (factOf fact .tuple))
@@ -57,8 +57,8 @@ returns c =
     sym (union-none (l .loop .m)) ∙ ap (λ (ys : List ℕ). union (l .loop .m) (unionOf one ys)) (sym (used-end (s .args .t1 .tuple) (s .args .t1 .count) 4 (a .upto .result) (long s) (some a) (l .loop .i) (search needs))) ∙ l .loop .inv .1
     ∙ sym (set-union (factOf (s .args .t1) .tuple))
 
-pub named-spec : {M : Type 1} → statement M
-named-spec =
+pub named-persons-spec : {M : Type 1} → statement M
+named-persons-spec =
     tie.close
     (tie.spec
     Inv-loop

@@ -1,4 +1,4 @@
--- `lines::holding`: the numbers passed whose sets hold the person.
+-- `lines::unresolved_for_person`: the numbers passed whose sets hold the person.
 use mathlib.Core.Path.{_≡_, refl, sym, ap₂, _∙_}
 use mathlib.Core.Logic.{⊎-elim}
 use Prim.Native.Nat.{_-_, _≤_}
@@ -10,8 +10,8 @@ use denote.Ref.{now}
 use Rattle.sets.specs.paper.Sets.{has, one, only, union, unionBelow}
 use Rattle.sets.proofs.UnionLaws.{joined-if, left-if}
 use Rattle.report.specs.paper.Line.{holding}
-use Rattle.report.proofs.lines.holding.Statement.{statement}
-use Rattle.report.proofs.lines.holding.Tie as tie
+use Rattle.report.proofs.lines.unresolved_for_person.Statement.{statement}
+use Rattle.report.proofs.lines.unresolved_for_person.Tie as tie
 
 abbrev Inv-loop : tie.InvT-loop
 Inv-loop sets p found₀ i₀ found i = (i ≤ length sets) × (found ≡ unionBelow i (λ j. only (has (getD sets j 0) p) (one j)))
@@ -53,8 +53,8 @@ returns c =
     let e : c .before .loop .i ≡ length (now (c .before .before .before .args .sets)) = omega arith in
     rw (← e) (c .before .loop .inv .1)
 
-pub holding-spec : {M : Type 1} → statement M
-holding-spec =
+pub unresolved-for-person-spec : {M : Type 1} → statement M
+unresolved-for-person-spec =
     tie.close
     (tie.spec
     Inv-loop

@@ -1,4 +1,4 @@
--- `discretion::clique`: whether those left are led to everybody is whether all are.
+-- `discretion::is_edge_clique`: whether those left are led to everybody is whether all are.
 use mathlib.Core.Path.{_≡_, refl, sym, ap, _∙_}
 use mathlib.Core.Bool.{Bool, _&&_}
 use mathlib.Core.List.{List}
@@ -11,8 +11,8 @@ use Rattle.sets.specs.paper.Sets.{one, union, subset, lowest, allOf, members}
 use Rattle.worlds.specs.code.Over.{entry}
 use Rattle.worlds.specs.code.Discretion.{cliqueBy}
 use Rattle.worlds.proofs.LooseLaws.{all-next, all-fails, all-none}
-use Rattle.worlds.proofs.discretion.clique.Statement.{statement}
-use Rattle.worlds.proofs.discretion.clique.Tie as tie
+use Rattle.worlds.proofs.discretion.is_edge_clique.Statement.{statement}
+use Rattle.worlds.proofs.discretion.is_edge_clique.Tie as tie
 
 -- q is led to everybody of the set
 abbrev led : List ℕ → ℕ → ℕ → Bool
@@ -84,8 +84,8 @@ returns-2 c =
     let a = l .before .args in
     sym (all-none (led (a .lead .now) (a .set)) (l .loop .m) (c .loop-test .left)) ∙ l .loop .inv .1
 
-pub clique-spec : {M : Type 1} → statement M
-clique-spec =
+pub is-edge-clique-spec : {M : Type 1} → statement M
+is-edge-clique-spec =
     tie.close
     (tie.spec
     Inv-loop

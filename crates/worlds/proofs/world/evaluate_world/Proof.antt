@@ -1,8 +1,8 @@
--- `world::evaluate`: the steps one after another give the view of each roster person.
+-- `world::evaluate_world`: the steps one after another give the view of each roster person.
 use Rattle.sets.specs.paper.Sets.{union, meet}
 use Rattle.worlds.proofs.PlaceLaws.{steps-seen}
-use Rattle.worlds.proofs.world.evaluate.Statement.{statement}
-use Rattle.worlds.proofs.world.evaluate.Tie as tie
+use Rattle.worlds.proofs.world.evaluate_world.Statement.{statement}
+use Rattle.worlds.proofs.world.evaluate_world.Tie as tie
 
 minus-requires : tie.Need-minus-requires
 minus-requires c κs = tt
@@ -39,8 +39,8 @@ returns c =
     (attach .attach .result) (bar .bar .result) (c .status .result) (placed .minus .ensures) (blank .blank .ensures) (freeze .freeze .ensures) (cut .cut .ensures)
     (attach .attach .ensures) (bar .bar .ensures) (c .status .ensures)
 
-pub evaluate-spec : {M : Type 1} → statement M
-evaluate-spec =
+pub evaluate-world-spec : {M : Type 1} → statement M
+evaluate-world-spec =
     tie.close
     (tie.spec
     minus-requires
