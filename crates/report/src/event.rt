@@ -5,6 +5,8 @@ ghost use Prim.Native.Nat.{_≤_};
 ghost use lib.ListN.{length, drop};
 ghost use Rattle.worlds.specs.paper.Events.{event};
 
+pub const EVENT: usize = 12;
+
 pub struct Event {
     pub kind: u8,
     pub a: u8,
