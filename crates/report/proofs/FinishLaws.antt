@@ -54,7 +54,7 @@ use Rattle.report.proofs.RisingSet.{Same, rising-rises, of-rising, in-r
 use Rattle.report.proofs.RisingKinds.{happened-rising}
 use Rattle.report.proofs.HappenedAll.{happened-same, defaults-asked, defaults-none}
 use Rattle.report.proofs.HappenedLaws.{Many, rules-many}
-use Rattle.report.proofs.NineLaws.{rising-twelve, flat-length}
+use Rattle.report.proofs.NineLaws.{rising-sized, flat-length}
 use Rattle.report.proofs.FilledLaws.{zeros-drop, lines-filled, written-told}
 use Rattle.report.proofs.WorldBlocks.{PartedIn, world-parted}
 
@@ -519,6 +519,6 @@ module _ {plan : Plan} {c : Case} {o : Opens} (w : Wanted) {walked : Walked} {no
           written-told (length lines₀) (length events₀) (map (S .line) (members people)) (S .events) lines₁ events₁ k (n + listed) (walked .worlds) (omega arith)
           (p ∙ sym (length-map (members people) (S .line) ∙ members-length people)) (let z : n + listed ≡ length (S .events) = omega arith in z)
           (lines-filled (S .line) people lines₀ lines₁ zl (S .lines lines₁ L))
-          (events-filled rules es n listed events₀ events₁ (subst (Many rules) (sym e) many-rules) (flat-length es (rising-twelve (map nine (K .masks)) (K .nines .each)))
+          (events-filled rules es n listed events₀ events₁ (subst (Many rules) (sym e) many-rules) (flat-length es (rising-sized (map nine (K .masks)) (K .nines .each)))
           (el ∙ nl) (N .2) (A .bytes e) ∙ ap (filled (length events₀)) (S .same))
           ∙ sym (S .is)
