@@ -1,7 +1,8 @@
 pub mod Computing
 pub mod Starred
-pub mod Once
+pub mod MembersRise
 pub mod LineBytes
+pub mod LineRanges
 pub mod LineBlocks
 pub mod PartedLines
 pub mod LinePrivate
