@@ -9,5 +9,6 @@ pub mod LinePrivate
 pub mod Privacy
 pub mod Places
 pub mod Blocks
+pub mod OpenLines
 pub mod Sanity
 pub mod Needed
