@@ -10,5 +10,6 @@ pub mod Privacy
 pub mod Places
 pub mod Blocks
 pub mod OpenLines
+pub mod Known
 pub mod Sanity
 pub mod Needed
