@@ -1,37 +1,32 @@
 -- AN OPEN ANSWER IS NEVER READ AS NO, nor as yes: a fact is Known in the ways of `KnownBy` and in no other.
 use mathlib.Core.Path.{_≡_, refl, sym, ap, _∙_, subst}
-use mathlib.Core.Bool.{Bool, true, false, not, cond, _&&_, _||_}
-use mathlib.Core.List.{List, [], _∷_, _++_, map, flatMap}
-use mathlib.Core.Logic.{_⊎_, inl, inr, ⊎-elim, _↔_, _≢_}
-use Prim.Native.Nat.{ℕ, zero, suc, _≤_, _<_}
+use mathlib.Core.Bool.{Bool, true, false, cond, _&&_}
+use mathlib.Core.List.{List, [], _∷_, cons-ne-nil}
+use mathlib.Core.Logic.{_⊎_, inl, inr, ⊎-elim, _≢_}
+use Prim.Native.Nat.{ℕ, zero, suc, _<_}
 use native.Mathlib.Omega.{arith}
 use lib.ListN.{length}
 use lib.Dec.{eqb}
 use borrow.Author.Tests.{eqb-true, eqb-false, eq-eqb, ne-eqb}
-use Rattle.sets.specs.paper.Sets.{has, allOf, anyOf, All}
+use Rattle.sets.specs.paper.Sets.{has, allOf, All}
 use Rattle.sets.proofs.SetLaws.{and-parts, lt-or-le}
 use Rattle.sets.proofs.Every.{all-then, all-tested}
 use Rattle.sets.proofs.LoopLaws.{all-append}
 use Rattle.sets.proofs.Local.{clash}
 use Rattle.records.specs.paper.Fields.{fine}
-use Rattle.records.specs.paper.Plan.{Plan, Election, getFact, isBoolean, sameElection, electionFaults, electionRecords, checkedPlan}
-use Rattle.records.specs.paper.Case.{Case, Family, Boolean, Relation, Observation, readCase, caseHeading, familiesAt, booleansAt}
+use Rattle.records.specs.paper.Plan.{Plan, Election, getFact, isBoolean, checkedPlan}
+use Rattle.records.specs.paper.Case.{Case, Family, Boolean, Relation, Observation, readCase, caseHeading}
 use Rattle.records.specs.promises.Sound.{Sound, SoundCase, SoundBoolean, SoundRelation, SoundObservation}
 use Rattle.records.proofs.Accepted.{accepted}
 use Rattle.records.proofs.AcceptedCase.{accepted-case}
-use Rattle.records.proofs.ReadLaws.{OnFine, of-fine, past-faults, not-faulty}
 use Rattle.expressions.specs.paper.Influence.{boundFacts}
-use Rattle.expressions.specs.paper.Bindings.{Bound, unbound, known, unknown, conflict, observed, observedInBooleans, observedInRelations, saidUnknown, sameObservation, valuesSeen, weighed, electionsIn, elections, defaultOf, byDefault, boundBoolean, scoped, inScope, inFamily, boundRelation, bindingBy, bindingOf, bindings, frameOf, familyFaults, booleanFaults, bindable}
+use Rattle.expressions.specs.paper.Bindings.{Bound, unbound, known, unknown, conflict, observed, observedInBooleans, observedInRelations, saidUnknown, sameObservation, valuesSeen, weighed, elections, defaultOf, byDefault, boundBoolean, inScope, inFamily, boundRelation, bindingBy, bindingOf, bindings, frameOf, bindable}
 use Rattle.report.specs.paper.Operations.{told, Opened, incomplete, orStop, unlessFault, headingFault, counted, bound, opened, answerOpened, answer}
-use Rattle.report.specs.declared.Answer.{Answer}
-use Rattle.report.proofs.AmongLaws.{Among, all-each, in-right}
 use Rattle.report.proofs.Answered.{bindable-split}
-use Rattle.promises.specs.KnownBy.{Each, byteOf, policyOf, Seen, KnownBy, observation, default, relation, complete, KnownOnlyBy}
+use Rattle.promises.specs.KnownBy.{Each, byteOf, policyOf, Seen, KnownBy, observation, default, relationObserved, familyComplete, KnownOnlyBy}
+use Rattle.promises.proofs.OneRecord.{all-flat, OnePolicy, elections-one, OnFirst, scope-one}
 
 -- ---- lists
-
-some : {A : Type 0} {x : A} {xs : List A} → (x ∷ xs) ≢ []
-some {xs = xs} e = let l : suc (length xs) ≡ 0 = ap length e in omega arith
 
 some-length : {A : Type 0} (xs : List A) → xs ≢ [] → length xs ≡ 0 → ⊥
 some-length [] n e = n refl
@@ -41,32 +36,10 @@ none-length : {A : Type 0} (xs : List A) → length xs ≡ 0 → xs ≡ []
 none-length [] e = refl
 none-length (x ∷ xs) e = absurd (omega arith)
 
-all-flat : {A B : Type 0} (Q : B → Type 0) (f : A → List B) (xs : List A) → All (λ x. All Q (f x)) xs → All Q (flatMap f xs)
-unfolding flatMap
-all-flat Q f [] h = tt
-all-flat Q f (x ∷ xs) h = all-append Q (f x) (flatMap f xs) (h .0) (all-flat Q f xs (h .1))
-
-map-all : {A B : Type 0} (Q : B → Type 0) (f : A → B) (xs : List A) → All (λ x. Q (f x)) xs → All Q (map f xs)
-map-all Q f [] h = tt
-map-all Q f (x ∷ xs) h = (h .0, map-all Q f xs (h .1))
-
 test-all : {A : Type 0} (f : A → Bool) (xs : List A) → All (λ x. f x ≡ true) xs → allOf f xs ≡ true
 unfolding allOf
 test-all f [] h = refl
 test-all f (x ∷ xs) h = ap (λ (b : Bool). b && allOf f xs) (h .0) ∙ test-all f xs (h .1)
-
-any-none : {A : Type 0} (f : A → Bool) (xs : List A) → anyOf f xs ≡ false → (x : A) → Among x xs → f x ≡ false
-unfolding anyOf
-any-none f (y ∷ ys) e x (inl same) = ap f same ∙ first (f y) (anyOf f ys) e
-  where
-    first : (a b : Bool) → (a || b) ≡ false → a ≡ false
-    first true b e = e
-    first false b e = refl
-any-none f (y ∷ ys) e x (inr later) = any-none f ys (rest (f y) (anyOf f ys) e) x later
-  where
-    rest : (a b : Bool) → (a || b) ≡ false → b ≡ false
-    rest true b e = clash refl e
-    rest false b e = e
 
 -- ---- a binding that is Known
 
@@ -84,9 +57,6 @@ other n e = clash (sym (ap isKnown (sym e))) n
 
 -- ---- observations
 
-abbrev SeenIn : List Observation → Bool → Type 0
-SeenIn os v = (evidence : ℕ) × Each (λ o. (o .value ≡ byteOf v) × (o .evidence ≡ evidence)) os
-
 value-is : (n : ℕ) (v : Bool) → n < 2 → eqb n 1 ≡ v → n ≡ byteOf v
 value-is n true l e = eqb-true n 1 e
 value-is n false l e = let h = eqb-false n 1 e in ⊎-elim (λ m. omega arith) (λ m. absurd (h (omega arith))) (lt-or-le n 1)
@@ -96,30 +66,25 @@ value-back n true e = eq-eqb n 1 e
 value-back n false e = ne-eqb n 1 (λ z. omega arith)
 
 weighed-known : (os : List Observation) (silent : Bound) (v : Bool) → All SoundObservation os → weighed os silent ≡ known v
-    → ((os ≡ []) × (silent ≡ known v)) ⊎ SeenIn os v
+    → ((os ≡ []) × (silent ≡ known v)) ⊎ Seen os v
 unfolding weighed
 weighed-known [] silent v s e = inl (refl, e)
 weighed-known (o ∷ os) silent v s e = pick (allOf (sameObservation o) os) refl e
   where
+    others : o .value ≡ byteOf v → allOf (sameObservation o) os ≡ true → All (λ x. (x .value ≡ byteOf v) × (x .evidence ≡ o .evidence)) os
+    others value t =
+        all-then (λ x. sameObservation o x ≡ true) (λ x. (x .value ≡ byteOf v) × (x .evidence ≡ o .evidence)) (λ x h.
+        let t = and-parts (eqb (o .value) (x .value)) (eqb (o .evidence) (x .evidence)) h in
+        (sym (eqb-true (o .value) (x .value) (t .0)) ∙ value, sym (eqb-true (o .evidence) (x .evidence) (t .1)))) os (all-tested (sameObservation o) os t)
+
     pick : (b : Bool) → allOf (sameObservation o) os ≡ b → cond b (known (eqb (o .value) 1)) (conflict (valuesSeen (o .value) os)) ≡ known v
-        → (((o ∷ os) ≡ []) × (silent ≡ known v)) ⊎ SeenIn (o ∷ os) v
+        → (((o ∷ os) ≡ []) × (silent ≡ known v)) ⊎ Seen (o ∷ os) v
     pick false t e = other refl e
     pick true t e =
         let value = value-is (o .value) v (s .0 .value) (known-same (eqb (o .value) 1) v e) in
-        inr (
-          o .evidence,
-          (
-            some,
-            (
-              (value, refl),
-              all-then (λ x. sameObservation o x ≡ true) (λ x. (x .value ≡ byteOf v) × (x .evidence ≡ o .evidence)) (λ x h.
-                  let t = and-parts (eqb (o .value) (x .value)) (eqb (o .evidence) (x .evidence)) h in
-                  (sym (eqb-true (o .value) (x .value) (t .0)) ∙ value, sym (eqb-true (o .evidence) (x .evidence) (t .1)))) os (all-tested (sameObservation o) os t),
-            ),
-          ),
-        )
+        inr (o .evidence, (cons-ne-nil o os, ((value, refl), others value t)))
 
-weighed-seen : (os : List Observation) (silent : Bound) (v : Bool) → SeenIn os v → weighed os silent ≡ known v
+weighed-seen : (os : List Observation) (silent : Bound) (v : Bool) → Seen os v → weighed os silent ≡ known v
 unfolding weighed
 weighed-seen [] silent v s = absurd (s .1 .0 refl)
 weighed-seen (o ∷ os) silent v s =
@@ -153,74 +118,14 @@ observed-sound P C S f =
     if true os h = h
     if false os h = tt
 
--- ---- elections on one fact have one policy, in a plan that is accepted
-
-abbrev firstPolicy : List Election → ℕ
-firstPolicy [] = 0
-firstPolicy (e ∷ es) = e .policy
-
-abbrev OnePolicy : List Election → Type 0
-OnePolicy es = All (λ e. e .policy ≡ firstPolicy es) es
-
-same-policy : (e x : Election) → e .fact ≡ x .fact → sameElection e x ≡ true → e .policy ≡ x .policy
-unfolding sameElection
-same-policy e x k h =
-    let rest = eqb (e .policy) (x .policy) && eqb (e .citation) (x .citation) in
-    let s : (eqb (e .actor) (x .actor) && rest) ≡ true = rw (eq-eqb (e .fact) (x .fact) k) at h in
-    eqb-true (e .policy) (x .policy) (and-parts (eqb (e .policy) (x .policy)) (eqb (e .citation) (x .citation)) (and-parts (eqb (e .actor) (x .actor)) rest s .1) .0)
-
--- of one record
-abbrev onFact : ℕ → List Election → List Election
-onFact f es = flatMap (λ e. cond (eqb (e .fact) f) (e ∷ []) []) es
-
--- those of later records agree with one that came before
-later-policy : (f : ℕ) (x : Election) → x .fact ≡ f → (earlier : List Election) → Among x earlier → (ess : List (List Election))
-    → All (λ n. n ≡ 0) (electionFaults earlier ess) → All (λ e. e .policy ≡ x .policy) (electionsIn ess f)
-unfolding electionsIn electionFaults flatMap
-later-policy f x k earlier a [] z = tt
-later-policy f x k earlier a (es ∷ ess) z =
-    all-append (λ e. e .policy ≡ x .policy) (onFact f es) (electionsIn ess f) here (later-policy f x k (es ++ earlier) (in-right x es earlier a) ess (z .1))
-  where
-    one : (e : Election) → allOf (sameElection e) earlier ≡ true → (b : Bool) → eqb (e .fact) f ≡ b → All (λ e. e .policy ≡ x .policy) (cond b (e ∷ []) [])
-    one e t false q = tt
-    one e t true q =
-        (same-policy e x (eqb-true (e .fact) f q ∙ sym k) (all-each (λ y. sameElection e y ≡ true) earlier (all-tested (sameElection e) earlier t) x a), tt)
-
-    here : All (λ e. e .policy ≡ x .policy) (onFact f es)
-    here =
-        all-flat (λ e. e .policy ≡ x .policy) (λ e. cond (eqb (e .fact) f) (e ∷ []) []) es
-        (all-then (λ e. allOf (sameElection e) earlier ≡ true) (λ e. All (λ e. e .policy ≡ x .policy) (cond (eqb (e .fact) f) (e ∷ []) []))
-        (λ e t. one e t (eqb (e .fact) f) refl) es (all-tested (λ e. allOf (sameElection e) earlier) es (not-faulty 6 _ (z .0))))
-
-one-policy : (f : ℕ) (ess : List (List Election)) (earlier : List Election) → All (λ n. n ≡ 0) (electionFaults earlier ess) → All (λ es. length es ≤ 1) ess
-    → OnePolicy (electionsIn ess f)
-unfolding electionsIn electionFaults flatMap
-one-policy f [] earlier z o = tt
-one-policy f ([] ∷ ess) earlier z o = one-policy f ess earlier (z .1) (o .1)
-one-policy f ((x ∷ []) ∷ ess) earlier z o = pick (eqb (x .fact) f) refl (one-policy f ess (x ∷ earlier) (z .1) (o .1))
-  where
-    pick : (b : Bool) → eqb (x .fact) f ≡ b → OnePolicy (electionsIn ess f) → OnePolicy ((cond b (x ∷ []) [] ++ []) ++ electionsIn ess f)
-    pick true e h = (refl, later-policy f x (eqb-true (x .fact) f e) (x ∷ earlier) (inl refl) ess (z .1))
-    pick false e h = h
-one-policy f ((x ∷ y ∷ es) ∷ ess) earlier z o = let l = o .0 in absurd (omega arith)
-
-elections-one : (P : Plan) → Sound P → (f : ℕ) → OnePolicy (elections P f)
-unfolding elections
-elections-one P S f =
-    one-policy f (electionRecords P) [] (S .elections)
-    (all-append One (map (λ c. c .election) (P .cuts)) (map (λ a. a .election) (P .attachments))
-    (map-all One (λ c. c .election) (P .cuts) (all-then _ (λ c. One (c .election)) (λ c h. h .one) (P .cuts) (S .cuts)))
-    (map-all One (λ a. a .election) (P .attachments) (all-then _ (λ a. One (a .election)) (λ a h. h .one) (P .attachments) (S .attachments))))
-  where
-    One : List Election → Type 0
-    One es = length es ≤ 1
+-- ---- an election's default
 
 default-known : (es : List Election) (v : Bool) → OnePolicy es → byDefault (defaultOf es) ≡ known v → Each (λ e. e .policy ≡ policyOf v) es
 unfolding defaultOf
 default-known [] v o h = other refl h
 default-known (e ∷ es) v o h =
     let first = pick (eqb (e .policy) 1) (eqb (e .policy) 2) refl refl h in
-    (some, all-then (λ x. x .policy ≡ e .policy) (λ x. x .policy ≡ policyOf v) (λ x k. k ∙ first) (e ∷ es) o)
+    (cons-ne-nil e es, all-then (λ x. x .policy ≡ e .policy) (λ x. x .policy ≡ policyOf v) (λ x k. k ∙ first) (e ∷ es) o)
   where
     pick : (b c : Bool) → eqb (e .policy) 1 ≡ b → eqb (e .policy) 2 ≡ c → byDefault (cond b (false ∷ []) (cond c (true ∷ []) [])) ≡ known v → e .policy ≡ policyOf v
     pick true c p q h = eqb-true (e .policy) 1 p ∙ ap policyOf (known-same false v h)
@@ -232,61 +137,6 @@ unfolding defaultOf
 default-of [] v h = absurd (h .0 refl)
 default-of (e ∷ es) false h = rw (eq-eqb (e .policy) 1 (h .1 .0))
 default-of (e ∷ es) true h = rw (ne-eqb (e .policy) 1 (λ z. let p = h .1 .0 in omega arith), eq-eqb (e .policy) 2 (h .1 .0))
-
--- ---- a family has one record, in a case that can be bound
-
-abbrev OnFirst : (Family → Type 0) → List Family → Type 0
-OnFirst Q [] = Unit {0}
-OnFirst Q (m ∷ ms) = Q m
-
-module _ (n : ℕ) (ns : List ℕ) (scope : ℕ) where
-  later-none : (x : Family) → x .number ≡ n → (earlier : List Family) → Among x earlier → (ms : List Family) → All (λ k. k ≡ 0) (familyFaults earlier ms)
-      → scoped (n ∷ ns) scope ms ≡ []
-  unfolding scoped familyFaults flatMap allOf
-  later-none x k earlier a [] z = refl
-  later-none x k earlier a (m ∷ ms) z = rw (ne-eqb (m .number) n other) (later-none x k (m ∷ earlier) (inr a) ms (z .1))
-    where
-      not-true : (b : Bool) → not b ≡ true → b ≡ false
-      not-true true e = sym e
-      not-true false e = refl
-
-      other : m .number ≡ n → ⊥
-      other e =
-          eqb-false (x .number) (m .number)
-          (any-none (λ e. eqb (e .number) (m .number)) earlier (not-true (anyOf (λ e. eqb (e .number) (m .number)) earlier) (not-faulty 4 _ (z .0))) x a) (k ∙ sym e)
-
-  one-record : (Q : Family → Type 0) (ms earlier : List Family) → All (λ k. k ≡ 0) (familyFaults earlier ms) → OnFirst Q (scoped (n ∷ ns) scope ms)
-      → All Q (scoped (n ∷ ns) scope ms)
-  unfolding scoped familyFaults flatMap allOf
-  one-record Q [] earlier z h = tt
-  one-record Q (m ∷ ms) earlier z h = pick (eqb (m .number) n) refl (allOf (eqb (m .number)) ns) (eqb (m .scope) scope) h (one-record Q ms (m ∷ earlier) (z .1))
-    where
-      rest : List Family
-      rest = scoped (n ∷ ns) scope ms
-
-      pick : (a : Bool) → eqb (m .number) n ≡ a → (b c : Bool) → OnFirst Q (cond ((a && b) && c) (m ∷ []) [] ++ rest) → (OnFirst Q rest → All Q rest)
-          → All Q (cond ((a && b) && c) (m ∷ []) [] ++ rest)
-      pick true e true true q ih = (q, subst (All Q) (sym (later-none m (eqb-true (m .number) n e) (m ∷ earlier) (inl refl) ms (z .1))) tt)
-      pick true e true false q ih = ih q
-      pick true e false c q ih = ih q
-      pick false e b c q ih = ih q
-
--- a case that can be bound has no family twice
-families-once : (C : Case) → bindable C ≡ fine C → All (λ k. k ≡ 0) (familyFaults [] (C .families))
-unfolding bindable
-families-once C e =
-    of-fine (λ D. All (λ k. k ≡ 0) (familyFaults [] (C .families))) (bindable C) C
-    (past-faults _ (familiesAt C) (familyFaults [] (C .families)) _ (λ z. past-faults _ (booleansAt C) (booleanFaults [] (C .booleans)) (fine C) (λ y. z))) e
-
--- a relation has a family
-scope-one : (P : Plan) (C : Case) → bindable C ≡ fine C → (f : ℕ) → isBoolean (getFact P f) ≡ false → (Q : Family → Type 0) → OnFirst Q (inScope P C f) → All Q (inScope P C f)
-unfolding inScope isBoolean
-scope-one P C b f = pick (getFact P f .family)
-  where
-    pick : (number : List ℕ) → eqb (length number) 0 ≡ false → (Q : Family → Type 0) → OnFirst Q (scoped number (caseHeading C .scope) (C .families))
-        → All Q (scoped number (caseHeading C .scope) (C .families))
-    pick [] e Q = clash refl e
-    pick (n ∷ ns) e Q = one-record n ns (caseHeading C .scope) Q (C .families) [] (families-once C b)
 
 -- ---- Known in one of the ways, and in no other
 
@@ -317,12 +167,12 @@ module _ (P : Plan) (C : Case) (S : Sound P) (T : SoundCase P C) (bindable : bin
       whole m ms e one true t o h = other refl h
       whole m ms e one false t o h =
           subst (KnownBy P C f) (known-same false v h)
-          (complete i (subst (Each (λ m. m .complete ≢ [])) (sym e) (some, one (λ m. m .complete ≢ []) (λ z. eqb-false (length (m .complete)) 0 t (ap length z)))) o)
+          (familyComplete i (subst (Each (λ m. m .complete ≢ [])) (sym e) (cons-ne-nil m ms, one (λ m. m .complete ≢ []) (λ z. eqb-false (length (m .complete)) 0 t (ap length z)))) o)
 
       pick : (ms : List Family) → inScope P C f ≡ ms → ((Q : Family → Type 0) → OnFirst Q ms → All Q ms) → inFamily ms os ≡ known v → KnownBy P C f v
       pick [] e one h = other refl h
       pick (m ∷ ms) e one h =
-          ⊎-elim (λ w. whole m ms e one (eqb (length (m .complete)) 0) refl (w .0) (w .1)) (λ w. relation i (λ z. some (sym e ∙ z)) w)
+          ⊎-elim (λ w. whole m ms e one (eqb (length (m .complete)) 0) refl (w .0) (w .1)) (λ w. relationObserved i (λ z. cons-ne-nil m ms (sym e ∙ z)) w)
           (weighed-known os (cond (eqb (length (m .complete)) 0) unknown (known false)) v sound h)
 
   there : bindingOf P C f ≡ known v → (has (boundFacts (frameOf P C)) f ≡ true) × KnownBy P C f v
@@ -341,7 +191,7 @@ seen-boolean : (P : Plan) (C : Case) (f : ℕ) (b : Bound) → saidUnknown C f �
 unfolding boundBoolean
 seen-boolean P C f b s e = rw (eq-eqb (length (saidUnknown C f)) 0 (ap length s)) e
 
-seen-relation : (P : Plan) (C : Case) (f : ℕ) (v : Bool) → inScope P C f ≢ [] → SeenIn (observed C f) v → boundRelation P C f ≡ known v
+seen-relation : (P : Plan) (C : Case) (f : ℕ) (v : Bool) → inScope P C f ≢ [] → Seen (observed C f) v → boundRelation P C f ≡ known v
 unfolding boundRelation
 seen-relation P C f v n s = pick (inScope P C f) n
   where
@@ -371,8 +221,8 @@ back P C f b (observation {v = v} i said s) = bound-boolean P C f b i ∙ seen-b
 back P C f b (default {v = v} i said o e) =
     bound-boolean P C f b i
     ∙ seen-boolean P C f (known v) said (ap (λ (os : List Observation). weighed os (byDefault (defaultOf (elections P f)))) o ∙ default-of (elections P f) v e)
-back P C f b (relation {v = v} i n s) = bound-relation P C f b i ∙ seen-relation P C f v n s
-back P C f b (complete i e o) = bound-relation P C f b i ∙ absent-relation P C f e o
+back P C f b (relationObserved {v = v} i n s) = bound-relation P C f b i ∙ seen-relation P C f v n s
+back P C f b (familyComplete i e o) = bound-relation P C f b i ∙ absent-relation P C f e o
 
 -- ---- OF AN ACCEPTED PLAN AND A CASE THAT CAN BE BOUND
 

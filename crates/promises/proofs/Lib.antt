@@ -10,6 +10,7 @@ pub mod Privacy
 pub mod Places
 pub mod Blocks
 pub mod OpenLines
+pub mod OneRecord
 pub mod Known
 pub mod Sanity
 pub mod Needed

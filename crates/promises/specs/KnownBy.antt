@@ -7,7 +7,7 @@ use mathlib.Core.Logic.{_↔_, _≢_}
 use Prim.Native.Nat.{ℕ}
 use Rattle.sets.specs.paper.Sets.{has, All}
 use Rattle.records.specs.paper.Plan.{Plan, getFact, isBoolean}
-use Rattle.records.specs.paper.Case.{Case}
+use Rattle.records.specs.paper.Case.{Case, Observation}
 use Rattle.expressions.specs.paper.Influence.{boundFacts}
 use Rattle.expressions.specs.paper.Bindings.{known, bindingOf, frameOf, observed, saidUnknown, elections, inScope}
 
@@ -25,20 +25,20 @@ abbrev pub policyOf : Bool → ℕ
 policyOf false = 1
 policyOf true = 2
 
--- "One distinct (value, evidence) pair": something is observed of the fact, and every observation has this value and one evidence
-abbrev pub Seen : Case → ℕ → Bool → Type 0
-Seen C f v = (evidence : ℕ) × Each (λ o. (o .value ≡ byteOf v) × (o .evidence ≡ evidence)) (observed C f)
+-- "One distinct (value, evidence) pair": something is observed, and every observation has this value and one evidence
+abbrev pub Seen : List Observation → Bool → Type 0
+Seen os v = (evidence : ℕ) × Each (λ o. (o .value ≡ byteOf v) × (o .evidence ≡ evidence)) os
 
 -- the ways in which fact f comes to have value v
 pub data KnownBy (P : Plan) (C : Case) (f : ℕ) : Bool → Type 0 where
   -- it is boolean, not explicitly unknown, and observed so
-  observation : {v : Bool} → isBoolean (getFact P f) ≡ true → saidUnknown C f ≡ [] → Seen C f v → KnownBy P C f v
+  observation : {v : Bool} → isBoolean (getFact P f) ≡ true → saidUnknown C f ≡ [] → Seen (observed C f) v → KnownBy P C f v
   -- it is boolean, not explicitly unknown, nothing is observed of it, and it has an election, with this default
   default : {v : Bool} → isBoolean (getFact P f) ≡ true → saidUnknown C f ≡ [] → observed C f ≡ [] → Each (λ e. e .policy ≡ policyOf v) (elections P f) → KnownBy P C f v
-  -- it is a relation whose family is in the roster's scope, and observed so
-  relation : {v : Bool} → isBoolean (getFact P f) ≡ false → inScope P C f ≢ [] → Seen C f v → KnownBy P C f v
-  -- it is a relation whose family is in the roster's scope and has completeness evidence, and nothing is observed of it: then it is false
-  complete : isBoolean (getFact P f) ≡ false → Each (λ m. m .complete ≢ []) (inScope P C f) → observed C f ≡ [] → KnownBy P C f false
+  -- it is a relation, its family is in the roster's scope, and it is observed so
+  relationObserved : {v : Bool} → isBoolean (getFact P f) ≡ false → inScope P C f ≢ [] → Seen (observed C f) v → KnownBy P C f v
+  -- it is a relation, its family is in the roster's scope and complete, and nothing is observed of it: then it is false
+  familyComplete : isBoolean (getFact P f) ≡ false → Each (λ m. m .complete ≢ []) (inScope P C f) → observed C f ≡ [] → KnownBy P C f false
 
 -- A FACT IS KNOWN WITH A VALUE EXACTLY IF it is bound ("facts that a condition, defeater or constraint uses are bound") and has the value in one of those ways
 abbrev pub KnownOnlyBy : Plan → Case → Type 0
