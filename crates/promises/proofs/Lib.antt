@@ -14,3 +14,4 @@ pub mod OneRecord
 pub mod Known
 pub mod Sanity
 pub mod Needed
+pub mod Unlisted
