@@ -52,7 +52,7 @@ statusIf n person = 8 ∷ 0b111 ∷ person ∷ n ∷ 4 ∷ []
 abbrev pub seen : ℕ → List ℕ
 seen value = 3 ∷ 0b101 ∷ 0 ∷ 1 ∷ value ∷ 3 ∷ []
 
-abbrev complete : ℕ → List ℕ
+abbrev pub complete : ℕ → List ℕ
 complete family = 2 ∷ 0b111 ∷ family ∷ 1 ∷ 0 ∷ []
 
 -- bytes of a line: its kind, its role, the lowest of its block, of its open facts and of its citations

@@ -1,5 +1,5 @@
 -- A line names the open facts whose influence holds its person (`open-named`). Another fact can still change it: marks spread over influence sets that
--- meet each other, so an answer far off can bring a mark, or take away what carried it. An example, and that it is one.
+-- meet each other, so an answer far off can take a mark away, or what carried it. Two examples, and what the first refutes.
 use mathlib.Core.Path.{_≡_, refl, sym, ap, _∙_, subst}
 use mathlib.Core.Bool.{true, false}
 use mathlib.Core.List.{List, [], _∷_, _++_, map}
@@ -17,10 +17,10 @@ use Rattle.report.specs.paper.Operations.{Outcome, told, answer}
 use Rattle.promises.specs.Partitioned.{kindAt}
 use Rattle.promises.specs.OpenNamed.{factsAt, Undecided}
 use Rattle.promises.proofs.Computing.{computing}
-use Rattle.promises.proofs.Starred.{plain, base, roster₀, row, Starred, found, expected}
-use Rattle.promises.proofs.Sanity.{boolean, related, node, statusIf, seen, lineRoom, eventRoom, planOf, caseOf}
+use Rattle.promises.proofs.Starred.{plain, always, base, roster₀, row, Starred, found, expected}
+use Rattle.promises.proofs.Sanity.{boolean, related, node, statusIf, seen, complete, lineRoom, eventRoom, planOf, caseOf}
 
--- ---- the example
+-- ---- two examples
 
 -- fact 0 joins 1–2 and 2–3, which marks the three at discretion where it holds; fact 1 names 0 and 1, and excludes 1 where it holds
 abbrev plan : List ℕ
@@ -33,9 +33,17 @@ before = roster₀ 0b1111
 abbrev after : List ℕ
 after = roster₀ 0b1111 ++ seen 0
 
--- person 0 is at discretion, by the influence of fact 1, and is named fact 1 alone; with fact 0 answered the person is decided
+-- 2–3 and 3–4 are joined always; fact 0 names 0 and 1 and excludes 1, fact 1 names 1 and 2 and excludes 2, where they hold
+abbrev carried : List ℕ
+carried = plain ++ (related 1 0 1 ++ (related 2 1 2 ++ (always ++ (node 0 ++ (node 1 ++ (base 2 3 0 ++ (base 3 4 0 ++ (statusIf 1 1 ++ statusIf 2 2))))))))
+
+-- its lines once fact 1 is answered
+abbrev parted : List (List ℕ)
+parted = row 0 0 1 0b00001 0 0 0 ∷ row 1 2 0 0b00010 0b01 0 0b10000 ∷ row 2 4 0 0 0 0 0 ∷ row 3 4 0 0 0 0 0 ∷ row 4 4 0 0 0 0 0 ∷ []
+
 unfoldable pub example : List Starred
 example =
+    -- a mark less: person 0 is at discretion, by the influence of fact 1, and only fact 1 is named; with fact 0 answered the person is decided
     record {
       plan = plan;
       case = before;
@@ -47,13 +55,23 @@ example =
       case = after;
       worlds = 2;
       lines = row 0 0 1 0b0001 0 0 0 ∷ row 1 2 0 0b0010 0b10 0 0b10000 ∷ row 2 0 1 0b0100 0 0 0 ∷ row 3 0 1 0b1000 0 0 0 ∷ [];
-    } ∷ []
+    } ∷
+    -- what carried it less: the mark of 2, 3 and 4 comes by the influence of fact 1 to 1, and by that of fact 0, which alone is named, to 0; with fact 1
+    -- answered, no or yes, person 0 is decided
+    record {
+      plan = carried;
+      case = roster₀ 0b11111;
+      worlds = 4;
+      lines = row 0 4 0 0 0b01 0 0 ∷ row 1 4 0 0 0b11 0 0 ∷ row 2 4 0 0 0b10 0 0 ∷ row 3 4 0 0 0b10 0 0 ∷ row 4 4 0 0 0b10 0 0 ∷ [];
+    } ∷
+    record { plan = carried; case = roster₀ 0b11111 ++ complete 2; worlds = 2; lines = parted } ∷
+    record { plan = carried; case = roster₀ 0b11111 ++ (2 ∷ 0b11 ∷ 2 ∷ 1 ∷ 4 ∷ 0b111 ∷ 1 ∷ 1 ∷ 3 ∷ []); worlds = 2; lines = parted } ∷ []
 
 pub unlisted-lines : map found example ≡ map expected example
 unfolding example computing
 unlisted-lines = refl
 
--- ---- what it refutes: that a line stays while each fact that it names is bound as before
+-- ---- what the first refutes: that a line stays while each fact that it names is bound as before
 
 abbrev pub NamedDecide : Type 0
 NamedDecide =
