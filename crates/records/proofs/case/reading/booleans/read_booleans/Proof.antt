@@ -1,6 +1,5 @@
 -- The pass over the booleans.
-use mathlib.Core.Path.{_≡_, refl, _∙_, ap}
-use mathlib.Core.List.{[], _∷_, _++_}
+use mathlib.Core.Path.{_≡_, refl, _∙_}
 use Prim.Native.Nat.{_-_, _≤_}
 use native.Mathlib.Omega.{arith}
 use denote.Ref.{now}
@@ -64,7 +63,7 @@ loop-again c =
       omega (arith, h),
       rw length-set (i .2),
       goes-on booleanKind _ _ (i .3) (c .before .before .before .before .before .before .before .before .before .before .before .if2 .taken) (i .0) (c .before .before .before .before .before .before .before .before .before .before .before .before .before .if1 .taken) (c .before .before .before .before .before .before .before .before .before .if3 .left) tt f _ j (c .before .before .if4 .left) _
-          (made-more booleanOf (l .items) (l .count) _ (omega (arith, i .2, h)) ∙ ap (λ x. booleansOf l ++ (x ∷ [])) (c .before .boolean-from .ensures)),
+          (made-more booleanOf (l .items) (l .count) _ (omega (arith, i .2, h)) ∙ rw (c .before .boolean-from .ensures)),
       i .4,
     )
 
