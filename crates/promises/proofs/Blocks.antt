@@ -58,7 +58,8 @@ module _ (plan case : List ℕ) (room : ℕ) (P : Plan) (C : Case) (bs : List Bo
       range : (p : ℕ) → (lineOver (influences P C bs) p (views p) .kind ≤ 6) × (lineOver (influences P C bs) p (views p) .role ≤ 3)
       range p = over-range (influences P C bs) p (views p) (views-range P (allWorlds P C bs) p)
 
-  show-claimed : (eventRoom n : ℕ) (ws : List World) → All (PartedIn P (caseHeading C .roster)) ws → Claimed InOne (caseHeading C .roster) (showFrom room eventRoom P C bs n ws)
+  show-claimed : (eventRoom n : ℕ) (ws : List World) → All (PartedIn P (caseHeading C .roster)) ws
+      → Claimed InOne (caseHeading C .roster) (showFrom room eventRoom P C bs n ws)
   unfolding showFrom linesOf lineIn
   show-claimed eventRoom n [] h = refused-claimed InOne room eventRoom (caseHeading C .roster) (Refused 14 0) (λ e. omega arith)
   show-claimed eventRoom n (w ∷ ws) h =
@@ -105,7 +106,8 @@ claims Blocked plan case o P C accepted read h = record {
   lines = λ e. of-roster plan case (λ roster. Partitioned Blocked roster (o .lines) (told (o .answer) .lines)) P C accepted read (h .lines e);
 }
 
-refused-claims : (Blocked : ℕ → Type 0) (plan case : List ℕ) (lineRoom eventRoom : ℕ) (a : Answer) → (told a .refusal ≡ 0 → ⊥) → Claims Blocked plan case (refusal lineRoom eventRoom a)
+refused-claims : (Blocked : ℕ → Type 0) (plan case : List ℕ) (lineRoom eventRoom : ℕ) (a : Answer) → (told a .refusal ≡ 0 → ⊥)
+    → Claims Blocked plan case (refusal lineRoom eventRoom a)
 refused-claims Blocked plan case lineRoom eventRoom a n = record { buffer = refused-claimed Blocked lineRoom eventRoom 0 a n .buffer; lines = λ h. absurd (n h) }
 
 answered : (plan case : List ℕ) (lineRoom eventRoom : ℕ) → Claims InAll plan case (answer plan case lineRoom eventRoom)

@@ -52,6 +52,7 @@ isKnown (known b) = true
 isKnown unknown = false
 isKnown (conflict c) = false
 
+-- no other binding is Known
 other : {A : Type 0} {b : Bound} {v : Bool} → isKnown b ≡ false → b ≡ known v → A
 other n e = clash (sym (ap isKnown (sym e))) n
 
@@ -167,7 +168,8 @@ module _ (P : Plan) (C : Case) (S : Sound P) (T : SoundCase P C) (bindable : bin
       whole m ms e one true t o h = other refl h
       whole m ms e one false t o h =
           subst (KnownBy P C f) (known-same false v h)
-          (familyComplete i (subst (Each (λ m. m .complete ≢ [])) (sym e) (cons-ne-nil m ms, one (λ m. m .complete ≢ []) (λ z. eqb-false (length (m .complete)) 0 t (ap length z)))) o)
+          (familyComplete i
+          (subst (Each (λ m. m .complete ≢ [])) (sym e) (cons-ne-nil m ms, one (λ m. m .complete ≢ []) (λ z. eqb-false (length (m .complete)) 0 t (ap length z)))) o)
 
       pick : (ms : List Family) → inScope P C f ≡ ms → ((Q : Family → Type 0) → OnFirst Q ms → All Q ms) → inFamily ms os ≡ known v → KnownBy P C f v
       pick [] e one h = other refl h
@@ -179,7 +181,8 @@ module _ (P : Plan) (C : Case) (S : Sound P) (T : SoundCase P C) (bindable : bin
   unfolding bindingOf bindingBy
   there = pick (has (boundFacts (frameOf P C)) f) refl (isBoolean (getFact P f)) refl
     where
-      pick : (b : Bool) → has (boundFacts (frameOf P C)) f ≡ b → (c : Bool) → isBoolean (getFact P f) ≡ c → cond b (cond c (boundBoolean P C f) (boundRelation P C f)) unbound ≡ known v
+      pick : (b : Bool) → has (boundFacts (frameOf P C)) f ≡ b → (c : Bool) → isBoolean (getFact P f) ≡ c
+          → cond b (cond c (boundBoolean P C f) (boundRelation P C f)) unbound ≡ known v
           → (has (boundFacts (frameOf P C)) f ≡ true) × KnownBy P C f v
       pick true e true i h = (e, boolean-known i h)
       pick true e false i h = (e, relation-known i h)
@@ -187,7 +190,8 @@ module _ (P : Plan) (C : Case) (S : Sound P) (T : SoundCase P C) (bindable : bin
 
 -- ---- and each of the ways makes it Known
 
-seen-boolean : (P : Plan) (C : Case) (f : ℕ) (b : Bound) → saidUnknown C f ≡ [] → weighed (observed C f) (byDefault (defaultOf (elections P f))) ≡ b → boundBoolean P C f ≡ b
+seen-boolean : (P : Plan) (C : Case) (f : ℕ) (b : Bound) → saidUnknown C f ≡ [] → weighed (observed C f) (byDefault (defaultOf (elections P f))) ≡ b
+    → boundBoolean P C f ≡ b
 unfolding boundBoolean
 seen-boolean P C f b s e = rw (eq-eqb (length (saidUnknown C f)) 0 (ap length s)) e
 

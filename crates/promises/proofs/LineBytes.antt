@@ -116,8 +116,10 @@ module _ (room : ℕ) (ls : List Line) (k : ℕ) where
           zeros-parts lineLength (drop (lineLength * k) s) (subst Zeros (sym (r .1)) (zeros-parts (r .0) (replicate left 0) (zeros left) .1)) .0
 
   -- a field of the line, where it is read back from its bytes, and from none
-  field-read : (field : Line → ℕ) → field (decoded (lineBytes l)) ≡ field l → ((b : List ℕ) → Zeros b → field (decoded b) ≡ field none) → field (decoded (lineAt s k)) ≡ field l
-  field-read field back blank = ⊎-elim (λ e. ap (λ (b : List ℕ). field (decoded b)) e ∙ back) (λ r. blank (lineAt s k) (r .1) ∙ ap field (sym (r .0))) placed
+  field-read : (field : Line → ℕ) → field (decoded (lineBytes l)) ≡ field l → ((b : List ℕ) → Zeros b → field (decoded b) ≡ field none)
+      → field (decoded (lineAt s k)) ≡ field l
+  field-read field back blank =
+      ⊎-elim (λ e. ap (λ (b : List ℕ). field (decoded b)) e ∙ back) (λ r. blank (lineAt s k) (r .1) ∙ ap field (sym (r .0))) placed
 
   pub person-read : personAt (filled room (map lineBytes ls)) k ≡ getD ls k none .person
   unfolding personAt decoded lineBytes

@@ -53,7 +53,8 @@ first-most (v ∷ vs) h = pick (eqb (v .kind) 0) (first-most vs (h .1))
     pick false k = h .0 .kind
 
 module _ (I : Influence) (p : ℕ) where
-  by-range : (stands roles : Bool) (v : View) (k c : ℕ) → SeenRange v → k ≤ 4 → (lineBy I p stands roles v k c .kind ≤ 6) × (lineBy I p stands roles v k c .role ≤ 3)
+  by-range : (stands roles : Bool) (v : View) (k c : ℕ) → SeenRange v → k ≤ 4
+      → (lineBy I p stands roles v k c .kind ≤ 6) × (lineBy I p stands roles v k c .role ≤ 3)
   by-range true true v k c h l = (zero-le, h .role)
   by-range true false v k c h l = (omega arith, zero-le)
   by-range false roles v k c h l = (pick (eqb k 0), zero-le)

@@ -152,8 +152,9 @@ families-once C e =
     of-fine (λ D. All (λ k. k ≡ 0) (familyFaults [] (C .families))) (bindable C) C
     (past-faults _ (familiesAt C) (familyFaults [] (C .families)) _ (λ z. past-faults _ (booleansAt C) (booleanFaults [] (C .booleans)) (fine C) (λ y. z))) e
 
--- a relation has a family
-pub scope-one : (P : Plan) (C : Case) → bindable C ≡ fine C → (f : ℕ) → isBoolean (getFact P f) ≡ false → (Q : Family → Type 0) → OnFirst Q (inScope P C f) → All Q (inScope P C f)
+-- what holds of the first record in scope of a relation's family holds of all
+pub scope-one : (P : Plan) (C : Case) → bindable C ≡ fine C → (f : ℕ) → isBoolean (getFact P f) ≡ false
+    → (Q : Family → Type 0) → OnFirst Q (inScope P C f) → All Q (inScope P C f)
 unfolding inScope isBoolean
 scope-one P C b f = pick (getFact P f .family)
   where

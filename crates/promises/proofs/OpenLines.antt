@@ -68,7 +68,9 @@ has-holding n sets p i = (there, back)
 -- ---- the open fields of a line, by its kind
 
 undecided : (k : ℕ) → Undecided k ⊎ (Undecided k → ⊥)
-undecided k = ⊎-elim (λ l. inr (λ u. let h = u .0 in omega arith)) (λ l. ⊎-elim (λ m. inl (l, omega arith)) (λ m. inr (λ u. let h = u .1 in omega arith)) (lt-or-le k 5)) (lt-or-le k 1)
+undecided k =
+    ⊎-elim (λ l. inr (λ u. let h = u .0 in omega arith))
+    (λ l. ⊎-elim (λ m. inl (l, omega arith)) (λ m. inr (λ u. let h = u .1 in omega arith)) (lt-or-le k 5)) (lt-or-le k 1)
 
 record Opens (I : Influence) (p : ℕ) (l : Line) : Type 0 where
   facts : Undecided (l .kind) → l .openFacts ≡ holding (I .facts) p
@@ -195,7 +197,8 @@ module _ (plan case : List ℕ) (l e : ℕ) (P : Plan) (C : Case) (checked : che
       kind-back = refl
 
   -- what holds of a set of numbers by the person holds of the line's
-  by-line : (Open : ℕ → ℕ → Type 0) (k p i m wanted : ℕ) → p ≡ personAt s k → m ≡ wanted → (has wanted i ≡ true) ↔ Open p i → (has m i ≡ true) ↔ Open (personAt s k) i
+  by-line : (Open : ℕ → ℕ → Type 0) (k p i m wanted : ℕ) → p ≡ personAt s k → m ≡ wanted → (has wanted i ≡ true) ↔ Open p i
+      → (has m i ≡ true) ↔ Open (personAt s k) i
   by-line Open k p i m wanted named same h = (
     λ b. subst (λ (q : ℕ). Open q i) named (h .0 (sym (ap (λ (x : ℕ). has x i) same) ∙ b)),
     λ o. ap (λ (x : ℕ). has x i) same ∙ h .1 (subst (λ (q : ℕ). Open q i) (sym named) o),

@@ -181,7 +181,9 @@ module _ (Blocked : ℕ → Type 0) (room roster : ℕ) (fits : roster < 2 ^ 64)
 -- NOBODY HAS TWO LINES: persons rise
 pub once : {Blocked : ℕ → Type 0} {roster : ℕ} {s : List ℕ} {n : ℕ} → Partitioned Blocked roster s n
     → (i j : ℕ) → i < n → j < n → personAt s i ≡ personAt s j → i ≡ j
-once parts i j l m e = ⊎-elim (λ h. let r = parts .rising i j h m in absurd (omega arith)) (λ h. ⊎-elim (λ k. let r = parts .rising j i k l in absurd (omega arith)) (λ k. omega arith) (lt-or-le j i)) (lt-or-le i j)
+once parts i j l m e =
+    ⊎-elim (λ h. let r = parts .rising i j h m in absurd (omega arith))
+    (λ h. ⊎-elim (λ k. let r = parts .rising j i k l in absurd (omega arith)) (λ k. omega arith) (lt-or-le j i)) (lt-or-le i j)
 
 -- ---- what an operation gives back, over a roster
 
@@ -189,7 +191,8 @@ pub record Claimed (Blocked : ℕ → Type 0) (roster : ℕ) (o : Outcome) : Typ
   pub buffer : Apart (o .lines)
   pub lines : told (o .answer) .refusal ≡ 0 → Partitioned Blocked roster (o .lines) (told (o .answer) .lines)
 
-pub refused-claimed : (Blocked : ℕ → Type 0) (lineRoom eventRoom roster : ℕ) (a : Answer) → (told a .refusal ≡ 0 → ⊥) → Claimed Blocked roster (refusal lineRoom eventRoom a)
+pub refused-claimed : (Blocked : ℕ → Type 0) (lineRoom eventRoom roster : ℕ) (a : Answer) → (told a .refusal ≡ 0 → ⊥)
+    → Claimed Blocked roster (refusal lineRoom eventRoom a)
 refused-claimed Blocked lineRoom eventRoom roster a n = record {
   buffer = record { any-two = λ i j. inl (blank i ∙ sym (blank j)); own = λ k. inl (blank k) };
   lines = λ h. absurd (n h);

@@ -33,13 +33,16 @@ Seen os v = (evidence : ℕ) × Each (λ o. (o .value ≡ byteOf v) × (o .evide
 pub data KnownBy (P : Plan) (C : Case) (f : ℕ) : Bool → Type 0 where
   -- it is boolean, not explicitly unknown, and observed so
   observation : {v : Bool} → isBoolean (getFact P f) ≡ true → saidUnknown C f ≡ [] → Seen (observed C f) v → KnownBy P C f v
-  -- it is boolean, not explicitly unknown, nothing is observed of it, and it has an election, with this default
-  default : {v : Bool} → isBoolean (getFact P f) ≡ true → saidUnknown C f ≡ [] → observed C f ≡ [] → Each (λ e. e .policy ≡ policyOf v) (elections P f) → KnownBy P C f v
+  -- it is boolean, not explicitly unknown, nothing is observed of it, and it has an election, with this default (in an accepted plan all elections on
+  -- one fact are equal)
+  default : {v : Bool} → isBoolean (getFact P f) ≡ true → saidUnknown C f ≡ [] → observed C f ≡ []
+      → Each (λ e. e .policy ≡ policyOf v) (elections P f) → KnownBy P C f v
   -- it is a relation, its family is in the roster's scope, and it is observed so
   relationObserved : {v : Bool} → isBoolean (getFact P f) ≡ false → inScope P C f ≢ [] → Seen (observed C f) v → KnownBy P C f v
   -- it is a relation, its family is in the roster's scope and complete, and nothing is observed of it: then it is false
   familyComplete : isBoolean (getFact P f) ≡ false → Each (λ m. m .complete ≢ []) (inScope P C f) → observed C f ≡ [] → KnownBy P C f false
 
--- A FACT IS KNOWN WITH A VALUE EXACTLY IF it is bound ("facts that a condition, defeater or constraint uses are bound") and has the value in one of those ways
+-- A FACT IS KNOWN WITH A VALUE EXACTLY IF it is bound ("facts that a condition, defeater or constraint uses are bound") and has the value in one of
+-- those ways
 abbrev pub KnownOnlyBy : Plan → Case → Type 0
 KnownOnlyBy P C = (f : ℕ) (v : Bool) → (bindingOf P C f ≡ known v) ↔ ((has (boundFacts (frameOf P C)) f ≡ true) × KnownBy P C f v)
