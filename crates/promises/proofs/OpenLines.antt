@@ -4,7 +4,7 @@ use mathlib.Core.Path.{_≡_, refl, sym, ap, _∙_, subst}
 use mathlib.Core.Bool.{Bool, true, false, not, cond, _&&_}
 use mathlib.Core.List.{List, [], _∷_, map}
 use mathlib.Core.Logic.{_⊎_, inl, inr, ⊎-elim, _↔_}
-use Prim.Native.Nat.{ℕ, _≤_, _<_, _^_, zero-le}
+use Prim.Native.Nat.{ℕ, _≤_, _<_, _^_}
 use native.Mathlib.Nat.{le-trans}
 use native.Mathlib.Omega.{arith}
 use lib.ListN.{length, getD}
@@ -17,7 +17,7 @@ use Rattle.sets.proofs.MaskLaws.{built-has}
 use Rattle.sets.proofs.LoopLaws.{length-below, getD-below}
 use Rattle.sets.proofs.BelowLaws.{of-only}
 use Rattle.records.specs.paper.Fields.{fine}
-use Rattle.records.specs.paper.Plan.{Plan, unresolved, checkedPlan}
+use Rattle.records.specs.paper.Plan.{Plan, checkedPlan}
 use Rattle.records.specs.paper.Case.{Case, readCase, caseHeading}
 use Rattle.records.specs.promises.Sound.{Sound}
 use Rattle.records.proofs.Accepted.{accepted}

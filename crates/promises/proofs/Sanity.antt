@@ -5,20 +5,18 @@ use mathlib.Core.List.{List, [], _∷_, _++_, map}
 use Prim.Native.Nat.{ℕ, _*_}
 use lib.ListN.{getD}
 use lib.Dec.{eqb, ltb}
-use Rattle.sets.specs.paper.Sets.{has, size, lowest, members, anyBelow}
+use Rattle.sets.specs.paper.Sets.{size, members, anyBelow}
 use Rattle.records.specs.paper.Fields.{refused, fine, Verdict}
-use Rattle.records.specs.paper.Plan.{emptyPlan, Plan, unresolved, checkedPlan}
+use Rattle.records.specs.paper.Plan.{emptyPlan, Plan, checkedPlan}
 use Rattle.records.specs.paper.Case.{emptyCase, CaseHeading, Case, readCase, caseHeading}
-use Rattle.expressions.specs.paper.Rules.{factCount, edge, cut, attachment, bar, status}
-use Rattle.expressions.specs.paper.Nodes.{value, values}
-use Rattle.expressions.specs.paper.Influence.{touches, circle}
+use Rattle.expressions.specs.paper.Rules.{factCount}
+use Rattle.expressions.specs.paper.Nodes.{value}
 use Rattle.expressions.specs.paper.Bindings.{frameOf, conflict, unknown, known, unbound, Bound, both, just, bindingOf}
-use Rattle.expressions.specs.paper.Variables.{choices, influence}
-use Rattle.worlds.specs.paper.View.{citations}
+use Rattle.expressions.specs.paper.Variables.{choices}
 use Rattle.report.specs.paper.Line.{lineLength}
 use Rattle.report.specs.paper.EventList.{eventLength}
 use Rattle.report.specs.paper.LineAt.{lineAt}
-use Rattle.report.specs.paper.Operations.{Outcome, told, bound, answer}
+use Rattle.report.specs.paper.Operations.{Outcome, told, answer}
 use Rattle.promises.proofs.Starred.{mask, chain, always, base, roster₀}
 use Rattle.promises.specs.Weaker.{edges, cuts, attachments, anchors, bars, decisions, tuples, strangers, rosters, edgeUsers, defeaters, cutUsers, attachmentUsers, barUsers, statusUsers, sharedFacts, none, edgeUsesBut, touchedBut, touchBut, withAnchorBut, joinsBut, touchesBut}
 use Rattle.promises.proofs.Computing.{computing}

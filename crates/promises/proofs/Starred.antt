@@ -3,9 +3,7 @@ use mathlib.Core.Path.{_≡_, refl}
 use mathlib.Core.List.{List, [], _∷_, _++_, map, flatMap}
 use Prim.Native.Nat.{ℕ, _*_}
 use lib.ListN.{length}
-use Rattle.sets.specs.paper.Sets.{one, members}
-use Rattle.records.specs.paper.Plan.{unresolved}
-use Rattle.expressions.specs.paper.Rules.{edge, cut, bar, status}
+use Rattle.sets.specs.paper.Sets.{members}
 use Rattle.expressions.specs.paper.Variables.{worlds}
 use Rattle.report.specs.paper.Line.{lineLength}
 use Rattle.report.specs.paper.EventList.{eventLength}

@@ -1,14 +1,14 @@
 -- A line names the open facts whose influence holds its person (`open-named`). Another fact can still change it: marks spread over influence sets that
 -- meet each other, so an answer far off can take a mark away, or what carried it. Two examples, and what the first refutes.
 use mathlib.Core.Path.{_≡_, refl, sym, ap, _∙_, subst}
-use mathlib.Core.Bool.{true, false}
+use mathlib.Core.Bool.{true}
 use mathlib.Core.List.{List, [], _∷_, _++_, map}
 use Prim.Native.Nat.{ℕ, zero, suc, _<_}
 use native.Mathlib.Omega.{arith}
 use Rattle.sets.specs.paper.Sets.{has}
 use Rattle.sets.proofs.Local.{clash}
 use Rattle.records.specs.paper.Fields.{Verdict, fine}
-use Rattle.records.specs.paper.Plan.{Plan, unresolved, checkedPlan}
+use Rattle.records.specs.paper.Plan.{Plan, checkedPlan}
 use Rattle.records.specs.paper.Case.{Case, CaseHeading, readCase}
 use Rattle.expressions.specs.paper.Rules.{factCount}
 use Rattle.expressions.specs.paper.Bindings.{Bound, unknown, bindingOf}
