@@ -9,8 +9,6 @@ ghost use Rattle.report.specs.paper.EventList.{eventLength};
 // the length of an event
 pub const EVENT: usize = 12;
 
-pub const EVENT: usize = 12;
-
 pub struct Event {
     pub kind: u8,
     pub a: u8,
