@@ -21,7 +21,7 @@ use Rattle.records.proofs.Accepted.{accepted}
 use Rattle.records.proofs.AcceptedCase.{accepted-case}
 use Rattle.expressions.specs.paper.Influence.{boundFacts}
 use Rattle.expressions.specs.paper.Bindings.{Bound, unbound, known, unknown, conflict, observed, observedInBooleans, observedInRelations, saidUnknown, sameObservation, valuesSeen, weighed, elections, defaultOf, byDefault, boundBoolean, inScope, inFamily, boundRelation, bindingBy, bindingOf, bindings, frameOf, bindable}
-use Rattle.report.specs.paper.Operations.{told, Opened, incomplete, orStop, unlessFault, headingFault, counted, bound, opened, answerOpened, answer}
+use Rattle.report.specs.paper.Operations.{told, Opened, incomplete, orStop, unlessFault, headingFault, counted, boundAndCounted, bound, opened, answerOpened, answer}
 use Rattle.report.proofs.Answered.{bindable-split}
 use Rattle.promises.specs.KnownBy.{Each, byteOf, policyOf, Seen, KnownBy, observation, default, relationObserved, familyComplete, KnownOnlyBy}
 use Rattle.promises.proofs.OneRecord.{all-flat, OnePolicy, elections-one, OnFirst, scope-one}
@@ -237,7 +237,7 @@ known-by P C S T b f v = (there P C S T b f v, λ h. back P C f (h .0) (h .1))
 
 answered-bindable : (plan case : List ℕ) (l e : ℕ) (P : Plan) (C : Case) → checkedPlan plan ≡ fine P → readCase P case ≡ fine C
     → told (answer plan case l e .answer) .refusal ≡ 0 → caseHeading C .complete ≢ [] → bindable C ≡ fine C
-unfolding answer opened bound
+unfolding answer opened bound boundAndCounted
 answered-bindable plan case l e P C checked read answered full =
     pick (headingFault P (caseHeading C) l) (rw (checked, read) at answered)
   where
