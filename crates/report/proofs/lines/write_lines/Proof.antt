@@ -60,9 +60,6 @@ cast-line-of c =
     let k = c .before .before .before .before .before .before .before .before in
     omega (arith, c .unresolved-for-person2 .ensures, holding-lt (now (k .args .decisions)) (c .before .before .low .result) 16 (k .pre .2))
 
-line-of-requires : tie.Need-line-of-requires Inv-loop μ-loop
-line-of-requires c κs = c .before .before .low .ensures .1
-
 sub-write-line : tie.Need-sub-write-line Inv-loop μ-loop
 sub-write-line c = omega (arith, room (c .before .before .before .before))
 
@@ -121,7 +118,7 @@ write-lines-spec =
     cast-unresolved-for-person-2
     unresolved-for-person-requires-2
     cast-line-of
-    line-of-requires
+    (λ c κs. search needs)
     sub-write-line
     part-write-line-start
     (λ c. search needs)
