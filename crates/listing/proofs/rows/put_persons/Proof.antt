@@ -20,22 +20,28 @@ loop-holds : tie.Need-loop-holds Inv-loop μ-loop
 loop-holds c = (refl, refl)
 
 low-requires : tie.Need-low-requires Inv-loop μ-loop
-low-requires c κs = c .loop-test .taken
+low-requires c κs = c .before .loop-test .taken
 
 others-requires : tie.Need-others-requires Inv-loop μ-loop
-others-requires c κs = c .before .before .loop-test .taken
+others-requires c κs = c .before .before .before .before .before .loop-test .taken
 
 loop-less : tie.Need-loop-less Inv-loop μ-loop
 loop-less c = c .others .ensures .1
 
 loop-again : tie.Need-loop-again Inv-loop μ-loop
-loop-again c = ?
+loop-again c =
+    let l = c .before .before .before .before .before .before .before .loop in
+    let low = c .before .before .before .before .low in
+    let put = c .before .before .before .put-person in (
+      ap (λ (p : Page). length (p .out)) (put .ensures) ∙ puts-length _ _ ∙ l .inv .0,
+      turn-put _ _ (l .first) _ (low .result) (l .m) (c .others .result) (low .ensures .0) (c .others .ensures .0) (put .ensures) refl ∙ l .inv .1,
+    )
 
 returns : tie.Need-returns Inv-loop μ-loop
-returns c = ?
+returns c = let l = c .before .before .before .before .before .before .loop in none-put _ _ _ _ (l .m) (c .before .before .before .before .before .loop-test .left) (c .before .before .before .before .if1 .taken) (c .before .before .put .ensures) (l .inv .1)
 
 returns-2 : tie.Need-returns-2 Inv-loop μ-loop
-returns-2 c = ?
+returns-2 c = let l = c .before .before .loop in all-put _ _ _ (l .m) (c .before .loop-test .left) (c .if1 .left) (l .inv .1)
 
 pub put-persons-spec : {M : Type 1} → statement M
 put-persons-spec =
@@ -46,7 +52,6 @@ put-persons-spec =
     loop-holds
     low-requires
     (λ c κs. search needs)
-    (λ c. search needs)
     others-requires
     loop-less
     loop-again
