@@ -171,11 +171,11 @@ count-end p = sum-end (λ x. only (p x) 1)
 
 -- ---- a number's place in a list of numbers: none, or one
 
-abbrev pub Once : List ℕ → ℕ → Type 0
-Once ns n = countOf (eqb n) ns ≡ only (anyOf (eqb n) ns) 1
+abbrev pub AtMostOnce : List ℕ → ℕ → Type 0
+AtMostOnce ns n = countOf (eqb n) ns ≡ only (anyOf (eqb n) ns) 1
 
 -- a number that is new comes behind the others
-pub once-new : (ns : List ℕ) (n k : ℕ) → anyOf (eqb n) ns ≡ false → Once ns k → Once (ns ++ (n ∷ [])) k
+pub once-new : (ns : List ℕ) (n k : ℕ) → anyOf (eqb n) ns ≡ false → AtMostOnce ns k → AtMostOnce (ns ++ (n ∷ [])) k
 unfolding countOf sumOf anyOf
 once-new ns n k new h = count-append (eqb k) ns (n ∷ []) ∙ go (eqb k n) refl ∙ sym (ap (λ (b : Bool). only b 1) (any-append (eqb k) ns (n ∷ [])))
   where
@@ -193,7 +193,7 @@ once-new ns n k new h = count-append (eqb k) ns (n ∷ []) ∙ go (eqb k n) refl
     go false e = old (anyOf (eqb k) ns) h
 
 -- NUMBER BY NUMBER: the sums of the entries that have each number are the sum of all entries that have one of them
-pub sum-by : {A : Type 0} (number : A → ℕ) (p : A → Bool) (f : A → ℕ) (ns : List ℕ) (xs : List A) → All (λ x. Once ns (number x)) xs
+pub sum-by : {A : Type 0} (number : A → ℕ) (p : A → Bool) (f : A → ℕ) (ns : List ℕ) (xs : List A) → All (λ x. AtMostOnce ns (number x)) xs
     → sumOf (λ n. sumOf (λ x. only (p x && eqb (number x) n) (f x)) xs) ns ≡ sumOf (λ x. only (p x && anyOf (eqb (number x)) ns) (f x)) xs
 sum-by number p f ns xs h =
     sum-swap (λ n x. only (p x && eqb (number x) n) (f x)) ns xs ∙ sum-where _ _ xs (all-then _ _ (λ x o. each (p x) (number x) (f x) o) xs h)
@@ -202,7 +202,7 @@ sum-by number p f ns xs h =
     times c true v e = ap (λ (n : ℕ). n * v) e ∙ one-mul v
     times c false v e = ap (λ (n : ℕ). n * v) e ∙ zero-mul v
 
-    each : (t : Bool) (k v : ℕ) → Once ns k → sumOf (λ n. only (t && eqb k n) v) ns ≡ only (t && anyOf (eqb k) ns) v
+    each : (t : Bool) (k v : ℕ) → AtMostOnce ns k → sumOf (λ n. only (t && eqb k n) v) ns ≡ only (t && anyOf (eqb k) ns) v
     each true k v o = sum-each (eqb k) v ns ∙ times (countOf (eqb k) ns) (anyOf (eqb k) ns) v o
     each false k v o = sum-none ns
 

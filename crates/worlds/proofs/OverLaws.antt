@@ -1,4 +1,4 @@
--- The numbers of a set one by one, lowest first, and what a loop over them does to a table.
+-- What a loop over the numbers of a set, lowest first, does to a table.
 use mathlib.Core.Path.{_≡_, refl, sym, ap, _∙_, subst}
 use mathlib.Core.Bool.{Bool, true, false, cond, _||_}
 use mathlib.Core.List.{List}
