@@ -13,14 +13,13 @@ use borrow.Author.Tests.{ne-eqb}
 use Rattle.sets.specs.paper.Sets.{union, below, anyOf, All}
 use Rattle.records.specs.paper.Plan as paper
 use Rattle.records.specs.paper.Plan.{Plan}
-use Rattle.records.specs.code.Decoded.{cutOf, edgeOf}
+use Rattle.records.specs.code.Decoded.{cutOf, edgeOf, cutsOf, edgesOf}
 use Rattle.expressions.specs.paper.Rules.{noCut, noEdge, cut, edge, pair, endsOf}
 use Rattle.records.specs.declared.plan.Cut.{Cut}
 use Rattle.records.specs.declared.plan.Edge.{Edge}
 use Rattle.records.specs.declared.plan.Cuts.{Cuts}
 use Rattle.records.specs.declared.plan.Edges.{Edges}
 use Rattle.sets.proofs.LoopLaws.{all-at, getD-below, length-below}
-use Rattle.expressions.specs.code.Coded.{cutsOf, edgesOf}
 use Rattle.expressions.specs.code.Listed.{heldByCut}
 use Rattle.expressions.specs.declared.decisions.Undecided.{Undecided}
 use Rattle.expressions.specs.paper.Influence.{Open, openTouch}
@@ -64,16 +63,14 @@ module _ (cuts : Cuts) (edges : Edges) (o : Undecided) (i : ℕ) (h : i < o .cou
       (all-at q (opensOf o) (pairOf 0 0) i all (subst (λ (n : ℕ). i < n) (sym (length-below (o .count) (openAt (o .cuts) (o .edges)))) h))
 
   pub cut-in : length (cuts .items) ≡ 16 → getD (o .cuts) i 0 < min (cuts .count) 16
-  unfolding cutsOf
   cut-in long = omega (arith, named-at .0, made-length cutOf (cuts .items) (cuts .count) 16 (min (cuts .count) 16) long refl)
 
   pub edge-in : length (edges .items) ≡ 64 → getD (o .edges) i 0 < min (edges .count) 64
-  unfolding edgesOf
   edge-in wide = omega (arith, named-at .1, made-length edgeOf (edges .items) (edges .count) 64 (min (edges .count) 64) wide refl)
 
   pub touch-at : length (cuts .items) ≡ 16 → length (edges .items) ≡ 64 → (d : Cut) (e : Edge) (P : Plan) → P .cuts ≡ cutsOf cuts → P .edges ≡ edgesOf edges
       → union (getD (cuts .items) (getD (o .cuts) i 0) d .members) (endsOf (edgeOf (getD (edges .items) (getD (o .edges) i 0) e))) ≡ openTouch P (openAt (o .cuts) (o .edges) i)
-  unfolding cutsOf edgesOf cutOf cut pair edge
+  unfolding cutOf cut pair edge
   touch-at long wide d e P k l =
       ap₂ union
       (ap heldByCut (sym (ap (λ (xs : List paper.Cut). getD xs (getD (o .cuts) i 0) noCut) k ∙ made-at cutOf (cuts .items) (cuts .count) 16 (min (cuts .count) 16) long refl (getD (o .cuts) i 0) d _ (cut-in long))))

@@ -9,11 +9,10 @@ use lib.ListN.{length, getD, take, drop, set, length-set}
 use lib.Dec.{eqb}
 use borrow.Author.Tests.{eq-eqb, ne-eqb, eqb-true, eqb-false}
 use Rattle.records.specs.paper.Plan as paper
-use Rattle.records.specs.code.Decoded.{ifGiven, noElection, cutOf, attachmentOf, electionOf}
+use Rattle.records.specs.code.Decoded.{ifGiven, noElection, cutOf, attachmentOf, electionOf, cutsOf, attachmentsOf}
 use Rattle.records.specs.declared.plan.Election.{Election}
 use Rattle.records.specs.declared.plan.Cuts.{Cuts}
 use Rattle.records.specs.declared.plan.Attachments.{Attachments}
-use Rattle.expressions.specs.code.Coded.{cutsOf, attachmentsOf}
 use Rattle.expressions.specs.paper.Bindings.{elections, electionsIn, defaultOf}
 use Rattle.expressions.proofs.ListLaws.{flat-append, changed-at}
 use Rattle.expressions.proofs.Rests.{made-next, made-none}
@@ -137,7 +136,7 @@ pub elections-of : (P : paper.Plan) (cs : Cuts) (ts : Attachments) (f : ℕ) →
     → elections P f
     ≡ electionsIn (map (λ c. electionOf (c .election)) (take (cs .count) (cs .items))) f
     ++ electionsIn (map (λ a. electionOf (a .election)) (take (ts .count) (ts .items))) f
-unfolding elections cutsOf attachmentsOf cutOf attachmentOf
+unfolding elections cutOf attachmentOf
 elections-of P cs ts f k l =
     ap (λ (ess : List (List paper.Election)). electionsIn ess f)
     (ap₂ _++_ (ap (map (λ c. c .election)) k ∙ map-map (λ c. c .election) cutOf (take (cs .count) (cs .items)))

@@ -10,7 +10,7 @@ use Rattle.sets.specs.paper.Sets.{has, one, union, only, unionOf, setOf, All}
 use Rattle.sets.proofs.SetLaws.{ext, has-union}
 use Rattle.records.specs.paper.Case as paper
 use Rattle.records.specs.paper.Case.{Case, Observation}
-use Rattle.records.specs.promises.Sound.{SoundObservation, SoundBoolean, SoundRelation}
+use Rattle.records.specs.promises.Sound.{Evidence, SoundObservation, SoundBoolean, SoundRelation}
 use Rattle.records.specs.code.Decoded.{observationsOf, booleanOf}
 use Rattle.records.specs.declared.case.Observations.{Observations}
 use Rattle.records.specs.declared.case.Boolean.{Boolean}
@@ -58,7 +58,7 @@ relation-marks f rs = union-flat evidenceMark (λ r. cond (eqb (r .fact) f) (r .
 
 -- ---- the numbers have a place in a mask
 
-pub evident-at : (o : Observations) (i : ℕ) → All Evident (observationsOf o) → i < o .count → getD (o .evidence) i 0 < 64
+pub evident-at : (o : Observations) (i : ℕ) → All Evident (observationsOf o) → i < o .count → Evidence (getD (o .evidence) i 0)
 unfolding observationsOf
 evident-at o i a h =
     subst Evident (getD-below (o .count) (λ i. record { value = getD (o .values) i 0; evidence = getD (o .evidence) i 0 }) none i h)
@@ -84,9 +84,9 @@ evidence-parts C f =
     ap (λ (x : ℕ). union x (setOf (saidUnknown C f))) (sym (union-append evidenceMark (observedInBooleans (C .booleans) f) (observedInRelations (C .relations) f)))
 
 -- of one record
-pub unknown-evident : (b : Boolean) → EvidentBoolean (booleanOf b) → b .unknown ≡ true → b .evidence < 64
+pub unknown-evident : (b : Boolean) → EvidentBoolean (booleanOf b) → b .unknown ≡ true → Evidence (b .evidence)
 unfolding booleanOf
-unknown-evident b e u = subst (λ (t : Bool). All (λ n. n < 64) (cond t (b .evidence ∷ []) [])) u (e .0) .0
+unknown-evident b e u = subst (λ (t : Bool). All Evidence (cond t (b .evidence ∷ []) [])) u (e .0) .0
 
 pub observations-evident : (b : Boolean) → EvidentBoolean (booleanOf b) → All Evident (observationsOf (b .observations))
 unfolding booleanOf

@@ -9,7 +9,6 @@ use native.Mathlib.Omega.{arith}
 use lib.ListN.{length, getD, take, drop, set, length-set}
 use lib.Seq.{take-suc-set}
 use lib.Dec.{eqb}
-use borrow.Author.Tests.{not-true, not-false}
 use Rattle.sets.specs.paper.Sets.{anyOf}
 use Rattle.records.specs.paper.Fields.{Verdict, fine, refused, firstFault, fault}
 use Rattle.records.specs.paper.Case as paper
@@ -113,9 +112,10 @@ module _ {A B : Type 0} {make : A → B} {key : B → ℕ} {judge : Bool → B �
       unfolding faultsFrom
       open-up = ap (λ zs. firstFault (first + i) (faultsFrom key judge (map make (take i items)) zs) passed) (made-next make items count i d below)
 
-      pub judging-stop : (m : ℕ) → judge twice here ≡ suc m → checkedOf {A = ℕ} (refused (suc m) (first + i)) ≡ whole
+      pub judging-stop : (m : ℕ) → (m ≡ 0 → ⊥) → judge twice here ≡ m → checkedOf {A = ℕ} (refused m (first + i)) ≡ whole
       unfolding firstFault
-      judging-stop m e =
+      judging-stop zero z e = absurd (z refl)
+      judging-stop (suc m) z e =
           ap checkedOf (sym (open-up ∙ ap (λ (m : ℕ). firstFault (first + i) (m ∷ faultsFrom key judge (here ∷ map make (take i items)) (drop (i + 1) (map make (take count items)))) passed) e) ∙ w .left)
 
       pub judging-next : judge twice here ≡ 0 → Judging make key judge items count first most n (set earlier i (key here)) (i + 1)
@@ -169,11 +169,14 @@ pub booleans-whole : (bs : List paper.Boolean) (first : ℕ)
 booleans-whole bs first = ap₂ (λ (k : ℕ) (ns : List ℕ). checkedOf (firstFault k ns passed)) (add-zero first) (sym (boolean-faults [] bs))
 
 -- the fault of a boolean record by its two tests
-pub judge-clash : (t : Bool) (b : paper.Boolean) → not (eqb (length (b .unknown)) 0 || eqb (length (b .observations)) 0) ≡ true → booleanJudge t b ≡ 10
-judge-clash t b e = rw (not-true (eqb (length (b .unknown)) 0 || eqb (length (b .observations)) 0) e)
-
-pub judge-twice : (t : Bool) (b : paper.Boolean) → not (eqb (length (b .unknown)) 0 || eqb (length (b .observations)) 0) ≡ false → booleanJudge t b ≡ fault 5 (not t)
-judge-twice t b e = rw (not-false (eqb (length (b .unknown)) 0 || eqb (length (b .observations)) 0) e)
+pub judge-tests : (t : Bool) (b : paper.Boolean) {clash again : Bool} → clash ≡ not (eqb (length (b .unknown)) 0 || eqb (length (b .observations)) 0) → again ≡ t
+    → booleanJudge t b ≡ cond clash 10 (cond again 5 0)
+judge-tests t b e f = go (eqb (length (b .unknown)) 0 || eqb (length (b .observations)) 0) t ∙ sym (ap₂ (λ (x y : Bool). cond x 10 (cond y 5 0)) e f)
+  where
+    go : (fine again : Bool) → cond fine (fault 5 (not again)) 10 ≡ cond (not fine) 10 (cond again 5 0)
+    go true true = refl
+    go true false = refl
+    go false again = refl
 
 -- ---- the two tests of a boolean record
 

@@ -8,10 +8,10 @@ use native.Mathlib.Omega.{arith}
 use lib.ListN.{length, getD, set, length-append}
 use Rattle.sets.specs.paper.Sets.{allOf, anyOf}
 use Rattle.records.specs.paper.Plan.{Node, literal, fact, conj, disj, neg}
-use Rattle.records.specs.code.Decoded.{nodeBy, planOf}
+use Rattle.records.specs.code.Decoded.{nodeBy, planOf, nodesOf}
 use Rattle.records.specs.declared.plan.Plan.{Plan}
 use Rattle.expressions.specs.paper.Nodes.{on, value, values, valuesFrom, uses, usesFrom, nodeUses}
-use Rattle.expressions.specs.code.Coded.{Holds, nodesOf}
+use Rattle.expressions.specs.code.Coded.{Holds}
 use Rattle.expressions.proofs.ListLaws.{all-agree, any-agree, holds-next}
 use Rattle.sets.proofs.UnionLaws.{union-agree}
 
@@ -102,9 +102,9 @@ uses-next = table-next 0 uses usesFrom (λ done. refl) (λ n ns done. refl) uses
 
 -- over a plan's own nodes these are the definition's
 pub values-of : (plan : Plan) (facts : ℕ) → valuesFrom facts (nodesOf (plan .nodes)) [] ≡ values (planOf plan) facts
-unfolding nodesOf planOf values
+unfolding planOf values
 values-of plan facts = refl
 
 pub uses-of : (plan : Plan) → usesFrom (nodesOf (plan .nodes)) [] ≡ nodeUses (planOf plan)
-unfolding nodesOf planOf nodeUses
+unfolding planOf nodeUses
 uses-of plan = refl

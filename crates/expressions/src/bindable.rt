@@ -1,12 +1,13 @@
-// Refusals 5 and 10 of a case: a family twice; explicit unknown beside observations, a fact twice. Each names the later record.
-use crate::counts::upto;
+// Refusals 5 and 10 of a case: a family twice; per boolean explicit unknown beside observations, a fact twice. What stands twice is refused by its
+// later record.
 use records::case::Boolean;
 use records::case::Booleans;
 use records::case::Case;
 use records::case::Families;
 use records::checked::Checked;
+use sets::numbers::upto;
 ghost use mathlib.Core.Path.{_≡_};
-ghost use mathlib.Core.Bool.{_||_, not};
+ghost use mathlib.Core.Bool.{_||_, not, cond};
 ghost use mathlib.Core.List.{List, [], map};
 ghost use Prim.Native.Nat.{ℕ, _<_};
 ghost use lib.Dec.{eqb};
@@ -61,6 +62,19 @@ fn clashes(b: Boolean) -> bool
     if b.unknown { o.count != 0 } else { false }
 }
 
+// The refusal of a boolean record, 0 for none: 10 where explicit unknown stands beside observations, only then 5 where the fact is there again.
+fn fault_of(clash: bool, again: bool) -> u8
+    ensures { λ r. ⌜ r ≡ cond clash 10 (cond again 5 0) ⌝ }
+{
+    if clash {
+        10
+    } else if again {
+        5
+    } else {
+        0
+    }
+}
+
 // `first`: the number of the first boolean record.
 fn boolean_faults(booleans: Booleans, first: usize) -> Checked
     requires { ⌜ first < 64 ⌝ }
@@ -71,15 +85,10 @@ fn boolean_faults(booleans: Booleans, first: usize) -> Checked
     let mut i: usize = 0;
     while i < n {
         let b = booleans.items[i];
-        if clashes(b) {
+        let number = fault_of(clashes(b), appears(&earlier[..i], b.fact));
+        if number != 0 {
             return Checked::Refused {
-                number: 10,
-                record: first + i,
-            };
-        }
-        if appears(&earlier[..i], b.fact) {
-            return Checked::Refused {
-                number: 5,
+                number: number,
                 record: first + i,
             };
         }

@@ -1,7 +1,6 @@
 // The binding of each fact, as a number: 0 unbound, 1 known false, 2 known true, 3 unknown, 4 conflict of false, 5 conflict of true, 6 conflict of both.
 // What case and plan tell of the facts is gathered by fact first, so that a binding looks at no table.
-use crate::counts::upto;
-use crate::elections::elect;
+use crate::elections::election_policies;
 use crate::observations::Sight;
 use crate::observations::said_unknown;
 use crate::observations::sights_of;
@@ -12,6 +11,7 @@ use records::plan::Fact;
 use records::plan::Plan;
 use sets::bit;
 use sets::contains;
+use sets::numbers::upto;
 use sets::union;
 ghost use mathlib.Core.Path.{_≡_};
 ghost use mathlib.Core.Bool.{not};
@@ -182,7 +182,7 @@ pub fn bind_facts(plan: Plan, case: Case, set: u64) -> Bound
     let scope = scope_of(case);
     let sights = sights_of(booleans, relations);
     let unknown = said_unknown(booleans);
-    let elections = elect(cuts, attachments);
+    let elections = election_policies(cuts, attachments);
     let mut codes = [0u8; 64];
     let mut defaults: u64 = 0;
     let n = upto(facts.count, 64);

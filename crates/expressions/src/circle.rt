@@ -1,8 +1,8 @@
 // A person's circle: that person and all who are reached by what joins persons.
-use crate::counts::upto;
 use crate::groups::Groups;
 use sets::bit;
 use sets::close;
+use sets::numbers::upto;
 ghost use mathlib.Core.Path.{_≡_};
 ghost use mathlib.Core.List.{_++_};
 ghost use Prim.Native.Nat.{_+_, _<_, _≤_};

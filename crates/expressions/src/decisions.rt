@@ -1,6 +1,4 @@
 // The unresolved decisions of a plan, by cut and edge.
-use crate::counts::upto;
-use crate::counts::wide;
 use crate::observations::with_number;
 use crate::rules::ends;
 use records::plan::Cuts;
@@ -8,6 +6,8 @@ use records::plan::Decisions;
 use records::plan::Edges;
 use records::plan::Plan;
 use sets::contains;
+use sets::numbers::upto;
+use sets::numbers::wide;
 use sets::union;
 ghost use mathlib.Core.Path.{_≡_};
 ghost use mathlib.Core.List.{_++_, map};
@@ -15,9 +15,9 @@ ghost use Prim.Native.Nat.{ℕ, _+_, _<_, _≤_};
 ghost use lib.ListN.{length};
 ghost use Rattle.sets.specs.paper.Sets.{has, below, All};
 ghost use Rattle.records.specs.paper.Plan.{Plan as Paper};
-ghost use Rattle.records.specs.code.Decoded.{decisionsOf, planOf};
+ghost use Rattle.records.specs.code.Decoded.{decisionsOf, planOf, cutsOf, edgesOf};
 ghost use Rattle.records.specs.promises.Sound.{Sound};
-ghost use Rattle.expressions.specs.code.Coded.{Holds, EndsFit, cutsOf, edgesOf};
+ghost use Rattle.expressions.specs.code.Coded.{Holds, EndsFit};
 ghost use Rattle.expressions.specs.paper.Influence.{hasVerdict, openIn, openBelow, openDecisions, decisionCount, openTouch, decisionTouch};
 ghost use Rattle.expressions.specs.code.Undecided.{opensOf, Named};
 

@@ -1,16 +1,15 @@
 // The first election on each fact. Elections on one fact are equal in an accepted plan, so the first says all.
-use crate::counts::upto;
-use crate::counts::wide;
 use records::plan::Attachments;
 use records::plan::Cuts;
 use records::plan::Election;
+use sets::numbers::upto;
+use sets::numbers::wide;
 ghost use mathlib.Core.Path.{_≡_};
 ghost use mathlib.Core.List.{_++_, map};
 ghost use Prim.Native.Nat.{ℕ, _<_};
 ghost use lib.ListN.{getD, take};
 ghost use Rattle.records.specs.paper.Plan.{Plan as Paper};
-ghost use Rattle.records.specs.code.Decoded.{electionOf, noElection};
-ghost use Rattle.expressions.specs.code.Coded.{cutsOf, attachmentsOf};
+ghost use Rattle.records.specs.code.Decoded.{electionOf, noElection, cutsOf, attachmentsOf};
 ghost use Rattle.expressions.specs.paper.Bindings.{electionsIn};
 ghost use Rattle.expressions.specs.code.Told.{ElectedBy};
 
@@ -55,7 +54,7 @@ fn elect_by_cuts(elected: Elected, cuts: Cuts) -> Elected
 }
 
 // In one pass over the rules that may have elections.
-pub fn elect(cuts: Cuts, attachments: Attachments) -> Elected
+pub fn election_policies(cuts: Cuts, attachments: Attachments) -> Elected
     ensures { λ r. ⌜ ((P : Paper) → P .cuts ≡ cutsOf cuts → P .attachments ≡ attachmentsOf attachments → ElectedBy P r) ⌝ }
 {
     let none = Elected {

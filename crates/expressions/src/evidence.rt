@@ -1,6 +1,4 @@
 // The evidence that a case gives for each fact, bound or not.
-use crate::counts::upto;
-use crate::counts::wide;
 use crate::observations::entry;
 use records::case::Boolean;
 use records::case::Booleans;
@@ -8,26 +6,30 @@ use records::case::Case;
 use records::case::Observations;
 use records::case::Relations;
 use sets::bit;
+use sets::numbers::upto;
+use sets::numbers::wide;
 use sets::union;
+use sets::whole::whole_256_words;
 ghost use mathlib.Core.Path.{_≡_};
 ghost use mathlib.Core.List.{map};
-ghost use Prim.Native.Nat.{ℕ, _<_};
+ghost use Prim.Native.Nat.{ℕ};
 ghost use lib.Dec.{eqb};
-ghost use lib.ListN.{length, getD, take};
-ghost use Rattle.sets.specs.paper.Sets.{one, union as both, only, unionOf, All};
+ghost use lib.ListN.{getD, take};
+ghost use Rattle.sets.specs.paper.Sets.{one, union, only, unionOf, All};
+ghost use Rattle.records.specs.promises.Sound.{Evidence};
 ghost use Rattle.records.specs.code.Decoded.{observationsOf, booleanOf, relationOf, caseOf};
 ghost use Rattle.expressions.specs.code.Evident.{evidenceMark, booleanEvidence, Evident, EvidentBoolean, EvidentRelation, ReadCase, EvidenceBy};
 
 fn mark(m: u64, e: u8) -> u64
-    requires { ⌜ e < 64 ⌝ }
-    ensures { λ r. ⌜ r ≡ both m (one e) ⌝ }
+    requires { ⌜ Evidence e ⌝ }
+    ensures { λ r. ⌜ r ≡ union m (one e) ⌝ }
 {
     union(m, bit(e))
 }
 
 fn mark_all(m: u64, o: Observations) -> u64
     requires { ⌜ All Evident (observationsOf o) ⌝ }
-    ensures { λ r. ⌜ r ≡ both m (unionOf evidenceMark (observationsOf o)) ⌝ }
+    ensures { λ r. ⌜ r ≡ union m (unionOf evidenceMark (observationsOf o)) ⌝ }
 {
     let mut all = m;
     let n = o.count;
@@ -54,16 +56,11 @@ fn evidence_in(b: Boolean) -> u64
     }
 }
 
-// A table has its 256 entries, which a reference to it does not tell the proof. The compiler drops the call with its copy.
-fn whole(table: [u64; 256])
-    ensures { λ r. ⌜ length table ≡ 256 ⌝ }
-{}
-
 // More evidence for a fact.
 fn note(table: &mut [u64; 256], fact: u8, more: u64)
-    ensures { λ r. ⌜ ((f : ℕ) → getD (now (table .exit)) f 0 ≡ both (getD (now (table .entry)) f 0) (only (eqb fact f) more)) ⌝ }
+    ensures { λ r. ⌜ ((f : ℕ) → getD (now (table .exit)) f 0 ≡ union (getD (now (table .entry)) f 0) (only (eqb fact f) more)) ⌝ }
 {
-    whole(*table);
+    whole_256_words(*table);
     let f = wide(fact);
     let m = union(table[f], more);
     table[f] = m;
@@ -71,7 +68,7 @@ fn note(table: &mut [u64; 256], fact: u8, more: u64)
 
 fn note_booleans(table: &mut [u64; 256], booleans: Booleans)
     requires { ⌜ All EvidentBoolean (map booleanOf (take (booleans .count) (booleans .items))) ⌝ }
-    ensures { λ r. ⌜ ((f : ℕ) → getD (now (table .exit)) f 0 ≡ both (getD (now (table .entry)) f 0) (unionOf (λ b. only (eqb (b .fact) f) (booleanEvidence b)) (map booleanOf (take (booleans .count) (booleans .items))))) ⌝ }
+    ensures { λ r. ⌜ ((f : ℕ) → getD (now (table .exit)) f 0 ≡ union (getD (now (table .entry)) f 0) (unionOf (λ b. only (eqb (b .fact) f) (booleanEvidence b)) (map booleanOf (take (booleans .count) (booleans .items))))) ⌝ }
 {
     let n = upto(booleans.count, 64);
     let mut i: usize = 0;
@@ -85,7 +82,7 @@ fn note_booleans(table: &mut [u64; 256], booleans: Booleans)
 
 fn note_relations(table: &mut [u64; 256], relations: Relations)
     requires { ⌜ All EvidentRelation (map relationOf (take (relations .count) (relations .items))) ⌝ }
-    ensures { λ r. ⌜ ((f : ℕ) → getD (now (table .exit)) f 0 ≡ both (getD (now (table .entry)) f 0) (unionOf (λ r. only (eqb (r .fact) f) (evidenceMark (r .observation))) (map relationOf (take (relations .count) (relations .items))))) ⌝ }
+    ensures { λ r. ⌜ ((f : ℕ) → getD (now (table .exit)) f 0 ≡ union (getD (now (table .entry)) f 0) (unionOf (λ r. only (eqb (r .fact) f) (evidenceMark (r .observation))) (map relationOf (take (relations .count) (relations .items))))) ⌝ }
 {
     let n = upto(relations.count, 256);
     let mut i: usize = 0;

@@ -1,10 +1,11 @@
 // The influence of facts and decisions: whom they touch, closed under the rules.
-use crate::counts::upto;
 use crate::reach::Reach;
 use sets::bit;
 use sets::close;
 use sets::contains;
+use sets::numbers::upto;
 use sets::union;
+use sets::whole::whole_80_words;
 ghost use mathlib.Core.Path.{_≡_};
 ghost use mathlib.Core.List.{_++_};
 ghost use Prim.Native.Nat.{ℕ, _+_, _<_, _≤_};
@@ -19,17 +20,12 @@ pub struct Influence {
     pub sets: [u64; 80],
 }
 
-// A list has its 80 entries, which a reference to it does not tell the proof. The compiler drops the call with its copy.
-fn whole(list: [u64; 80])
-    ensures { λ r. ⌜ length list ≡ 80 ⌝ }
-{}
-
 // The closings of the sets of `touches` that are wanted by number, behind the first `at` of a list; nobody for the others.
 fn close_each(known: &mut [u64; 80], at: usize, groups: &[u64], touches: &[u64], wanted: u64)
     requires { ⌜ at + length (now touches) ≤ 80 ⌝ }
     ensures { λ r. ⌜ take (at + length (now (touches .entry))) (now (known .exit)) ≡ take at (now (known .entry)) ++ below (length (now (touches .entry))) (closedIf (now (groups .entry)) wanted (now (touches .entry))) ⌝ }
 {
-    whole(*known);
+    whole_80_words(*known);
     let mut i: usize = 0;
     while i < touches.len() {
         let mut set: u64 = 0;
@@ -42,7 +38,7 @@ fn close_each(known: &mut [u64; 80], at: usize, groups: &[u64], touches: &[u64],
 }
 
 // The influence of each fact that is a variable, then of each unresolved decision.
-pub fn influence_of(reach: Reach, variables: u64) -> Influence
+pub fn influence_sets(reach: Reach, variables: u64) -> Influence
     requires { ⌜ (reach .count ≤ 64) × (reach .undecided .count ≤ 16) ⌝ }
     ensures { λ r. ⌜ setsOf r ≡ influenceBy reach variables ⌝ }
 {

@@ -2,7 +2,6 @@
 pub mod bindable;
 pub mod bindings;
 pub mod circle;
-pub mod counts;
 pub mod decisions;
 pub mod elections;
 pub mod evidence;

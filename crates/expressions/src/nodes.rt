@@ -1,17 +1,17 @@
-// Conditions in a table of nodes, each valued once; the facts that each uses.
-use crate::counts::upto;
-use crate::counts::wide;
+// Conditions in a table of nodes, each valued once.
 use records::plan::Node;
 use records::plan::Nodes;
 use records::plan::Numbers;
 use sets::contains;
+use sets::numbers::upto;
+use sets::numbers::wide;
 ghost use mathlib.Core.Path.{_≡_};
 ghost use Rattle.sets.specs.paper.Sets.{anyOf};
-ghost use Rattle.records.specs.code.Decoded.{numbersOf, nodeOf};
+ghost use Rattle.records.specs.code.Decoded.{numbersOf, nodeOf, nodesOf};
 ghost use mathlib.Core.Bool.{false, Bool·beq};
 ghost use mathlib.Core.List.{[]};
 ghost use Rattle.expressions.specs.paper.Nodes.{on, value as valueOf, valuesFrom};
-ghost use Rattle.expressions.specs.code.Coded.{Holds, nodesOf};
+ghost use Rattle.expressions.specs.code.Coded.{Holds};
 
 // Whether one of these nodes has the value asked for.
 fn one_is(children: Numbers, lower: &[bool; 256], wanted: bool) -> bool

@@ -9,12 +9,12 @@ ghost use Rattle.sets.specs.paper.Sets.{has};
 ghost use Rattle.records.specs.code.Decoded.{observationsOf, booleanOf, relationOf};
 ghost use Rattle.expressions.specs.paper.Bindings.{unknownIn, observedInBooleans, observedInRelations};
 ghost use Rattle.expressions.specs.code.Sight.{nothing, lookAt, lookAll};
-use crate::counts::upto;
-use crate::counts::wide;
 use records::case::Booleans;
 use records::case::Observations;
 use records::case::Relations;
 use sets::bit;
+use sets::numbers::upto;
+use sets::numbers::wide;
 use sets::union;
 
 // What was seen of a fact so far: the first pair of value and evidence, whether another pair came, whether another value did.

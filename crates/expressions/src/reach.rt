@@ -1,6 +1,5 @@
 // What is made once for a case: the sets that a closing goes by, the bound facts, whom each fact touches, and the unresolved decisions with
 // whom they touch.
-use crate::counts::upto;
 use crate::decisions::Undecided;
 use crate::decisions::decision_touches;
 use crate::decisions::open_decisions;
@@ -14,12 +13,13 @@ use crate::touch::touches;
 use records::case::Constraints;
 use records::plan::Facts;
 use records::plan::Plan;
+use sets::numbers::upto;
 ghost use mathlib.Core.Path.{_≡_};
 ghost use Prim.Native.Nat.{_≤_};
 ghost use lib.ListN.{length};
 ghost use Rattle.records.specs.promises.Sound.{Sound};
-ghost use Rattle.records.specs.code.Decoded.{planOf};
-ghost use Rattle.expressions.specs.code.Coded.{factsOf, frameBy, HoldsUses};
+ghost use Rattle.records.specs.code.Decoded.{planOf, factsOf};
+ghost use Rattle.expressions.specs.code.Coded.{frameBy, HoldsUses};
 ghost use Rattle.expressions.specs.code.Reached.{Reached};
 
 // `count`: how many facts there are

@@ -1,6 +1,4 @@
 // The rules of a plan in two lent lists, made once: the facts that each uses, and whom it holds.
-use crate::counts::upto;
-use crate::counts::wide;
 use crate::uses::used_by;
 use records::plan::Attachment;
 use records::plan::Attachments;
@@ -11,31 +9,28 @@ use records::plan::Edges;
 use records::plan::Plan;
 use records::plan::Statuses;
 use sets::bit;
+use sets::numbers::upto;
+use sets::numbers::wide;
 use sets::union;
+use sets::whole::whole_176_words;
 ghost use mathlib.Core.Path.{_≡_};
 ghost use mathlib.Core.List.{[], _∷_, map};
 ghost use Prim.Native.Nat.{_<_, _≤_, _+_};
-ghost use lib.ListN.{length};
 ghost use Rattle.sets.specs.paper.Sets.{one, All};
 ghost use Rattle.records.specs.promises.Sound.{Sound};
-ghost use Rattle.records.specs.code.Decoded.{edgeOf, attachmentOf, planOf};
-ghost use Rattle.expressions.specs.code.Coded.{edgesOf, cutsOf, attachmentsOf, barsOf, statusesOf, EndsFit, AnchorFits, PersonFits};
+ghost use Rattle.records.specs.code.Decoded.{edgeOf, attachmentOf, planOf, edgesOf, cutsOf, attachmentsOf, barsOf, statusesOf};
+ghost use Rattle.expressions.specs.code.Coded.{EndsFit, AnchorFits, PersonFits};
 ghost use Rattle.expressions.specs.paper.Rules.{endsOf, withAnchorOf};
 ghost use Rattle.expressions.specs.paper.Influence.{edgeUsed};
 ghost use Rattle.expressions.specs.code.Listed.{lists, Joining, Listed, usedAt, cutUsed, heldByCut, attachmentUsed, barUsed, heldByBar, statusUsed, heldByStatus, Added};
-
-// A list has its 176 entries, which a reference to it does not tell the proof. The compiler drops the call with its copy.
-fn whole(list: [u64; 176])
-    ensures { λ r. ⌜ length list ≡ 176 ⌝ }
-{}
 
 // One rule more, behind the first `at`.
 fn push(uses: &mut [u64; 176], persons: &mut [u64; 176], at: usize, used: u64, held: u64)
     requires { ⌜ at < 176 ⌝ }
     ensures { λ r. ⌜ Added (lists at (now (uses .entry)) (now (persons .entry))) (lists (at + 1) (now (uses .exit)) (now (persons .exit))) (used ∷ []) (held ∷ []) ⌝ }
 {
-    whole(*uses);
-    whole(*persons);
+    whole_176_words(*uses);
+    whole_176_words(*persons);
     uses[at] = used;
     persons[at] = held;
 }
@@ -198,8 +193,8 @@ pub fn joining(
     let second = add_cuts(uses, persons, first, cuts, nodes);
     let third = add_attachments(uses, persons, second, attachments, nodes);
     let n = add_bars(uses, persons, third, bars, nodes);
-    whole(*uses);
-    whole(*persons);
+    whole_176_words(*uses);
+    whole_176_words(*persons);
     n
 }
 
@@ -216,7 +211,7 @@ pub fn all_rules(
 {
     let statuses = plan.statuses;
     let n = add_statuses(uses, persons, joined, statuses, nodes);
-    whole(*uses);
-    whole(*persons);
+    whole_176_words(*uses);
+    whole_176_words(*persons);
     n
 }

@@ -1,6 +1,4 @@
 // Whom a fact touches: the persons it names, the roster if a constraint uses it, and the persons of the rules that use it.
-use crate::counts::upto;
-use crate::counts::wide;
 use crate::uses::used_by;
 use records::case::Constraints;
 use records::plan::Fact;
@@ -8,12 +6,14 @@ use records::plan::Facts;
 use records::plan::Numbers;
 use sets::bit;
 use sets::contains;
+use sets::numbers::upto;
+use sets::numbers::wide;
 use sets::union;
 ghost use mathlib.Core.Path.{_≡_};
 ghost use lib.ListN.{length, take};
-ghost use Rattle.sets.specs.paper.Sets.{union as both, unionOf, setOf, All};
-ghost use Rattle.records.specs.code.Decoded.{factOf};
-ghost use Rattle.expressions.specs.code.Coded.{Holds, TupleFits, factsOf};
+ghost use Rattle.sets.specs.paper.Sets.{union, unionOf, setOf, All};
+ghost use Rattle.records.specs.code.Decoded.{factOf, factsOf};
+ghost use Rattle.expressions.specs.code.Coded.{Holds, TupleFits};
 ghost use Rattle.expressions.specs.code.Listed.{usedAt, usersIn, touchedBy, touchesBy};
 
 // The facts that the constraints use.
@@ -33,7 +33,7 @@ pub fn constraint_uses(constraints: Constraints, nodes: &[u64; 256]) -> u64
 
 // Only facts that a condition, defeater or constraint uses are bound.
 pub fn bound_facts(uses: &[u64], constraints: u64) -> u64
-    ensures { λ r. ⌜ r ≡ both constraints (unionOf (λ u. u) (now (uses .entry))) ⌝ }
+    ensures { λ r. ⌜ r ≡ union constraints (unionOf (λ u. u) (now (uses .entry))) ⌝ }
 {
     let mut m = constraints;
     let mut i: usize = 0;
@@ -61,7 +61,7 @@ fn users(uses: &[u64], persons: &[u64], f: u8) -> u64
 }
 
 // The persons that a fact names.
-fn named(fact: Fact) -> u64
+fn named_persons(fact: Fact) -> u64
     requires { ⌜ TupleFits (factOf fact) ⌝ }
     ensures { λ r. ⌜ r ≡ setOf (factOf fact .tuple) ⌝ }
 {
@@ -90,7 +90,7 @@ pub fn touched(
     if contains(constraints, f) {
         all = roster;
     }
-    union(named(fact), union(all, users(uses, persons, f)))
+    union(named_persons(fact), union(all, users(uses, persons, f)))
 }
 
 // Whom each fact touches; nobody for a fact that is not bound.

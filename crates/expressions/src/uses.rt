@@ -1,18 +1,18 @@
 // The facts that each node uses: use is textual, short cuts ignored.
-use crate::counts::upto;
-use crate::counts::wide;
 use records::plan::Node;
 use records::plan::Nodes;
 use records::plan::Numbers;
 use sets::bit;
+use sets::numbers::upto;
+use sets::numbers::wide;
 use sets::union;
 ghost use mathlib.Core.Path.{_≡_};
 ghost use Prim.Native.Nat.{ℕ};
 ghost use lib.ListN.{getD};
 ghost use Rattle.sets.specs.paper.Sets.{unionOf, All};
-ghost use Rattle.records.specs.code.Decoded.{numbersOf, nodeOf};
+ghost use Rattle.records.specs.code.Decoded.{numbersOf, nodeOf, nodesOf};
 ghost use Rattle.expressions.specs.paper.Nodes.{uses};
-ghost use Rattle.expressions.specs.code.Coded.{HoldsUses, FactFits, nodesOf};
+ghost use Rattle.expressions.specs.code.Coded.{HoldsUses, FactFits};
 
 // The facts that any of these nodes uses.
 pub fn used_by(nodes: Numbers, lower: &[u64; 256]) -> u64

@@ -8,11 +8,13 @@ mod load;
 use libc::STDOUT_FILENO;
 use listing::list::list;
 use load::load;
+use report::event::EVENT;
+use report::line::LINE;
 
 // The buffers hold 64 lines and 4,096 events.
 fn print(plan: &[u8], case: &[u8]) {
-    let mut lines = [0u8; 1856];
-    let mut events = [0u8; 49152];
+    let mut lines = [0u8; 64 * LINE];
+    let mut events = [0u8; 4096 * EVENT];
     let mut out = [0u8; 16384];
     let n = list(plan, case, &mut lines, &mut events, &mut out);
     io::write_all(STDOUT_FILENO, &out[..n]);

@@ -8,7 +8,7 @@ use lib.ListN.{length, length-append, length-map, replicate}
 use lib.Seq.{length-take-le}
 use lib.Dec.{ltb}
 use Rattle.sets.specs.paper.Sets.{members, membersFrom, when}
-use Rattle.report.specs.paper.Line.{Line, lineBytes, bareLine}
+use Rattle.report.specs.paper.Line.{Line, lineBytes, bareLine, lineLength}
 use Rattle.report.specs.paper.LineAt.{linesFrom}
 use Rattle.report.specs.paper.EventList.{eventLength}
 use Rattle.report.specs.declared.Answer.{Answer}
@@ -34,7 +34,7 @@ members-few (suc k) p m = pick (m % 2) (members-few k (suc p) (m / 2))
     pick zero h = omega arith
     pick (suc d) h = omega arith
 
-run-length : (ls : List Line) → length (run ls) ≡ 29 * length ls
+run-length : (ls : List Line) → length (run ls) ≡ lineLength * length ls
 unfolding flatMap
 run-length [] = refl
 run-length (l ∷ ls) = length-append (lineBytes l) (run ls) ∙ (let a = line-length l in let b = run-length ls in omega arith)
@@ -45,7 +45,7 @@ zeros-length (suc n) = ap suc (zeros-length n)
 
 -- of an outcome whose buffer of lines is as long as the one lent
 abbrev Few : ℕ → Outcome → Type 0
-Few l o = length (o .lines) ≡ l → (told (o .answer) .lines ≤ 64) × (29 * told (o .answer) .lines ≤ l)
+Few l o = length (o .lines) ≡ l → (told (o .answer) .lines ≤ 64) × (lineLength * told (o .answer) .lines ≤ l)
 
 written-few : (l e roster : ℕ) (line : ℕ → Line) (es : List (List ℕ)) (n : ℕ) → Few l (written l e (map line (members roster)) es n)
 unfolding written members
@@ -84,7 +84,7 @@ answered-few plan case l e = over (opened plan case l) (opened-law plan case l)
 module _ (plan case lines₀ events₀ lines₁ events₁ : List ℕ) (a : Answer)
     (answered : _≡_ {A = Outcome} (record { answer = a; lines = lines₁; events = events₁ }) (answer plan case (length lines₀) (length events₀)))
     (t : Told) (tells : TellsAnswer (told a) t) where
-  pub lines-few : length lines₁ ≡ length lines₀ → (t .lines ≤ 64) × (29 * t .lines ≤ length lines₁)
+  pub lines-few : length lines₁ ≡ length lines₀ → (t .lines ≤ 64) × (lineLength * t .lines ≤ length lines₁)
   lines-few h =
       let few = answered-few plan case (length lines₀) (length events₀) (ap (λ (o : Outcome). length (o .lines)) (sym answered) ∙ h) in
       let same = tells .lines ∙ ap (λ (o : Outcome). told (o .answer) .lines) answered in

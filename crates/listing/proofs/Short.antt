@@ -71,8 +71,9 @@ rows-short s h (suc n) k =
     let long = length-append (row (decoded (lineAt s k))) (rows (linesFrom s (suc k) n)) in
     omega arith
   where
-    byte : (i : ℕ) → i < 29 → getD (take lineLength (drop (lineLength * k) s)) i 0 < 256
-    byte i l = subst (λ (x : ℕ). x < 256) (sym (getD-take 29 (drop (29 * k) s) i 0 l ∙ getD-drop (29 * k) s i 0)) (h (29 * k + i))
+    byte : (i : ℕ) → i < lineLength → getD (take lineLength (drop (lineLength * k) s)) i 0 < 256
+    byte i l =
+        subst (λ (x : ℕ). x < 256) (sym (getD-take lineLength (drop (lineLength * k) s) i 0 l ∙ getD-drop (lineLength * k) s i 0)) (h (lineLength * k + i))
 
 -- ---- units: no more than lines
 

@@ -1,9 +1,11 @@
 // The fields of a line that the table shows, read out of the buffer of lines.
-use records::fields::to_u64;
+use report::line::LINE;
+use sets::numbers::to_u64;
 ghost use mathlib.Core.Path.{_≡_};
 ghost use Prim.Native.Nat.{_+_, _*_, _≤_};
 ghost use lib.ListN.{length, take, drop};
 ghost use Rattle.records.specs.paper.Fields.{little};
+ghost use Rattle.report.specs.paper.Line.{lineLength};
 ghost use Rattle.report.specs.paper.LineAt.{lineAt, decoded};
 ghost use Rattle.listing.specs.Shown.{Shows};
 
@@ -31,7 +33,7 @@ fn block_of(line: &[u8]) -> u64
 }
 
 fn fields_of(line: &[u8]) -> Fields
-    requires { ⌜ 29 ≤ length (now line) ⌝ }
+    requires { ⌜ lineLength ≤ length (now line) ⌝ }
     ensures { λ r. ⌜ Shows (decoded (now (line .entry))) r ⌝ }
 {
     Fields {
@@ -44,10 +46,10 @@ fn fields_of(line: &[u8]) -> Fields
 
 // Line k.
 pub fn fields_at(lines: &[u8], k: usize) -> Fields
-    requires { ⌜ 29 * k + 29 ≤ length (now lines) ⌝ }
+    requires { ⌜ lineLength * k + lineLength ≤ length (now lines) ⌝ }
     ensures { λ r. ⌜ Shows (decoded (lineAt (now (lines .entry)) k)) r ⌝ }
 {
-    let from = 29 * k;
-    let to = from + 29;
+    let from = LINE * k;
+    let to = from + LINE;
     fields_of(&lines[from..to])
 }

@@ -10,6 +10,7 @@ use report::operations::answer;
 ghost use mathlib.Core.Path.{_≡_};
 ghost use Prim.Native.Nat.{_*_, _≤_};
 ghost use lib.ListN.{length};
+ghost use Rattle.report.specs.paper.Line.{lineLength};
 ghost use Rattle.report.specs.paper.Operations.{told as toldOf, answer as answerOf};
 ghost use Rattle.report.specs.paper.LineAt.{linesFrom};
 ghost use Rattle.report.specs.paper.Units.{units};
@@ -53,7 +54,7 @@ fn tell(found: Answer) -> Told
 }
 
 fn put_last(out: &mut [u8], at: usize, lines: &[u8], n: usize) -> usize
-    requires { ⌜ (n ≤ 64) × (29 * n ≤ length (now lines)) ⌝ }
+    requires { ⌜ (n ≤ 64) × (lineLength * n ≤ length (now lines)) ⌝ }
     ensures { λ r. ⌜ record { count = r; out = now (out .exit) } ≡ puts (record { count = at; out = now (out .entry) }) (lastRow (units (linesFrom (now (lines .entry)) 0 n))) ⌝ }
 {
     let found = units_of(lines, n);
@@ -63,7 +64,7 @@ fn put_last(out: &mut [u8], at: usize, lines: &[u8], n: usize) -> usize
 }
 
 fn put_table(out: &mut [u8], lines: &[u8], n: usize) -> usize
-    requires { ⌜ (n ≤ 64) × (29 * n ≤ length (now lines)) ⌝ }
+    requires { ⌜ (n ≤ 64) × (lineLength * n ≤ length (now lines)) ⌝ }
     ensures { λ r. ⌜ record { count = r; out = now (out .exit) } ≡ puts (record { count = 0; out = now (out .entry) }) (table (linesFrom (now (lines .entry)) 0 n)) ⌝ }
     ensures { λ r. ⌜ length (table (linesFrom (now (lines .entry)) 0 n)) ≤ longest ⌝ }
 {

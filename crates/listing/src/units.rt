@@ -6,6 +6,7 @@ ghost use Prim.Native.Nat.{_+_, _*_, _≤_, _<_};
 ghost use lib.ListN.{length, take};
 ghost use lib.Dec.{eqb};
 ghost use Rattle.sets.specs.paper.Sets.{anyOf};
+ghost use Rattle.report.specs.paper.Line.{lineLength};
 ghost use Rattle.report.specs.paper.LineAt.{linesFrom};
 ghost use Rattle.report.specs.paper.Units.{joinUnit, units};
 ghost use Rattle.listing.specs.Shown.{IsUnits};
@@ -63,7 +64,7 @@ impl Units {
 
 // Of the first n lines.
 pub fn units_of(lines: &[u8], n: usize) -> Units
-    requires { ⌜ (n ≤ 64) × (29 * n ≤ length (now lines)) ⌝ }
+    requires { ⌜ (n ≤ 64) × (lineLength * n ≤ length (now lines)) ⌝ }
     ensures { λ r. ⌜ IsUnits (units (linesFrom (now (lines .entry)) 0 n)) r ⌝ }
 {
     let mut found = Units::none();

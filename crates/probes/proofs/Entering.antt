@@ -12,7 +12,7 @@ use borrow.Author.Tests.{eq-eqb, ne-eqb}
 use Rattle.records.specs.paper.Fields.{Verdict, fine, refused, onFine}
 use Rattle.records.specs.paper.Plan.{Plan, checkedPlan}
 use Rattle.records.specs.paper.Case.{Case, CaseHeading, readCase, caseHeading}
-use Rattle.records.specs.code.Decoded.{planOf, caseOf, caseHeadingOf}
+use Rattle.records.specs.code.Decoded.{planOf, caseOf, caseHeadingOf, factsOf}
 use Rattle.records.specs.code.PlanRead.{planReadOf}
 use Rattle.records.specs.code.CaseRead.{caseReadOf}
 use Rattle.records.specs.promises.Sound.{Sound, SoundCase}
@@ -24,7 +24,7 @@ use Rattle.sets.specs.paper.Sets.{has}
 use Rattle.expressions.specs.paper.Influence.{Frame, openDecisions, decisionCount}
 use Rattle.expressions.specs.paper.Variables.{isVariable, slotsBy, slots, booleansAmong, booleanCount, worldCount}
 use Rattle.expressions.specs.code.Codes.{boundOf}
-use Rattle.expressions.specs.code.Counted.{countOf, Counts}
+use Rattle.expressions.specs.code.Counted.{countAgainst, Counts}
 use Rattle.expressions.specs.code.Reached.{Reached}
 use Rattle.expressions.specs.code.Influences.{influenceBy, setsOf}
 use Rattle.expressions.specs.declared.influence.Influence.{Influence}
@@ -34,7 +34,7 @@ use Rattle.expressions.proofs.SlotLaws.{variable-from, order-of}
 use Rattle.expressions.proofs.CountLaws.{boolean-few}
 use Rattle.expressions.proofs.OpenLaws.{opens-number}
 use Rattle.expressions.specs.paper.Bindings.{Bound, bindings, bindingsBy, bindingAt, bindable, frameOf}
-use Rattle.expressions.specs.code.Coded.{factsOf, frameBy}
+use Rattle.expressions.specs.code.Coded.{frameBy}
 use Rattle.expressions.proofs.FactLaws.{bindings-by}
 use Rattle.expressions.proofs.ReachLaws.{frame-of, heading-of, influence-list}
 use Rattle.records.specs.code.Check.{checkedOf}
@@ -115,7 +115,7 @@ module _ (plan : Coded) (case : CodedCase) (sound : Sound (planOf plan)) (whole 
 
   module _ (booleans : ℕ) (b : booleans ≡ booleansAmong (factsOf (plan .facts))) where
     booleans-are : booleans ≡ booleanCount Pl
-    unfolding factsOf booleanCount planOf
+    unfolding booleanCount planOf
     booleans-are = b
 
     pub booleans-fit : booleans ≤ reach .count
@@ -136,11 +136,11 @@ module _ (plan : Coded) (case : CodedCase) (sound : Sound (planOf plan)) (whole 
         varied f (le-trans h (sound .factLimit)) ∙ sym (variable-from (getD codes f 0)) ∙ ap isVariable (coded f))
 
     pub worlds-counted : (r : Count) → Counts codes (reach .count) (reach .undecided .count) (case .heading .«most_worlds») r
-        → r ≡ countOf (worldCount Pl bs) (caseHeading Ca .mostWorlds)
+        → r ≡ countAgainst (worldCount Pl bs) (caseHeading Ca .mostWorlds)
     unfolding caseHeadingOf
     worlds-counted r counts =
         counts .worlds Pl bs (sym (over .count)) (sym decisions-few) coded
-        ∙ ap (λ (h : CaseHeading). countOf (worldCount Pl bs) (h .mostWorlds)) (sym (heading-of case (whole .heading)))
+        ∙ ap (λ (h : CaseHeading). countAgainst (worldCount Pl bs) (h .mostWorlds)) (sym (heading-of case (whole .heading)))
 
 -- ---- the refusals that come with binding
 

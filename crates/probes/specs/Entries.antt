@@ -8,7 +8,7 @@ use Rattle.records.specs.paper.Case.{Case, readCase, caseHeading}
 use Rattle.expressions.specs.paper.Bindings.{just, both, Bound, unbound, known, unknown, conflict, bindings, bindingAt, frameOf, bindable}
 use Rattle.expressions.specs.paper.Variables.{Influence, influence, Slot, fact, decision, slots, choice, isVariable, worldCount}
 use Rattle.expressions.specs.code.Slots.{choiceCode}
-use Rattle.expressions.specs.code.Counted.{countOf}
+use Rattle.expressions.specs.code.Counted.{countAgainst}
 use Rattle.expressions.specs.declared.variables.Count.{Count}
 
 -- the refusal's number, 0 for none, and its record
@@ -105,7 +105,7 @@ abbrev pub nothingCounted : Count
 nothingCounted = record { refused = false; count = 0; maximum = 0 }
 
 abbrev pub countIn : Verdict Given → Count
-countIn (fine g) = countOf (worldCount (g .plan) (bindingsOf g)) (caseHeading (g .case) .mostWorlds)
+countIn (fine g) = countAgainst (worldCount (g .plan) (bindingsOf g)) (caseHeading (g .case) .mostWorlds)
 countIn (refused n k) = nothingCounted
 
 unfoldable pub worldsCounted : List ℕ → List ℕ → Count

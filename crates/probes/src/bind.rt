@@ -3,7 +3,7 @@ use crate::refusal::Refusal;
 use crate::refusal::refusal_of;
 use expressions::bindings::bindings;
 use expressions::influence::Influence;
-use expressions::influence::influence_of;
+use expressions::influence::influence_sets;
 use expressions::influence::variables_of;
 use expressions::reach::reach_of;
 use expressions::slots::Slots;
@@ -70,7 +70,7 @@ fn bound_over(plan: Plan, case: Case) -> Bound
     let reach = reach_of(plan, &uses, heading.roster, constraints);
     let codes = bindings(plan, case, reach.bound);
     let variables = variables_of(codes);
-    let influence = influence_of(reach, variables);
+    let influence = influence_sets(reach, variables);
     let facts = plan.facts;
     let booleans = boolean_count(facts);
     let undecided = reach.undecided;

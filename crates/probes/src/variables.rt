@@ -1,9 +1,9 @@
 // The variables of a case, in order, each as a number.
 use crate::bind::bind;
-use expressions::counts::upto;
-use expressions::counts::wide;
 use expressions::slots::Slots;
 use expressions::slots::candidates;
+use sets::numbers::upto;
+use sets::numbers::wide;
 ghost use mathlib.Core.Path.{_≡_};
 ghost use mathlib.Core.List.{[], _∷_, _++_, map};
 ghost use Prim.Native.Nat.{_+_, _<_};

@@ -1,12 +1,11 @@
--- What is read out of a buffer that was filled with lines: the line's own person, kind and block, or nothing past the last.
+-- What is read out of a buffer that was filled with lines: the line's own person, kind, role and block, or nothing past the last.
 use mathlib.Core.Path.{_≡_, refl, sym, ap, _∙_, subst}
-use mathlib.Core.List.{List, [], _∷_, _++_, map}
+use mathlib.Core.List.{List, [], _∷_, map}
 use mathlib.Core.Logic.{_⊎_, inl, inr, ⊎-elim}
 use Prim.Native.Nat.{ℕ, zero, suc, _*_, _-_, _/_, _^_, _≤_, _<_}
 use native.Mathlib.Nat.{pow-suc}
 use native.Mathlib.Omega.{arith}
 use lib.ListN.{length, getD, take, drop, replicate, take-append-drop, List·getD-eq-default}
-use lib.Seq.{take-at}
 use Rattle.sets.specs.paper.Sets.{All}
 use Rattle.records.specs.paper.Fields.{little}
 use Rattle.sets.proofs.SetLaws.{lt-or-le}
@@ -16,14 +15,9 @@ use Rattle.report.specs.paper.Line.{Line, lineBytes, lineLength, bareLine}
 use Rattle.report.specs.paper.LineAt.{lineAt, decoded}
 use Rattle.report.specs.paper.Operations.{filled}
 use Rattle.report.proofs.LinesAt.{run, line-at, past-lines}
-use Rattle.promises.specs.Partitioned.{personAt, kindAt, blockAt}
+use Rattle.promises.specs.Partitioned.{personAt, kindAt, roleAt, blockAt}
 
 -- ---- numbers as bytes
-
-length-little : (n m : ℕ) → length (littleBytes n m) ≡ n
-unfolding littleBytes
-length-little zero m = refl
-length-little (suc n) m = ap suc (length-little n (m / 256))
 
 little-bytes : (n m : ℕ) → m < 256 ^ n → little (littleBytes n m) ≡ m
 unfolding littleBytes little
@@ -35,17 +29,30 @@ little-bytes (suc n) m h =
 
 -- ---- a line that is read back is the line, where its fields fit their bytes
 
-pub decoded-line : (l : Line) → l .block < 2 ^ 64 → l .openFacts < 2 ^ 64 → l .openDecisions < 2 ^ 16 → l .citations < 2 ^ 64 → decoded (lineBytes l) ≡ l
-unfolding decoded lineBytes littleBytes
-decoded-line l b f d c = λ i. record {
-  person = l .person;
-  kind = l .kind;
-  role = l .role;
-  block = little-bytes 8 (l .block) b i;
-  openFacts = little-bytes 8 (l .openFacts) f i;
-  openDecisions = little-bytes 2 (l .openDecisions) d i;
-  citations = little-bytes 8 (l .citations) c i;
-}
+module _ (l : Line) where
+  pub block-back : l .block < 2 ^ 64 → decoded (lineBytes l) .block ≡ l .block
+  unfolding decoded lineBytes littleBytes
+  block-back h = little-bytes 8 (l .block) h
+
+  pub facts-back : l .openFacts < 2 ^ 64 → decoded (lineBytes l) .openFacts ≡ l .openFacts
+  unfolding decoded lineBytes littleBytes
+  facts-back h = little-bytes 8 (l .openFacts) h
+
+  pub decisions-back : l .openDecisions < 2 ^ 16 → decoded (lineBytes l) .openDecisions ≡ l .openDecisions
+  unfolding decoded lineBytes littleBytes
+  decisions-back h = little-bytes 2 (l .openDecisions) h
+
+  pub decoded-line : l .block < 2 ^ 64 → l .openFacts < 2 ^ 64 → l .openDecisions < 2 ^ 16 → l .citations < 2 ^ 64 → decoded (lineBytes l) ≡ l
+  unfolding decoded lineBytes littleBytes
+  decoded-line b f d c = λ i. record {
+    person = l .person;
+    kind = l .kind;
+    role = l .role;
+    block = block-back b i;
+    openFacts = facts-back f i;
+    openDecisions = decisions-back d i;
+    citations = little-bytes 8 (l .citations) c i;
+  }
 
 -- ---- zeros
 
@@ -72,13 +79,21 @@ zeros-little (b ∷ bs) h =
 abbrev pub none : Line
 none = bareLine 0 0
 
--- bytes of a line of which nothing is written
-blank : (s : List ℕ) → Zeros s → ((i : ℕ) → getD s i 0 ≡ 0) × (little (take 8 (drop 3 s)) ≡ 0)
-blank s z = (all-getD (λ b. b ≡ 0) s 0 z refl, zeros-little (take 8 (drop 3 s)) (zeros-parts 8 (drop 3 s) (zeros-parts 3 s z .1) .0))
+-- in bytes of which nothing is written every number is 0
+blank-byte : (s : List ℕ) (i : ℕ) → Zeros s → getD s i 0 ≡ 0
+blank-byte s i z = all-getD (λ b. b ≡ 0) s 0 z refl i
+
+blank-block : (s : List ℕ) → Zeros s → decoded s .block ≡ 0
+unfolding decoded
+blank-block s z = zeros-little (take 8 (drop 3 s)) (zeros-parts 8 (drop 3 s) (zeros-parts 3 s z .1) .0)
+
+zeros-line : (s : List ℕ) (k : ℕ) → Zeros s → Zeros (lineAt s k)
+unfolding lineAt
+zeros-line s k z = zeros-parts lineLength (drop (lineLength * k) s) (zeros-parts (lineLength * k) s z .1) .0
 
 pub zeros-block : (s : List ℕ) (k : ℕ) → Zeros s → blockAt s k ≡ 0
-unfolding blockAt lineAt
-zeros-block s k z = blank (take lineLength (drop (lineLength * k) s)) (zeros-parts lineLength (drop (lineLength * k) s) (zeros-parts (lineLength * k) s z .1) .0) .1
+unfolding blockAt
+zeros-block s k z = blank-block (lineAt s k) (zeros-line s k z)
 
 module _ (room : ℕ) (ls : List Line) (k : ℕ) where
   abbrev s : List ℕ
@@ -100,22 +115,24 @@ module _ (room : ℕ) (ls : List Line) (k : ℕ) where
           let r = past-lines ls (replicate left 0) k h in
           zeros-parts lineLength (drop (lineLength * k) s) (subst Zeros (sym (r .1)) (zeros-parts (r .0) (replicate left 0) (zeros left) .1)) .0
 
+  -- a field of the line, where it is read back from its bytes, and from none
+  field-read : (field : Line → ℕ) → field (decoded (lineBytes l)) ≡ field l → ((b : List ℕ) → Zeros b → field (decoded b) ≡ field none)
+      → field (decoded (lineAt s k)) ≡ field l
+  field-read field back blank =
+      ⊎-elim (λ e. ap (λ (b : List ℕ). field (decoded b)) e ∙ back) (λ r. blank (lineAt s k) (r .1) ∙ ap field (sym (r .0))) placed
+
   pub person-read : personAt (filled room (map lineBytes ls)) k ≡ getD ls k none .person
-  unfolding personAt lineBytes
-  person-read =
-      ⊎-elim (λ e. ap (λ (s : List ℕ). getD s 0 0) e) (λ r. blank (lineAt s k) (r .1) .0 0 ∙ ap (λ (l : Line). l .person) (sym (r .0))) placed
+  unfolding personAt decoded lineBytes
+  person-read = field-read (λ l. l .person) refl (λ b. blank-byte b 0)
 
   pub kind-read : kindAt (filled room (map lineBytes ls)) k ≡ getD ls k none .kind
-  unfolding kindAt lineBytes
-  kind-read =
-      ⊎-elim (λ e. ap (λ (s : List ℕ). getD s 1 0) e) (λ r. blank (lineAt s k) (r .1) .0 1 ∙ ap (λ (l : Line). l .kind) (sym (r .0))) placed
+  unfolding kindAt decoded lineBytes
+  kind-read = field-read (λ l. l .kind) refl (λ b. blank-byte b 1)
+
+  pub role-read : roleAt (filled room (map lineBytes ls)) k ≡ getD ls k none .role
+  unfolding roleAt decoded lineBytes
+  role-read = field-read (λ l. l .role) refl (λ b. blank-byte b 2)
 
   pub block-read : getD ls k none .block < 2 ^ 64 → blockAt (filled room (map lineBytes ls)) k ≡ getD ls k none .block
-  unfolding blockAt lineBytes
-  block-read h =
-      ⊎-elim (λ e. ap (λ (s : List ℕ). little (take 8 (drop 3 s))) e ∙ own) (λ r. blank (lineAt s k) (r .1) .1 ∙ ap (λ (l : Line). l .block) (sym (r .0))) placed
-    where
-      own : little (take 8 (drop 3 (lineBytes l))) ≡ l .block
-      own =
-          ap little (take-at (littleBytes 8 (l .block)) (littleBytes 8 (l .openFacts) ++ (littleBytes 2 (l .openDecisions) ++ littleBytes 8 (l .citations))) 8 (length-little 8 (l .block)))
-          ∙ little-bytes 8 (l .block) h
+  unfolding blockAt
+  block-read h = field-read (λ l. l .block) (block-back l h) blank-block

@@ -15,7 +15,7 @@ use Rattle.expressions.specs.paper.Bindings.{frameOf, conflict, unknown, known,
 use Rattle.expressions.specs.paper.Variables.{choices}
 use Rattle.promises.specs.Private.{Private}
 use Rattle.promises.specs.Weaker.{none, edgeUsesBut, touchedBut, touchBut, withAnchorBut, joinsBut, touchesBut}
-use Rattle.promises.proofs.Sanity.{Shown, table, oneCandidate, thePlan, first, second, Found, found, expected, number, sameBound, sameValues, computed}
+use Rattle.promises.proofs.Sanity.{Shown, table, oneCandidate, lineRoom, eventRoom, thePlan, first, second, Found, found, expected, number, sameBound, sameValues, computed}
 
 -- ---- with none left out they are document 01's
 whole : touchesBut none ≡ touchesCircle
@@ -64,7 +64,7 @@ module _ (same : Bound → Bound → Bool) (Alike : Bound → Bound → Type 0) 
       values =
           sym (ap (λ (r : Found). r .byte₁) e)
           ∙ ap (λ (s : List ℕ). getD s (x .byte) 0)
-          (private (x .plan) (x .case₁) (x .case₂) 145 360 145 360 P (first x) (second x) (ap (λ (r : Found). r .plan) e) (ap (λ (r : Found). r .first) e)
+          (private (x .plan) (x .case₁) (x .case₂) lineRoom eventRoom lineRoom eventRoom P (first x) (second x) (ap (λ (r : Found). r .plan) e) (ap (λ (r : Found). r .first) e)
           (ap (λ (r : Found). r .second) e) (ap (λ (r : Found). r .refusal₁) e) (ap (λ (r : Found). r .refusal₂) e) (ap (λ (r : Found). r .headings) e)
           (ap (λ (r : Found). r .constraints) e) 0 0 (ltb-true 0 _ (ap (λ (r : Found). r .some) e)) (ap (λ (r : Found). r .person) e) near)
           ∙ ap (λ (r : Found). r .byte₂) e

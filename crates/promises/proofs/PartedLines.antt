@@ -4,7 +4,7 @@ use mathlib.Core.Bool.{Bool, true, false, cond}
 use mathlib.Core.List.{List, map}
 use mathlib.Core.Logic.{_⊎_, inl, inr, ⊎-elim, _↔_, _≢_}
 use Prim.Native.Nat.{ℕ, _≤_, _<_, _*_, _^_}
-use native.Mathlib.Nat.{lt-of-le-of-lt}
+use native.Mathlib.Nat.{lt-of-le-of-lt, lt-trans}
 use native.Mathlib.Omega.{arith}
 use lib.ListN.{length, getD, replicate, length-map, List·getD-eq-default}
 use lib.Bits.{and-le-r}
@@ -21,9 +21,9 @@ use Rattle.report.specs.declared.Answer.{Answer}
 use Rattle.report.specs.declared.Answer.the-variants.{Refused, Answered}
 use Rattle.report.specs.paper.Operations.{told, Outcome, filled, refusal, written}
 use Rattle.report.proofs.WorldBlocks.{With, Parted, holds-with}
-use Rattle.promises.proofs.LineBytes.{none, zeros, zeros-block, person-read, kind-read, block-read}
-use Rattle.promises.proofs.Once.{members-once}
-use Rattle.promises.specs.Partitioned.{personAt, kindAt, blockAt, Apart, Partitioned}
+use Rattle.promises.proofs.LineBytes.{none, zeros, zeros-block, person-read, kind-read, role-read, block-read}
+use Rattle.promises.proofs.MembersRise.{members-rise}
+use Rattle.promises.specs.Partitioned.{personAt, kindAt, roleAt, blockAt, Apart, Partitioned}
 
 within-le : (a b : ℕ) → Within a b → a ≤ b
 unfolding meet
@@ -36,7 +36,13 @@ none-apart a b h = apart a b (λ p x y. ⊎-elim (λ z. nobody a p z x) (λ z. n
     nobody : (m p : ℕ) → m ≡ 0 → has m p ≡ true → ⊥
     nobody m p z x = clash x (ap (λ (b : ℕ). has b p) z ∙ has-none p)
 
-module _ (Blocked : ℕ → Type 0) (room roster : ℕ) (fits : roster < 2 ^ 64) (line : ℕ → Line) (names : (p : ℕ) → line p .person ≡ p)
+-- a line for each person: it names the person, and its kind and role are among document 01's
+pub record Proper (line : ℕ → Line) : Type 0 where
+  pub person : (p : ℕ) → line p .person ≡ p
+  pub kind : (p : ℕ) → line p .kind ≤ 6
+  pub role : (p : ℕ) → line p .role ≤ 3
+
+module _ (Blocked : ℕ → Type 0) (room roster : ℕ) (fits : roster < 2 ^ 64) (line : ℕ → Line) (proper : Proper line)
     (parts : Parted Blocked roster (λ p. line p .kind) (λ p. line p .block)) where
   abbrev ls : List Line
   ls = map line (members roster)
@@ -61,6 +67,7 @@ module _ (Blocked : ℕ → Type 0) (room roster : ℕ) (fits : roster < 2 ^ 64)
     here : has roster p ≡ true
     person : personAt s k ≡ p
     kind : kindAt s k ≡ line p .kind
+    role : roleAt s k ≡ line p .role
     block : blockAt s k ≡ line p .block
 
   low : (k : ℕ) → k < length ls → k < length (members roster)
@@ -69,8 +76,9 @@ module _ (Blocked : ℕ → Type 0) (room roster : ℕ) (fits : roster < 2 ^ 64)
   reads : (k : ℕ) → k < length ls → Reads k (getD (members roster) k 64)
   reads k l = record {
     here = there;
-    person = person-read room ls k ∙ ap (λ (l : Line). l .person) is ∙ names p;
+    person = person-read room ls k ∙ ap (λ (l : Line). l .person) is ∙ proper .person p;
     kind = kind-read room ls k ∙ ap (λ (l : Line). l .kind) is;
+    role = role-read room ls k ∙ ap (λ (l : Line). l .role) is;
     block = block-read room ls k (subst (λ (l : Line). l .block < 2 ^ 64) (sym is) (small p there)) ∙ ap (λ (l : Line). l .block) is;
   }
     where
@@ -152,23 +160,40 @@ module _ (Blocked : ℕ → Type 0) (room roster : ℕ) (fits : roster < 2 ^ 64)
   pub parted-apart : Apart (filled room (map lineBytes (map line (members roster))))
   parted-apart = record { any-two = two; own = own }
 
-  pub parted-lines : Partitioned Blocked (filled room (map lineBytes (map line (members roster)))) (length (map line (members roster)))
+  pub parted-lines : Partitioned Blocked roster (filled room (map lineBytes (map line (members roster)))) (length (map line (members roster)))
   parted-lines = record {
+    count = length-map (members roster) line ∙ members-length roster;
+    listed = λ k l. let r = reads k l in ap (has roster) (r .person) ∙ r .here;
+    everybody = λ p h. let t = listed p h in (t .0, t .1, t .2 .person);
+    rising = λ i j l m.
+        let a = reads i (lt-trans l m) .person in
+        let b = reads j m .person in
+        let r = members-rise roster 64 i j l (low j m) in
+        omega arith;
+    kind = λ k l. let r = reads k l .kind in let h = proper .kind (getD (members roster) k 64) in omega arith;
+    role = λ k l. let r = reads k l .role in let h = proper .role (getD (members roster) k 64) in omega arith;
     kinds = λ k l. kinds k (getD (members roster) k 64) (reads k l);
     own = λ k l n. ⊎-elim (λ z. absurd (n z)) (λ h. h) (own k);
     members = λ k l. reported k (getD (members roster) k 64) (reads k l);
     any-two = λ i j l m. two i j;
-    once = λ i j l m e. members-once roster 64 i j (low i l) (low j m) (sym (reads i l .person) ∙ e ∙ reads j m .person);
   }
 
--- ---- what an operation gives back
+-- NOBODY HAS TWO LINES: persons rise
+pub once : {Blocked : ℕ → Type 0} {roster : ℕ} {s : List ℕ} {n : ℕ} → Partitioned Blocked roster s n
+    → (i j : ℕ) → i < n → j < n → personAt s i ≡ personAt s j → i ≡ j
+once parts i j l m e =
+    ⊎-elim (λ h. let r = parts .rising i j h m in absurd (omega arith))
+    (λ h. ⊎-elim (λ k. let r = parts .rising j i k l in absurd (omega arith)) (λ k. omega arith) (lt-or-le j i)) (lt-or-le i j)
 
-pub record Claimed (Blocked : ℕ → Type 0) (o : Outcome) : Type 0 where
+-- ---- what an operation gives back, over a roster
+
+pub record Claimed (Blocked : ℕ → Type 0) (roster : ℕ) (o : Outcome) : Type 0 where
   pub buffer : Apart (o .lines)
-  pub lines : told (o .answer) .refusal ≡ 0 → Partitioned Blocked (o .lines) (told (o .answer) .lines)
+  pub lines : told (o .answer) .refusal ≡ 0 → Partitioned Blocked roster (o .lines) (told (o .answer) .lines)
 
-pub refused-claimed : (Blocked : ℕ → Type 0) (lineRoom eventRoom : ℕ) (a : Answer) → (told a .refusal ≡ 0 → ⊥) → Claimed Blocked (refusal lineRoom eventRoom a)
-refused-claimed Blocked lineRoom eventRoom a n = record {
+pub refused-claimed : (Blocked : ℕ → Type 0) (lineRoom eventRoom roster : ℕ) (a : Answer) → (told a .refusal ≡ 0 → ⊥)
+    → Claimed Blocked roster (refusal lineRoom eventRoom a)
+refused-claimed Blocked lineRoom eventRoom roster a n = record {
   buffer = record { any-two = λ i j. inl (blank i ∙ sym (blank j)); own = λ k. inl (blank k) };
   lines = λ h. absurd (n h);
 }
@@ -176,17 +201,17 @@ refused-claimed Blocked lineRoom eventRoom a n = record {
     blank : (k : ℕ) → blockAt (replicate lineRoom 0) k ≡ 0
     blank k = zeros-block (replicate lineRoom 0) k (zeros lineRoom)
 
-pub written-claimed : (Blocked : ℕ → Type 0) (lineRoom eventRoom roster : ℕ) → roster < 2 ^ 64 → (line : ℕ → Line) → ((p : ℕ) → line p .person ≡ p)
+pub written-claimed : (Blocked : ℕ → Type 0) (lineRoom eventRoom roster : ℕ) → roster < 2 ^ 64 → (line : ℕ → Line) → Proper line
     → Parted Blocked roster (λ p. line p .kind) (λ p. line p .block) → (es : List (List ℕ)) (n : ℕ)
-    → Claimed Blocked (written lineRoom eventRoom (map line (members roster)) es n)
+    → Claimed Blocked roster (written lineRoom eventRoom (map line (members roster)) es n)
 unfolding written
-written-claimed Blocked lineRoom eventRoom roster fits line names parts es n = pick (ltb eventRoom (eventLength * length es))
+written-claimed Blocked lineRoom eventRoom roster fits line proper parts es n = pick (ltb eventRoom (eventLength * length es))
   where
     ls : List Line
     ls = map line (members roster)
 
     pick : (b : Bool)
-        → Claimed Blocked (cond b (refusal lineRoom eventRoom (Refused 13 0))
+        → Claimed Blocked roster (cond b (refusal lineRoom eventRoom (Refused 13 0))
         (record { answer = Answered (length ls) (length es) n; lines = filled lineRoom (map lineBytes ls); events = filled eventRoom es }))
-    pick true = refused-claimed Blocked lineRoom eventRoom (Refused 13 0) (λ h. omega arith)
-    pick false = record { buffer = parted-apart Blocked lineRoom roster fits line names parts; lines = λ h. parted-lines Blocked lineRoom roster fits line names parts }
+    pick true = refused-claimed Blocked lineRoom eventRoom roster (Refused 13 0) (λ h. omega arith)
+    pick false = record { buffer = parted-apart Blocked lineRoom roster fits line proper parts; lines = λ h. parted-lines Blocked lineRoom roster fits line proper parts }

@@ -18,6 +18,7 @@ use Rattle.expressions.specs.paper.Bindings.{bindings, frameOf}
 use Rattle.expressions.specs.paper.Variables.{Influence, influence, worlds}
 use Rattle.worlds.specs.paper.View.{View}
 use Rattle.report.specs.paper.Line.{lineBytes, bareLine, lineBy, lineOver, firstKind}
+use Rattle.report.specs.paper.LineAt.{decoded}
 use Rattle.report.specs.paper.Operations.{told, answer}
 use Rattle.report.proofs.OpenedLaws.{roster-fits}
 use Rattle.report.proofs.Answered.{viewsOf, lineOf, lineFor}
@@ -57,7 +58,7 @@ line-person P C p = go (eqb (length (caseHeading C .complete)) 0)
 pub line-names : (plan case : List ℕ) (l e : ℕ) (P : Plan) (C : Case) → checkedPlan plan ≡ fine P → readCase P case ≡ fine C
     → told (answer plan case l e .answer) .refusal ≡ 0 → (i : ℕ) → i < size (caseHeading C .roster)
     → personAt (answer plan case l e .lines) i ≡ getD (members (caseHeading C .roster)) i 64
-unfolding personAt lineBytes
+unfolding personAt decoded lineBytes
 line-names plan case l e P C accepted read answered i h =
     ap (λ (s : List ℕ). getD s 0 0) (line-bytes plan case l e P C accepted read answered i h)
     ∙ line-person P C (getD (members (caseHeading C .roster)) i 64)

@@ -1,5 +1,5 @@
--- DEMAND 3, strangers' answers do not show: if two cases over one plan bind alike every fact that touches a person's circle, the 29 bytes of
--- that person's line are the same, whatever its kind.
+-- DEMAND 3, strangers' answers do not show: if two cases over one plan bind alike every fact that touches a person's circle, all bytes
+-- of that person's line are the same, whatever its kind.
 use mathlib.Core.Path.{_≡_, refl, sym, ap, ap₂, _∙_, subst}
 use mathlib.Core.Bool.{Bool, true, cond}
 use mathlib.Core.List.{List, [], map}

@@ -3,10 +3,10 @@ use mathlib.Core.Path.{_≡_, refl}
 use mathlib.Core.List.{List, [], _∷_, _++_, map, flatMap}
 use Prim.Native.Nat.{ℕ, _*_}
 use lib.ListN.{length}
-use Rattle.sets.specs.paper.Sets.{one, members}
-use Rattle.records.specs.paper.Plan.{unresolved}
-use Rattle.expressions.specs.paper.Rules.{edge, cut, bar, status}
+use Rattle.sets.specs.paper.Sets.{members}
 use Rattle.expressions.specs.paper.Variables.{worlds}
+use Rattle.report.specs.paper.Line.{lineLength}
+use Rattle.report.specs.paper.EventList.{eventLength}
 use Rattle.report.specs.paper.Operations.{told, answer}
 use Rattle.promises.proofs.Computing.{computing}
 
@@ -16,7 +16,7 @@ abbrev pub mask : ℕ → List ℕ
 mask m = m ∷ 0 ∷ 0 ∷ 0 ∷ 0 ∷ 0 ∷ 0 ∷ 0 ∷ []
 
 -- a plan's heading: relation 1
-abbrev plain : List ℕ
+abbrev pub plain : List ℕ
 plain = 1 ∷ 0b1 ∷ 1 ∷ []
 
 -- the same with base-chain citation 9
@@ -60,7 +60,7 @@ abbrev pub roster₀ : ℕ → List ℕ
 roster₀ persons = 1 ∷ 0b1111111 ∷ 1 ∷ 1 ∷ 1 ∷ mask persons ++ (0 ∷ 0 ∷ 16 ∷ [])
 
 -- a line as bytes
-abbrev row : ℕ → ℕ → ℕ → ℕ → ℕ → ℕ → ℕ → List ℕ
+abbrev pub row : ℕ → ℕ → ℕ → ℕ → ℕ → ℕ → ℕ → List ℕ
 row person kind role block facts decisions cited = person ∷ kind ∷ role ∷ mask block ++ (mask facts ++ (decisions ∷ 0 ∷ mask cited))
 
 -- ---- the table
@@ -165,9 +165,9 @@ table =
       lines = row 0 0 2 0b1 0 0 0b100000 ∷ [];
     } ∷ []
 
--- the bytes of the lines in a buffer that just holds them, and the count of worlds
+-- the bytes of the lines in a buffer that just holds them, beside one for ten events, and the count of worlds
 abbrev pub found : Starred → List ℕ × ℕ
-found c = let o = answer (c .plan) (c .case) (29 * length (c .lines)) 120 in (o .lines, told (o .answer) .worlds)
+found c = let o = answer (c .plan) (c .case) (lineLength * length (c .lines)) (eventLength * 10) in (o .lines, told (o .answer) .worlds)
 
 abbrev pub expected : Starred → List ℕ × ℕ
 expected c = (flatMap (λ l. l) (c .lines), c .worlds)

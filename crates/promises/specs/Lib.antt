@@ -1,3 +1,5 @@
 pub mod Private
 pub mod Partitioned
+pub mod OpenNamed
+pub mod KnownBy
 pub mod Weaker

@@ -34,7 +34,7 @@ SameBytes Condition plan case₁ case₂ answer₁ answer₂ lines₁ lines₂ =
     → C₁ .constraints ≡ C₂ .constraints
     → (i p : ℕ) → i < size (caseHeading C₁ .roster) → getD (members (caseHeading C₁ .roster)) i 64 ≡ p
     → Condition P C₁ C₂ p
-    -- all 29 bytes
+    -- all bytes of the line
     → lineAt lines₁ i ≡ lineAt lines₂ i
 
 -- whatever bytes are offered; "the two cases' buffers may differ in length"

@@ -24,7 +24,7 @@ unfolding addToCase
 heading-adds C xs b vs = refl
 
 pub heading-judges : (headed : Bool) (C : Case) (xs : List CaseHeading) (b : ℕ) (vs : List (List ℕ)) → CleanCase headed C → Unit {0}
-    → judgeCase (raw 1 b vs) (withCaseHeadings C (xs ++ (caseHeadingFrom (raw 1 b vs) ∷ []))) ≡ judgement (length xs) 1 false (needs 81 b && true) true
+    → judgeCase (raw 1 b vs) (withCaseHeadings C (xs ++ (caseHeadingFrom (raw 1 b vs) ∷ []))) ≡ judgement (length xs) 1 (needs 81 b && true)
 unfolding judgeCase caseFormats caseCounts
 heading-judges headed C xs b vs c u = rw (length-more xs (caseHeadingFrom (raw 1 b vs)), lib.Dec.eqb·suc-zero (length xs), past 1 (length xs), or-false (leb 1 (length xs)))
 
@@ -35,7 +35,7 @@ headingKind = record {
   top = omega (arith, case-kinds);
   put = withCaseHeadings;
   make = caseHeadingFrom;
-  judge = λ headed xs b x. judgement (length xs) 1 false (needs 81 b && true) true;
+  judge = λ headed xs b x. judgement (length xs) 1 (needs 81 b && true);
   Fine = λ xs. Unit {0};
   adds = heading-adds;
   judges = heading-judges;

@@ -21,7 +21,7 @@ use Rattle.records.specs.code.Readers.{bytesFrom}
 use Rattle.records.specs.declared.plan.Election.{Election}
 use Rattle.records.specs.declared.plan.Decisions.{Decisions}
 use Rattle.records.specs.declared.plan.Numbers.{Numbers}
-use Rattle.records.specs.code.Passes.{Reading, judgement}
+use Rattle.records.specs.code.Passes.{Reading, judgement, fullJudgement}
 use Rattle.records.specs.code.PlanPasses.{Clean, planReading, withHeadings, withFacts, withNodes, withCuts, withEdges, withAttachments, withBars, withStatuses}
 use Rattle.sets.proofs.SetLaws.{has-zero, Within, antisym, of-meet, in-meet, subset-true, within-subset}
 use Rattle.records.proofs.Listing.{map-more}
@@ -107,7 +107,7 @@ pub record Plain {F : Type 0} (R : Reading F) {A : Type 0} (K limit : ℕ) (fits
   pub judges : (headed : Bool) (a : F) (xs : List A) (b : ℕ) (vs : List (List ℕ)) → R .Clean headed a
       → R .judge (raw K b vs) (put a xs) ≡ cond (ltb limit (length xs)) 2 (cond (fits b && headed) 0 3)
 
-pub one-more : {A : Type 0} (limit : ℕ) (fits : Bool) (xs : List A) (x : A) → cond (ltb limit (length (xs ++ (x ∷ [])))) 2 (cond fits 0 3) ≡ judgement (length xs) limit false fits true
+pub one-more : {A : Type 0} (limit : ℕ) (fits : Bool) (xs : List A) (x : A) → cond (ltb limit (length (xs ++ (x ∷ [])))) 2 (cond fits 0 3) ≡ judgement (length xs) limit fits
 one-more limit fits xs x = rw (length-more xs x, past limit (length xs), or-false (leb limit (length xs)))
 
 abbrev pub plainKind : {F : Type 0} {R : Reading F} {A : Type 0} {K limit : ℕ} {fits : ℕ → Bool} {put : F → List A → F} {make : Raw → A} → Plain R K limit fits put make → Kind R A
@@ -117,7 +117,7 @@ plainKind {K = K} {limit = limit} {fits = fits} {put = put} {make = make} p = re
   top = p .top;
   put = put;
   make = make;
-  judge = λ headed xs b x. judgement (length xs) limit false (fits b && headed) true;
+  judge = λ headed xs b x. judgement (length xs) limit (fits b && headed);
   Fine = λ xs. Unit {0};
   adds = p .adds;
   judges = λ headed a xs b vs c u. p .judges headed a (xs ++ (make (raw K b vs) ∷ [])) b vs c ∙ one-more limit (fits b && headed) xs (make (raw K b vs));
@@ -198,7 +198,7 @@ unfolding addToPlan
 heading-adds P xs b vs = refl
 
 pub heading-judges : (headed : Bool) (P : Plan) (xs : List paper.Heading) (b : ℕ) (vs : List (List ℕ)) → Clean headed P → Unit {0}
-    → judgePlan (raw 1 b vs) (withHeadings P (xs ++ (headingFrom (raw 1 b vs) ∷ []))) ≡ judgement (length xs) 1 false (needs 1 b && true) true
+    → judgePlan (raw 1 b vs) (withHeadings P (xs ++ (headingFrom (raw 1 b vs) ∷ []))) ≡ judgement (length xs) 1 (needs 1 b && true)
 unfolding judgePlan planFormats planCounts
 heading-judges headed P xs b vs c u =
     rw (length-more xs (headingFrom (raw 1 b vs)), past 1 (length xs), lib.Dec.eqb·suc-zero (length xs), c .few, c .rise, c .once) (plain (leb 1 (length xs) || false) (needs 1 b) true 0)
@@ -210,7 +210,7 @@ headingKind = record {
   top = omega (arith, plan-kinds);
   put = withHeadings;
   make = headingFrom;
-  judge = λ headed xs b x. judgement (length xs) 1 false (needs 1 b && true) true;
+  judge = λ headed xs b x. judgement (length xs) 1 (needs 1 b && true);
   Fine = λ xs. Unit {0};
   adds = heading-adds;
   judges = heading-judges;
@@ -221,12 +221,12 @@ unfolding addToPlan
 fact-adds P xs b vs = refl
 
 pub fact-judges : (headed : Bool) (P : Plan) (xs : List paper.Fact) (b : ℕ) (vs : List (List ℕ)) → Clean headed P → paper.factsRise xs ≡ true
-    → judgePlan (raw 2 b vs) (withFacts P (xs ++ (factFrom (raw 2 b vs) ∷ []))) ≡ judgement (length xs) 64 false (factBits b && headed) (paper.rises (lastFact xs) (factFrom (raw 2 b vs)))
+    → judgePlan (raw 2 b vs) (withFacts P (xs ++ (factFrom (raw 2 b vs) ∷ []))) ≡ fullJudgement (length xs) 64 false (factBits b && headed) (paper.rises (lastFact xs) (factFrom (raw 2 b vs)))
 unfolding judgePlan planFormats planCounts
 fact-judges headed P xs b vs c g =
     let x = factFrom (raw 2 b vs) in
     rw (length-more xs x, past 64 (length xs), c .few, c .heads, rise-more xs x, g, c .once)
-    (plain (leb 64 (length xs) || false) (factBits b) headed (cond (paper.rises (lastFact xs) x && true) 0 5) ∙ ap (λ (t : Bool). judgement (length xs) 64 false (factBits b && headed) t) (and-true (paper.rises (lastFact xs) x)))
+    (plain (leb 64 (length xs) || false) (factBits b) headed (cond (paper.rises (lastFact xs) x && true) 0 5) ∙ ap (λ (t : Bool). fullJudgement (length xs) 64 false (factBits b && headed) t) (and-true (paper.rises (lastFact xs) x)))
 
 abbrev pub factKind : Kind planReading paper.Fact
 factKind = record {
@@ -235,7 +235,7 @@ factKind = record {
   top = omega (arith, plan-kinds);
   put = withFacts;
   make = factFrom;
-  judge = λ headed xs b x. judgement (length xs) 64 false (factBits b && headed) (paper.rises (lastFact xs) x);
+  judge = λ headed xs b x. fullJudgement (length xs) 64 false (factBits b && headed) (paper.rises (lastFact xs) x);
   Fine = λ xs. paper.factsRise xs ≡ true;
   adds = fact-adds;
   judges = fact-judges;
@@ -246,7 +246,7 @@ unfolding addToPlan
 cut-adds P xs b vs = refl
 
 abbrev pub cutJudge : Bool → List paper.Cut → ℕ → paper.Cut → ℕ
-cutJudge headed xs b x = judgement (length xs) 16 (ltb 16 (paper.unresolved xs + paper.unresolvedIn (x .decisions))) (needs 7 b && headed) (once x)
+cutJudge headed xs b x = fullJudgement (length xs) 16 (ltb 16 (paper.unresolved xs + paper.unresolvedIn (x .decisions))) (needs 7 b && headed) (once x)
 
 pub cut-judges : (headed : Bool) (P : Plan) (xs : List paper.Cut) (b : ℕ) (vs : List (List ℕ)) → Clean headed P → allOf once xs ≡ true
     → judgePlan (raw 5 b vs) (withCuts P (xs ++ (paper.cutFrom (raw 5 b vs) ∷ []))) ≡ cutJudge headed xs b (paper.cutFrom (raw 5 b vs))
@@ -269,14 +269,17 @@ cutKind = record {
   judges = cut-judges;
 }
 
--- ---- what `judged` says
+-- ---- what `judged_fully` says, and `judged`
 
-pub judge-same : (limit n m : ℕ) (o o′ f g h d d′ : Bool) {r : ℕ} → r ≡ judgement n limit o (f && h) d → m ≡ n → o ≡ o′ → f ≡ g → d ≡ d′ → r ≡ judgement m limit o′ (g && h) d′
-judge-same limit n m o o′ f g h d d′ e a b q z = e ∙ ap₂ (λ (x : ℕ) (y : Bool). judgement x limit y (f && h) d) (sym a) b ∙ ap₂ (λ (x y : Bool). judgement m limit o′ (x && h) y) q z
+pub judge-same-fully : (limit n m : ℕ) (o o′ f g h d d′ : Bool) {r : ℕ} → r ≡ fullJudgement n limit o (f && h) d → m ≡ n → o ≡ o′ → f ≡ g → d ≡ d′ → r ≡ fullJudgement m limit o′ (g && h) d′
+judge-same-fully limit n m o o′ f g h d d′ e a b q z = e ∙ ap₂ (λ (x : ℕ) (y : Bool). fullJudgement x limit y (f && h) d) (sym a) b ∙ ap₂ (λ (x y : Bool). fullJudgement m limit o′ (x && h) y) q z
+
+pub judge-same : (limit n m : ℕ) (f g h : Bool) {r : ℕ} → r ≡ judgement n limit (f && h) → m ≡ n → f ≡ g → r ≡ judgement m limit (g && h)
+judge-same limit n m f g h e a q = judge-same-fully limit n m false false f g h true true e a refl q refl
 
 -- ---- what no refusal says
 
-module _ (limit n : ℕ) (over fits sound : Bool) {r : ℕ} (e : r ≡ judgement n limit over fits sound) (z : r ≡ 0) where
+module _ (limit n : ℕ) (over fits sound : Bool) {r : ℕ} (e : r ≡ fullJudgement n limit over fits sound) (z : r ≡ 0) where
   fine-parts : (over ≡ false) × (fits ≡ true) × (sound ≡ true)
   fine-parts = pick (leb limit n) over fits sound (sym e ∙ z)
     where

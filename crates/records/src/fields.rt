@@ -4,6 +4,8 @@ pub mod lists;
 pub mod passing;
 
 use crate::plan::Election;
+use sets::numbers::to_u64;
+use sets::numbers::wide;
 ghost use mathlib.Core.Path.{_≡_};
 ghost use mathlib.Core.List.{[], _∷_};
 ghost use Prim.Native.Nat.{_+_, _*_, _≤_, _<_};
@@ -12,6 +14,13 @@ ghost use Rattle.records.specs.paper.Fields.{got, byteAt, bytesAt, bytes
 ghost use Rattle.records.specs.code.Readers.{fieldRead, wideRead, shortRead, electionRead, listRead, listFits, pairsRead, pairsFit, mapRead, first, isGot, fieldIf, bytesFrom};
 ghost use Rattle.records.specs.paper.Plan.{electionFrom};
 ghost use Rattle.records.specs.code.Decoded.{noElection};
+
+// the highest person, citation and evidence that a field holds; the lowest is 0
+pub const PERSON: u8 = 63;
+
+pub const CITATION: u8 = 63;
+
+pub const EVIDENCE: u8 = 63;
 
 pub enum Field {
     Got(u8, usize),
@@ -41,22 +50,10 @@ pub enum Elected {
     Bad,
 }
 
-pub fn to_u64(x: u8) -> u64
-    ensures { λ r. ⌜ (r ≡ x) × (r < 256) ⌝ }
-{
-    x as u64
-}
-
 pub fn to_u16(x: u8) -> u16
     ensures { λ r. ⌜ (r ≡ x) × (r < 256) ⌝ }
 {
     x as u16
-}
-
-pub fn to_index(x: u8) -> usize
-    ensures { λ r. ⌜ (r ≡ x) × (r < 256) ⌝ }
-{
-    x as usize
 }
 
 // a byte from `low` to `top`
@@ -161,7 +158,7 @@ pub fn election_at(s: &[u8], at: usize, present: bool) -> Elected
     let Field::Got(policy, r) = byte_at(s, q, 0, 2) else {
         return Elected::Bad;
     };
-    let Field::Got(citation, t) = byte_at(s, r, 0, 63) else {
+    let Field::Got(citation, t) = byte_at(s, r, 0, CITATION) else {
         return Elected::Bad;
     };
     let election = Election {
@@ -219,7 +216,7 @@ pub fn list_at(s: &[u8], at: usize, present: bool, limit: u8, top: u8) -> Listed
     let Field::Got(count, first) = byte_at(s, at, 0, limit) else {
         return Listed::Bad;
     };
-    let n = to_index(count);
+    let n = wide(count);
     if entries_stand(s, first, n, top) {
         return Listed::Got(first, count, first + n);
     }
@@ -236,7 +233,7 @@ pub fn pairs_at(s: &[u8], at: usize, present: bool, limit: u8, top: u8, low: u8,
     let Field::Got(count, first) = byte_at(s, at, 0, limit) else {
         return Listed::Bad;
     };
-    let n = to_index(count);
+    let n = wide(count);
     if pairs_stand(s, first, n, top, low, high) {
         return Listed::Got(first, count, first + n * 2);
     }

@@ -1,8 +1,7 @@
 // One vector, byte by byte: fifteen fields parted by one space. The operation is a word, the first two and the last two fields after it are
 // bytes, as lower-case hex or "-", the rest are numbers in base ten. The bytes of all four are kept in one store, one after another.
 use crate::vector::Vector;
-ghost use mathlib.Core.Path.{_≡_};
-ghost use Prim.Native.Nat.{_<_};
+use sets::numbers::to_u64;
 
 pub struct Scan {
     pub field: u8,
@@ -81,7 +80,7 @@ impl Scan {
         if word >= 281474976710656 {
             return self.fail();
         }
-        self.number = word * 256 + wide(b);
+        self.number = word * 256 + to_u64(b);
         self.grown()
     }
 
@@ -89,7 +88,7 @@ impl Scan {
         if b < b'0' || b > b'9' {
             return self.fail();
         }
-        let d = wide(b - b'0');
+        let d = to_u64(b - b'0');
         let n = self.number;
         if n > (18446744073709551615 - d) / 10 {
             return self.fail();
@@ -157,10 +156,4 @@ impl Scan {
 // Whether a field of a line is bytes: plan, case, lines, events.
 fn of_bytes(field: u8) -> bool {
     field == 1 || field == 2 || field == 13 || field == 14
-}
-
-fn wide(x: u8) -> u64
-    ensures { λ r. ⌜ (r ≡ x) × (r < 256) ⌝ }
-{
-    x as u64
 }

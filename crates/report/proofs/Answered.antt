@@ -19,7 +19,7 @@ use Rattle.worlds.specs.paper.World.{worldOf}
 use Rattle.worlds.specs.paper.View.{View, view}
 use Rattle.report.specs.paper.Line.{Line, lineBytes, bareLine, lineOver}
 use Rattle.report.specs.paper.EventList.{eventLength}
-use Rattle.report.specs.paper.Operations.{told, Opened, stopped, incomplete, ready, orStop, unlessFault, headingFault, tooMany, counted, bound, opened, Outcome, filled, refusal, written, influences, allWorlds, linesOver, answerReady, answerOpened, answer}
+use Rattle.report.specs.paper.Operations.{told, Opened, stopped, incomplete, ready, orStop, unlessFault, headingFault, tooMany, counted, boundAndCounted, bound, opened, Outcome, filled, refusal, written, influences, allWorlds, linesOver, answerReady, answerOpened, answer}
 use Rattle.report.specs.declared.Answer.{Answer}
 use Rattle.report.specs.declared.Answer.the-variants.{Refused, TooManyWorlds}
 
@@ -104,8 +104,9 @@ module _ (P : Plan) (C : Case) (l e : ℕ) where
       most : ℕ
       most = caseHeading C .mostWorlds
 
-  judged-lines : Gives (answerOpened l e (orStop (bindable C) (λ C. counted P C (bindings P C)))) (bytesOf (lineOf (frameOf P C) (bindings P C)))
-  judged-lines = go (bindable-split C)
+  counted-bound-lines : Gives (answerOpened l e (boundAndCounted P C)) (bytesOf (lineOf (frameOf P C) (bindings P C)))
+  unfolding boundAndCounted
+  counted-bound-lines = go (bindable-split C)
     where
       Here : Verdict Case → Type 0
       Here v = Gives (answerOpened l e (orStop v (λ C. counted P C (bindings P C)))) (bytesOf (lineOf (frameOf P C) (bindings P C)))
@@ -118,12 +119,9 @@ module _ (P : Plan) (C : Case) (l e : ℕ) where
   unfolding bound lineFor
   bound-lines = go (eqb (length (caseHeading C .complete)) 0)
     where
-      rest : Opened
-      rest = orStop (bindable C) (λ C. counted P C (bindings P C))
-
-      go : (b : Bool) → Gives (answerOpened l e (cond b (incomplete (caseHeading C .roster)) rest)) (bytesOf (λ p. cond b (bareLine 5 p) (lineOf (frameOf P C) (bindings P C) p)))
+      go : (b : Bool) → Gives (answerOpened l e (cond b (incomplete (caseHeading C .roster)) (boundAndCounted P C))) (bytesOf (λ p. cond b (bareLine 5 p) (lineOf (frameOf P C) (bindings P C) p)))
       go true = written-lines l e _ _ _
-      go false = judged-lines
+      go false = counted-bound-lines
 
   heading-lines : (n : ℕ) → Gives (answerOpened l e (unlessFault n (bound P C))) (bytesOf (lineFor P C))
   heading-lines zero = bound-lines

@@ -19,7 +19,7 @@ use Rattle.sets.proofs.SetLaws.{has-zero, has-suc, has-none, lt-or-le}
 use Rattle.sets.proofs.MemberLaws.{members-length}
 use Rattle.expressions.proofs.ListLaws.{flat-append}
 use Rattle.records.specs.paper.Plan.{Plan, Election}
-use Rattle.records.specs.code.Decoded.{edgeOf, cutOf, attachmentOf, statusOf}
+use Rattle.records.specs.code.Decoded.{edgeOf, cutOf, attachmentOf, statusOf, edgesOf, cutsOf, attachmentsOf, statusesOf}
 use Rattle.records.specs.declared.plan.Edge.{Edge}
 use Rattle.records.specs.declared.plan.Edges.{Edges}
 use Rattle.records.specs.declared.plan.Cut.{Cut}
@@ -29,12 +29,11 @@ use Rattle.records.specs.declared.plan.Attachments.{Attachments}
 use Rattle.records.specs.declared.plan.Status.{Status}
 use Rattle.records.specs.declared.plan.Statuses.{Statuses}
 use Rattle.records.proofs.ListLaws.{getD-front}
-use Rattle.expressions.specs.code.Coded.{edgesOf, cutsOf, attachmentsOf, statusesOf}
 use Rattle.expressions.specs.paper.Rules.{edgeCount, cutCount, attachmentCount, statusCount, edge, cut, attachment, status}
 use Rattle.expressions.specs.paper.Bindings.{defaultOf}
 use Rattle.worlds.specs.paper.Events.{event, littleBytes, listed, electionActor}
-use Rattle.worlds.proofs.OverLaws.{members-next, members-none, and-less, turn-has}
-use Rattle.report.specs.paper.EventList.{numberOf, electionCitation}
+use Rattle.sets.proofs.TurnLaws.{members-next, members-none, and-less, turn-has}
+use Rattle.report.specs.paper.EventList.{numberOf, electionCitation, eventLength}
 use Rattle.report.specs.code.EventBytes.{Below, Writes, sizes}
 
 -- ---- byte by byte
@@ -48,7 +47,7 @@ copied e d i he hd =
 pub copied-long : (e d : List ℕ) (i : ℕ) → i ≤ length e → i ≤ length d → length (take i e ++ drop i d) ≡ length d
 copied-long e d i he hd = rw (length-append, length-take-le i e he, length-drop) (omega arith)
 
-pub event-length : (kind a b c mask : ℕ) → length (event kind a b c mask) ≡ 12
+pub event-length : (kind a b c mask : ℕ) → length (event kind a b c mask) ≡ eventLength
 unfolding event littleBytes
 event-length kind a b c mask = refl
 
@@ -84,13 +83,15 @@ part-over place n vs b h =
 
 -- events still to come, put at a place
 abbrev pub will : ℕ → List (List ℕ) → List ℕ → List ℕ
-will place es b = over place (12 * length es) (flatMap (λ e. e) es) b
+will place es b = over place (eventLength * length es) (flatMap (λ e. e) es) b
 
-will-next : (place : ℕ) (vs : List ℕ) (es : List (List ℕ)) (b : List ℕ) → length vs ≡ 12 → place + 12 ≤ length b → will (place + 12) es (over place 12 vs b) ≡ will place (vs ∷ es) b
+will-next : (place : ℕ) (vs : List ℕ) (es : List (List ℕ)) (b : List ℕ) → length vs ≡ eventLength → place + eventLength ≤ length b
+    → will (place + eventLength) es (over place eventLength vs b) ≡ will place (vs ∷ es) b
 unfolding flatMap
 will-next place vs es b e h =
-    over-both place 12 (12 * length es) vs (flatMap (λ e. e) es) b e h
-    ∙ ap (λ (k : ℕ). over place k (vs ++ flatMap (λ e. e) es) b) (let z : 12 + 12 * length es ≡ 12 * suc (length es) = omega arith in z)
+    over-both place eventLength (eventLength * length es) vs (flatMap (λ e. e) es) b e h
+    ∙ ap (λ (k : ℕ). over place k (vs ++ flatMap (λ e. e) es) b)
+    (let z : eventLength + eventLength * length es ≡ eventLength * suc (length es) = omega arith in z)
 
 will-none : (place : ℕ) (b : List ℕ) → will place [] b ≡ b
 unfolding flatMap
@@ -102,7 +103,7 @@ pub record Writing {X : Type 0} (f : X → ℕ → List ℕ) (at all : ℕ) (bef
   pub fits : m < 2 ^ 64
   pub within : (i : ℕ) → has m i ≡ true → has all i ≡ true
   pub long : length after ≡ length before
-  pub room : place + 12 * size m ≡ at + 12 * size all
+  pub room : place + eventLength * size m ≡ at + eventLength * size all
   pub same : (x : X) → will place (map (f x) (members m)) after ≡ will at (map (f x) (members all)) before
 
 pub writing-none : {X : Type 0} (f : X → ℕ → List ℕ) (at all : ℕ) (before : List ℕ) → all < 2 ^ 64 → Writing f at all before all at before
@@ -110,7 +111,7 @@ writing-none f at all before h = record { fits = h; within = λ i e. e; long = r
 
 module _ {X : Type 0} (f : X → ℕ → List ℕ) (at all : ℕ) (before : List ℕ) (m place : ℕ) (after : List ℕ) (w : Writing f at all before m place after) where
   -- an event more fits
-  pub writing-room : (m ≡ 0 → ⊥) → at + 12 * size all ≤ length before → place + 12 ≤ length after
+  pub writing-room : (m ≡ 0 → ⊥) → at + eventLength * size all ≤ length before → place + eventLength ≤ length after
   writing-room n h =
       let e : size m ≡ suc (size (bitAnd m (m - 1))) =
       sym (members-length m) ∙ ap length (members-next m (w .fits) n) ∙ ap suc (members-length (bitAnd m (m - 1))) in
@@ -123,21 +124,21 @@ module _ {X : Type 0} (f : X → ℕ → List ℕ) (at all : ℕ) (before : List
       ∙ ap (λ (b : Bool). b || has (bitAnd m (m - 1)) t) (eq-eqb t t refl))
 
   -- ONE EVENT MORE
-  pub writing-next : (t r kind a b c mask : ℕ) (ys : List ℕ) → (t ≡ lowest m) × (t < 64) → (members m ≡ lowest m ∷ members r) × (r < m) → place + 12 ≤ length after
-      → ys ≡ event kind a b c mask ++ drop 12 (take (length after - place) (drop place after)) → ((x : X) → event kind a b c mask ≡ f x t)
-      → Writing f at all before r (place + 12) (putMid place (length after - place) after ys)
+  pub writing-next : (t r kind a b c mask : ℕ) (ys : List ℕ) → (t ≡ lowest m) × (t < 64) → (members m ≡ lowest m ∷ members r) × (r < m) → place + eventLength ≤ length after
+      → ys ≡ event kind a b c mask ++ drop eventLength (take (length after - place) (drop place after)) → ((x : X) → event kind a b c mask ≡ f x t)
+      → Writing f at all before r (place + eventLength) (putMid place (length after - place) after ys)
   writing-next t r kind a b c mask ys e o h y v =
       let vs = event kind a b c mask in
       let l = event-length kind a b c mask in
-      let x = ap (putMid place (length after - place) after) y ∙ part-over place 12 vs after h in
+      let x = ap (putMid place (length after - place) after) y ∙ part-over place eventLength vs after h in
       let s : size m ≡ suc (size r) = sym (members-length m) ∙ ap length (o .0) ∙ ap suc (members-length r) in
       let left = turn-has m r t (w .fits) e o in record {
         fits = lt-trans (o .1) (w .fits);
         within = λ i h. w .within i (left i ∙ ap (λ (b : Bool). eqb t i || b) h ∙ or-true (eqb t i));
-        long = ap length x ∙ over-long place 12 vs after l h ∙ w .long;
+        long = ap length x ∙ over-long place eventLength vs after l h ∙ w .long;
         room = omega (arith, w .room);
         same = λ u.
-            ap (will (place + 12) (map (f u) (members r))) x ∙ will-next place vs (map (f u) (members r)) after l h
+            ap (will (place + eventLength) (map (f u) (members r))) x ∙ will-next place vs (map (f u) (members r)) after l h
             ∙ ap (λ (v : List ℕ). will place (v ∷ map (f u) (members r)) after) (v u ∙ ap (f u) (e .0))
             ∙ ap (λ (ps : List ℕ). will place (map (f u) ps) after) (sym (o .0)) ∙ w .same u;
       }
@@ -207,20 +208,20 @@ read {A} {B} g list n items h i d e l = sym (ap (λ (xs : List B). getD xs i e) 
 
 module _ (P : Plan) (i : ℕ) where
   pub edge-read : (edges : Edges) (d : Edge) → P .edges ≡ edgesOf edges → i < edgeCount P → edgeOf (getD (edges .items) i d) ≡ edge P i
-  unfolding edge edgesOf
+  unfolding edge
   edge-read edges d e l = read edgeOf (P .edges) (edges .count) (edges .items) e i d _ l
 
   pub cut-read : (cuts : Cuts) (d : Cut) → P .cuts ≡ cutsOf cuts → i < cutCount P → cutOf (getD (cuts .items) i d) ≡ cut P i
-  unfolding cut cutsOf
+  unfolding cut
   cut-read cuts d e l = read cutOf (P .cuts) (cuts .count) (cuts .items) e i d _ l
 
   pub attachment-read : (attachments : Attachments) (d : Attachment) → P .attachments ≡ attachmentsOf attachments → i < attachmentCount P
       → attachmentOf (getD (attachments .items) i d) ≡ attachment P i
-  unfolding attachment attachmentsOf
+  unfolding attachment
   attachment-read attachments d e l = read attachmentOf (P .attachments) (attachments .count) (attachments .items) e i d _ l
 
   pub status-read : (statuses : Statuses) (d : Status) → P .statuses ≡ statusesOf statuses → i < statusCount P → statusOf (getD (statuses .items) i d) ≡ status P i
-  unfolding status statusesOf
+  unfolding status
   status-read statuses d e l = read statusOf (P .statuses) (statuses .count) (statuses .items) e i d _ l
 
 -- the first election says all
@@ -232,28 +233,30 @@ default-read i (e ∷ es) = refl
 
 -- ---- events behind events
 
--- each has its 12 bytes
+-- each has `eventLength` bytes
 pub record Long (es : List (List ℕ)) : Type 0 where
-  pub bytes : length (flatMap (λ e. e) es) ≡ 12 * length es
+  pub bytes : length (flatMap (λ e. e) es) ≡ eventLength * length es
 
 pub writes-none : (at : ℕ) (b : List ℕ) → Writes at [] b b at
 writes-none at b = record { bytes = sym (will-none at b); place = omega arith }
 
-pub writes-both : (at p q : ℕ) (es fs : List (List ℕ)) (before mid after : List ℕ) → Long es → at + 12 * length es ≤ length before → Writes at es before mid p → Writes p fs mid after q
+pub writes-both : (at p q : ℕ) (es fs : List (List ℕ)) (before mid after : List ℕ) → Long es → at + eventLength * length es ≤ length before → Writes at es before mid p
+    → Writes p fs mid after q
     → Writes at (es ++ fs) before after q
 writes-both at p q es fs before mid after l h a b =
-    let n : 12 * length es + 12 * length fs ≡ 12 * length (es ++ fs) = omega (arith, length-append es fs) in record {
+    let n : eventLength * length es + eventLength * length fs ≡ eventLength * length (es ++ fs) = omega (arith, length-append es fs) in record {
       bytes =
           b .bytes ∙ ap₂ (λ (k : ℕ) (x : List ℕ). will k fs x) (a .place) (a .bytes)
-          ∙ over-both at (12 * length es) (12 * length fs) (flatMap (λ e. e) es) (flatMap (λ e. e) fs) before (l .bytes) h
+          ∙ over-both at (eventLength * length es) (eventLength * length fs) (flatMap (λ e. e) es) (flatMap (λ e. e) fs) before (l .bytes) h
           ∙ ap₂ (λ (k : ℕ) (x : List ℕ). over at k x before) n (sym (flat-append (λ e. e) es fs));
       place = omega (arith, a .place, b .place);
     }
 
-pub writes-long : {at next : ℕ} {es : List (List ℕ)} {before after : List ℕ} → Long es → at + 12 * length es ≤ length before → Writes at es before after next → length after ≡ length before
-writes-long {at} {next} {es} {before} l h w = ap length (w .bytes) ∙ over-long at (12 * length es) (flatMap (λ e. e) es) before (l .bytes) h
+pub writes-long : {at next : ℕ} {es : List (List ℕ)} {before after : List ℕ} → Long es → at + eventLength * length es ≤ length before
+    → Writes at es before after next → length after ≡ length before
+writes-long {at} {next} {es} {before} l h w = ap length (w .bytes) ∙ over-long at (eventLength * length es) (flatMap (λ e. e) es) before (l .bytes) h
 
-pub long-map : {A : Type 0} (f : A → List ℕ) → ((x : A) → length (f x) ≡ 12) → (xs : List A) → Long (map f xs)
+pub long-map : {A : Type 0} (f : A → List ℕ) → ((x : A) → length (f x) ≡ eventLength) → (xs : List A) → Long (map f xs)
 unfolding flatMap
 long-map f h [] = record { bytes = refl }
 long-map f h (x ∷ xs) = record { bytes = length-append (f x) (flatMap (λ e. e) (map f xs)) ∙ omega (arith, h x, long-map f h xs .bytes) }
@@ -309,7 +312,7 @@ map-same f g h (x ∷ xs) = ap₂ (λ (y : List ℕ) (ys : List (List ℕ)). y �
 pub record Pairing {X : Type 0} (g : X → ℕ → ℕ → List ℕ) (at : ℕ) (sets : ℕ → ℕ) (before : List ℕ) (i place : ℕ) (after : List ℕ) : Type 0 where
   pub fits : (c : ℕ) → c < i → sets c < 2 ^ 64
   pub long : length after ≡ length before
-  pub room : place ≡ at + 12 * sizes i sets
+  pub room : place ≡ at + eventLength * sizes i sets
   pub done : (x : X) → Writes at (paired (g x) sets i) before after place
 
 pub pairing-none : {X : Type 0} (g : X → ℕ → ℕ → List ℕ) (at : ℕ) (sets : ℕ → ℕ) (before : List ℕ) → Pairing g at sets before 0 at before
@@ -319,7 +322,7 @@ pairing-none g at sets before =
 
 module _ {X : Type 0} (g : X → ℕ → ℕ → List ℕ) (at : ℕ) (sets : ℕ → ℕ) (before : List ℕ) (i place : ℕ) (after : List ℕ) (p : Pairing g at sets before i place after) where
   -- the events of one set more fit
-  pub pairing-room : (n : ℕ) → i < n → at + 12 * sizes n sets ≤ length before → place + 12 * size (sets i) ≤ length after
+  pub pairing-room : (n : ℕ) → i < n → at + eventLength * sizes n sets ≤ length before → place + eventLength * size (sets i) ≤ length after
   pairing-room n l h = let s = sizes-le i n sets l in omega (arith, p .long, p .room)
 
   fits-more : sets i < 2 ^ 64 → (c : ℕ) → c < i + 1 → sets c < 2 ^ 64
@@ -338,7 +341,8 @@ module _ {X : Type 0} (g : X → ℕ → ℕ → List ℕ) (at : ℕ) (sets : �
       }
 
   -- ONE SET MORE
-  pub pairing-next : (n next : ℕ) (f : ℕ → List ℕ) (last : List ℕ) → i < n → at + 12 * sizes n sets ≤ length before → ((x : X) (c d : ℕ) → length (g x c d) ≡ 12) → ((d : ℕ) → length (f d) ≡ 12)
+  pub pairing-next : (n next : ℕ) (f : ℕ → List ℕ) (last : List ℕ) → i < n → at + eventLength * sizes n sets ≤ length before
+      → ((x : X) (c d : ℕ) → length (g x c d) ≡ eventLength) → ((d : ℕ) → length (f d) ≡ eventLength)
       → sets i < 2 ^ 64 → Writes place (map f (members (sets i))) after last next → ((x : X) (d : ℕ) → f d ≡ g x i d) → Pairing g at sets before (i + 1) next last
   pairing-next n next f last l h lg lf fit w same =
       let m : length (map f (members (sets i))) ≡ size (sets i) = length-map (members (sets i)) f ∙ members-length (sets i) in

@@ -8,7 +8,8 @@ use lib.ListN.{length, drop, replicate, length-map, length-append}
 use borrow.Author.Tests.{le-ltb}
 use Rattle.sets.specs.paper.Sets.{size, members}
 use Rattle.sets.proofs.MemberLaws.{members-length}
-use Rattle.report.specs.paper.Line.{Line, lineBytes, bareLine}
+use Rattle.report.specs.paper.EventList.{eventLength}
+use Rattle.report.specs.paper.Line.{Line, lineBytes, bareLine, lineLength}
 use Rattle.report.specs.paper.Operations.{Outcome, filled, written}
 use Rattle.report.specs.code.Bare.{worldless, Worldless}
 use Rattle.report.specs.declared.Answer.the-variants.{Answered, Refused}
@@ -21,12 +22,13 @@ unfolding flatMap
 flat-lines f [] = refl
 flat-lines f (x ∷ xs) = ap (λ (l : List ℕ). lineBytes (f x) ++ l) (flat-lines f xs)
 
-lines-length : (ls : List Line) → length (flatMap (λ b. b) (map lineBytes ls)) ≡ 29 * length ls
+lines-length : (ls : List Line) → length (flatMap (λ b. b) (map lineBytes ls)) ≡ lineLength * length ls
 unfolding flatMap
 lines-length [] = refl
 lines-length (l ∷ ls) =
     length-append (lineBytes l) (flatMap (λ b. b) (map lineBytes ls))
-    ∙ (let a = line-length l in let b = lines-length ls in let z : length (lineBytes l) + length (flatMap (λ b. b) (map lineBytes ls)) ≡ 29 * suc (length ls) = omega arith in z)
+    ∙ (let a = line-length l in let b = lines-length ls in
+    let z : length (lineBytes l) + length (flatMap (λ b. b) (map lineBytes ls)) ≡ lineLength * suc (length ls) = omega arith in z)
 
 pub zeros-drop : (n k : ℕ) → drop k (replicate {A = ℕ} n 0) ≡ replicate (n - k) 0
 zeros-drop zero zero = refl
@@ -35,22 +37,23 @@ zeros-drop (suc n) zero = ap (λ (j : ℕ). replicate {A = ℕ} j 0) (let z : su
 zeros-drop (suc n) (suc k) = zeros-drop n k ∙ ap (λ (j : ℕ). replicate {A = ℕ} j 0) (let z : n - k ≡ suc n - suc k = omega arith in z)
 
 pub lines-filled : (f : ℕ → Line) (roster : ℕ) (before after : List ℕ) → before ≡ replicate (length before) 0
-    → after ≡ flatMap (λ p. lineBytes (f p)) (members roster) ++ drop (29 * size roster) before
+    → after ≡ flatMap (λ p. lineBytes (f p)) (members roster) ++ drop (lineLength * size roster) before
     → after ≡ filled (length before) (map lineBytes (map f (members roster)))
 lines-filled f roster before after z h =
     let s = flatMap (λ b. b) (map lineBytes (map f (members roster))) in
-    let n : 29 * size roster ≡ length s = sym (lines-length (map f (members roster)) ∙ ap (λ (k : ℕ). 29 * k) (length-map (members roster) f ∙ members-length roster)) in
+    let n : lineLength * size roster ≡ length s =
+    sym (lines-length (map f (members roster)) ∙ ap (λ (k : ℕ). lineLength * k) (length-map (members roster) f ∙ members-length roster)) in
     h
     ∙ ap₂ _++_ (flat-lines f (members roster))
     (ap₂ drop n z ∙ zeros-drop (length before) (length s))
 
 -- all that fits
-pub written-told : (lineRoom eventRoom : ℕ) (ls : List Line) (es : List (List ℕ)) (lines events : List ℕ) (people total n : ℕ) → 12 * length es ≤ eventRoom
+pub written-told : (lineRoom eventRoom : ℕ) (ls : List Line) (es : List (List ℕ)) (lines events : List ℕ) (people total n : ℕ) → eventLength * length es ≤ eventRoom
     → people ≡ length ls → total ≡ length es → lines ≡ filled lineRoom (map lineBytes ls) → events ≡ filled eventRoom es
     → record { answer = Answered people total n; lines = lines; events = events } ≡ written lineRoom eventRoom ls es n
 unfolding written
 written-told lineRoom eventRoom ls es lines events people total n h p t l e =
-    rw (le-ltb eventRoom (12 * length es) h, p, t, l, e)
+    rw (le-ltb eventRoom (eventLength * length es) h, p, t, l, e)
 
 no-events : (n : ℕ) → replicate n 0 ≡ filled n []
 unfolding flatMap
@@ -71,7 +74,8 @@ module _ (w : Wanted) (kind roster : ℕ) (before : List ℕ) where
     at = λ room z. ap (refusedWith room) z ∙ by-wanted false e room;
   }
 
-  pub bare-told : (after : List ℕ) (n : ℕ) → w .all ≡ true → n ≡ size roster → after ≡ flatMap (λ p. lineBytes (bareLine kind p)) (members roster) ++ drop (29 * size roster) before
+  pub bare-told : (after : List ℕ) (n : ℕ) → w .all ≡ true → n ≡ size roster
+      → after ≡ flatMap (λ p. lineBytes (bareLine kind p)) (members roster) ++ drop (lineLength * size roster) before
       → Worldless w kind roster before after (Answered n 0 0)
   unfolding worldless
   bare-told after n e k h = record {

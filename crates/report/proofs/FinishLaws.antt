@@ -31,10 +31,9 @@ use Rattle.worlds.specs.paper.World.{World, marked}
 use Rattle.worlds.specs.paper.Active.{active}
 use Rattle.worlds.specs.paper.View.{View, view, roleOf}
 use Rattle.worlds.specs.paper.Events.{littleBytes, event, eventsOf}
-use Rattle.worlds.specs.code.Settled.{blocks, clashes}
 use Rattle.worlds.specs.code.Tables.{row}
-use Rattle.report.specs.paper.Line.{Line, lineBytes, bareLine, lineOver, lineIn, firstKind, holding}
-use Rattle.report.specs.paper.EventList.{insert, rising, defaultEvents}
+use Rattle.report.specs.paper.Line.{Line, lineBytes, bareLine, lineOver, lineIn, firstKind, holding, lineLength}
+use Rattle.report.specs.paper.EventList.{insert, rising, defaultEvents, eventLength}
 use Rattle.report.specs.code.Happened.{Rises, Gathered, defaultOver, discretionOver, happened}
 use Rattle.report.specs.code.EventsWritten.{byRules, eventCount, RuleEvents, AllWritten}
 use Rattle.report.specs.code.Nine.{Nines}
@@ -55,7 +54,7 @@ use Rattle.report.proofs.RisingSet.{Same, rising-rises, of-rising, in-r
 use Rattle.report.proofs.RisingKinds.{happened-rising}
 use Rattle.report.proofs.HappenedAll.{happened-same, defaults-asked, defaults-none}
 use Rattle.report.proofs.HappenedLaws.{Many, rules-many}
-use Rattle.report.proofs.NineLaws.{rising-twelve, flat-length}
+use Rattle.report.proofs.NineLaws.{rising-sized, flat-length}
 use Rattle.report.proofs.FilledLaws.{zeros-drop, lines-filled, written-told}
 use Rattle.report.proofs.WorldBlocks.{PartedIn, world-parted}
 
@@ -147,7 +146,6 @@ module _ (P : paper.Plan) (C : case.Case) (roster : ℕ) (ws : List World) (sums
 
 gathered : (P : paper.Plan) (C : case.Case) (roster : ℕ) (ws : List World) (sums noted : List (List ℕ)) (defaults : ℕ) {l : Listing} {events : List ℕ} (K : Kept P roster ws sums noted l events)
     → gatheredBy P C roster ws sums noted defaults (K .masks)
-unfolding blocks clashes
 gathered P C roster ws sums noted defaults K = record {
   edges = λ e h. K .frozen e;
   cuts = λ c h. K .applied c;
@@ -239,24 +237,26 @@ worlds-placed F I fits named vs =
 
 -- ---- the bytes of the events
 
-events-filled : (rs es : List (List ℕ)) (count listed : ℕ) (before after : List ℕ) → Many rs count → length (flatMap (λ e. e) es) ≡ 12 * length es → listed ≡ length es
-    → before ≡ flatMap (λ e. e) es ++ replicate (length before - 12 * length es) 0
-    → after ≡ flatMap (λ e. e) rs ++ (take (12 * listed) before ++ drop (12 * (count + listed)) before)
+events-filled : (rs es : List (List ℕ)) (count listed : ℕ) (before after : List ℕ) → Many rs count
+    → length (flatMap (λ e. e) es) ≡ eventLength * length es → listed ≡ length es
+    → before ≡ flatMap (λ e. e) es ++ replicate (length before - eventLength * length es) 0
+    → after ≡ flatMap (λ e. e) rs ++ (take (eventLength * listed) before ++ drop (eventLength * (count + listed)) before)
     → after ≡ filled (length before) (rs ++ es)
 events-filled rs es count listed before after m long n b a =
     let fs = flatMap (λ e. e) es in
     let gs = flatMap (λ e. e) rs in
-    let z = length before - 12 * length es in
+    let z = length before - eventLength * length es in
     let lm = m .each .bytes in
     let lc = m .count in
-    let t : take (12 * listed) before ≡ fs =
-    ap (take (12 * listed)) b ∙ take-at fs (replicate z 0) (12 * listed) (let q : length fs ≡ 12 * listed = omega arith in q) in
-    let j : 12 * (count + listed) ≡ length fs + 12 * count = omega arith in
-    let d : drop (12 * (count + listed)) before ≡ replicate (z - 12 * count) 0 =
-    ap₂ drop j b ∙ drop-append-add fs (replicate z 0) (12 * count) ∙ zeros-drop z (12 * count) in
+    let t : take (eventLength * listed) before ≡ fs =
+    ap (take (eventLength * listed)) b
+    ∙ take-at fs (replicate z 0) (eventLength * listed) (let q : length fs ≡ eventLength * listed = omega arith in q) in
+    let j : eventLength * (count + listed) ≡ length fs + eventLength * count = omega arith in
+    let d : drop (eventLength * (count + listed)) before ≡ replicate (z - eventLength * count) 0 =
+    ap₂ drop j b ∙ drop-append-add fs (replicate z 0) (eventLength * count) ∙ zeros-drop z (eventLength * count) in
     let f : flatMap (λ e. e) (rs ++ es) ≡ gs ++ fs = flat-append (λ e. e) rs es in
     let lf : length (flatMap (λ e. e) (rs ++ es)) ≡ length gs + length fs = ap length f ∙ length-append gs fs in
-    let k : z - 12 * count ≡ length before - length (flatMap (λ e. e) (rs ++ es)) = omega arith in
+    let k : z - eventLength * count ≡ length before - length (flatMap (λ e. e) (rs ++ es)) = omega arith in
     a
     ∙ ap (λ (l : List ℕ). gs ++ l) (ap₂ _++_ t (d ∙ ap (λ (i : ℕ). replicate {A = ℕ} i 0) k))
     ∙ sym (append-assoc gs fs _)
@@ -265,10 +265,10 @@ events-filled rs es count listed before after m long n b a =
 -- ---- the outcome
 
 -- more events than the buffer holds
-written-over : (lineRoom eventRoom : ℕ) (ls : List Line) (es : List (List ℕ)) (n : ℕ) → eventRoom < 12 * length es
+written-over : (lineRoom eventRoom : ℕ) (ls : List Line) (es : List (List ℕ)) (n : ℕ) → eventRoom < eventLength * length es
     → written lineRoom eventRoom ls es n ≡ refusal lineRoom eventRoom (Refused 13 0)
 unfolding written
-written-over lineRoom eventRoom ls es n h = rw (lt-ltb eventRoom (12 * length es) h)
+written-over lineRoom eventRoom ls es n h = rw (lt-ltb eventRoom (eventLength * length es) h)
 
 -- no world shows a component
 no-masks : (masks : List ℕ) → ((m : ℕ) → anyOf (eqb m) masks ≡ false) → masks ≡ []
@@ -286,7 +286,7 @@ no-nines l s N = pick (l .full) refl
   where
     pick : (b : Bool) → l .full ≡ b → s ≡ replicate (length s) 0
     pick true e = let h = N .over e in absurd (let z : ⊥ = omega arith in z)
-    pick false e = N .fitting e .2 ∙ ap (λ (k : ℕ). replicate {A = ℕ} k 0) (let z : length s - 12 * 0 ≡ length s = omega arith in z)
+    pick false e = N .fitting e .2 ∙ ap (λ (k : ℕ). replicate {A = ℕ} k 0) (let z : length s - eventLength * 0 ≡ length s = omega arith in z)
 
 ended-all : (b : Bool) → b ≡ true → (lineRoom eventRoom : ℕ) (plan : Plan) (c : Case) (bs : List Bound) (n : ℕ) (ws : List World)
     → ended b lineRoom eventRoom plan c bs n ws ≡ answerReady lineRoom eventRoom (planOf plan) (caseOf c) bs ws
@@ -325,7 +325,7 @@ module _ {plan : Plan} {c : Case} {o : Opens} (w : Wanted) {walked : Walked} {no
   unfolding caseHeadingOf
   same-roster = ap (λ (h : case.CaseHeading). h .roster) (heading-of c (E .sane .heading))
 
-  pub rule-events : (room : ℕ) → 12 * count ≤ room → RuleEvents plan c sums noted (o .defaults) room
+  pub rule-events : (room : ℕ) → eventLength * count ≤ room → RuleEvents plan c sums noted (o .defaults) room
   rule-events room h = record {
     sound = E .sound;
     read = record { plan = P; sound = E .sane };
@@ -342,8 +342,8 @@ module _ {plan : Plan} {c : Case} {o : Opens} (w : Wanted) {walked : Walked} {no
 
   many-rules : Many rules count
   many-rules =
-      rules-many plan c sums noted (o .defaults) (replicate (12 * count) 0)
-      (rule-events (length (replicate {A = ℕ} (12 * count) 0)) (let l = length-replicate {A = ℕ} (12 * count) 0 in omega arith))
+      rules-many plan c sums noted (o .defaults) (replicate (eventLength * count) 0)
+      (rule-events (length (replicate {A = ℕ} (eventLength * count) 0)) (let l = length-replicate {A = ℕ} (eventLength * count) 0 in omega arith))
 
   -- ---- with no world
 
@@ -391,7 +391,7 @@ module _ {plan : Plan} {c : Case} {o : Opens} (w : Wanted) {walked : Walked} {no
         ≡ written (length lines₀) (length events₀) (map line (members people)) events (walked .worlds)
     same : rules ++ rising (map nine masks) ≡ events
     lines : (lines₁ : List ℕ) → LinesBy sums people factSets decisionSets lines₀ lines₁
-        → lines₁ ≡ flatMap (λ p. lineBytes (line p)) (members people) ++ drop (29 * size people) lines₀
+        → lines₁ ≡ flatMap (λ p. lineBytes (line p)) (members people) ++ drop (lineLength * size people) lines₀
 
   answer-is : (bs : List Bound) (ws : List World) → answerReady (length lines₀) (length events₀) P C bs ws
       ≡ written (length lines₀) (length events₀) (map (λ p. lineOver (influences P C bs) p (map (λ v. view P v p) ws)) (members people)) (eventsOver P C bs ws) (length ws)
@@ -430,7 +430,7 @@ module _ {plan : Plan} {c : Case} {o : Opens} (w : Wanted) {walked : Walked} {no
     lines = λ lines₁ h.
         h .at (λ p. view P u p) (λ p. map (λ v. view P v p) ws) (sums-of P people u ws K)
         ∙ ap₂ (λ (fs ds : List ℕ). flatMap (λ p. lineBytes (lineOver (record { facts = fs; decisions = ds }) p (map (λ v. view P v p) (u ∷ ws)))) (members people)
-        ++ drop (29 * size people) lines₀) ef ed;
+        ++ drop (lineLength * size people) lines₀) ef ed;
   }
 
   sought-one : (bs : List Bound) (u : World) (ws : List World) (K : KeptOf (u ∷ ws)) → w .all ≡ false → length (u ∷ ws) ≤ 1 → Placed P people u
@@ -446,9 +446,9 @@ module _ {plan : Plan} {c : Case} {o : Opens} (w : Wanted) {walked : Walked} {no
         (defaults-none P (o .defaults) (λ f h. ap (λ (m : ℕ). has m f) (z .2) ∙ has-none f)) ∙ in-is u;
     lines = λ lines₁ h.
         h .at (λ p. view P u p) (λ p. []) (sums-of P people u [] K)
-        ∙ ap₂ (λ (fs ds : List ℕ). flatMap (λ p. lineBytes (lineOver (record { facts = fs; decisions = ds }) p (view P u p ∷ []))) (members people) ++ drop (29 * size people) lines₀)
+        ∙ ap₂ (λ (fs ds : List ℕ). flatMap (λ p. lineBytes (lineOver (record { facts = fs; decisions = ds }) p (view P u p ∷ []))) (members people) ++ drop (lineLength * size people) lines₀)
         (ap (λ (n : ℕ). take n (setsOf (o .influence))) (z .0)) (ap₂ (λ (n k : ℕ). drop n (take k (o .influence .sets))) (z .0) (z .1))
-        ∙ ap (λ (l : List ℕ). l ++ drop (29 * size people) lines₀)
+        ∙ ap (λ (l : List ℕ). l ++ drop (lineLength * size people) lines₀)
         (flat-agree (λ p. lineBytes (lineOver closed p (view P u p ∷ []))) (λ p. lineBytes (lineIn p (view P u p))) (λ p. has people p ≡ true)
         (λ p here. ap lineBytes (line-shown P u p (pl .at p here))) (members people) (members-all people));
   }
@@ -473,15 +473,15 @@ module _ {plan : Plan} {c : Case} {o : Opens} (w : Wanted) {walked : Walked} {no
       sym (ap length (S .same)) ∙ length-append rules (rising (map nine masks)) ∙ ap (λ (n : ℕ). n + length (rising (map nine masks))) (many-rules .count)
 
   -- MORE EVENTS THAN THE BUFFER HOLDS
-  pub over : (n : ℕ) (events₁ : List ℕ) → (row sums 4 3 ≡ 0 → ⊥) → n ≡ count → (walked .listing .full ≡ true) ⊎ (length events₀ < 12 * (n + walked .listing .count))
+  pub over : (n : ℕ) (events₁ : List ℕ) → (row sums 4 3 ≡ 0 → ⊥) → n ≡ count → (walked .listing .full ≡ true) ⊎ (length events₀ < eventLength * (n + walked .listing .count))
       → events₁ ≡ replicate (length events₀) 0 → Finishes plan c o w walked noted sums lines₀ lines₀ events₀ events₁ (Refused 13 0)
   over n events₁ begun e much cleared = record { at = go }
     where
-      more : (es : List (List ℕ)) → Nines es (walked .listing) events₀ → length events₀ < 12 * (count + length (rising es))
+      more : (es : List (List ℕ)) → Nines es (walked .listing) events₀ → length events₀ < eventLength * (count + length (rising es))
       more es N = pick (walked .listing .full) refl much
         where
-          pick : (b : Bool) → walked .listing .full ≡ b → (walked .listing .full ≡ true) ⊎ (length events₀ < 12 * (n + walked .listing .count))
-              → length events₀ < 12 * (count + length (rising es))
+          pick : (b : Bool) → walked .listing .full ≡ b → (walked .listing .full ≡ true) ⊎ (length events₀ < eventLength * (n + walked .listing .count))
+              → length events₀ < eventLength * (count + length (rising es))
           pick true f m = let h = N .over f in omega arith
           pick false f (inl g) = clash g f
           pick false f (inr h) = let k = N .fitting f .0 in omega arith
@@ -500,7 +500,7 @@ module _ {plan : Plan} {c : Case} {o : Opens} (w : Wanted) {walked : Walked} {no
 
   -- LINES AND EVENTS
   pub told : (n listed : ℕ) (lines₁ events₁ : List ℕ) (k : ℕ) → (row sums 4 3 ≡ 0 → ⊥) → n ≡ count → listed ≡ walked .listing .count → walked .listing .full ≡ false
-      → 12 * (n + listed) ≤ length events₀ → LinesBy sums people factSets decisionSets lines₀ lines₁ → AllWritten P C sums noted (o .defaults) n listed events₀ events₁
+      → eventLength * (n + listed) ≤ length events₀ → LinesBy sums people factSets decisionSets lines₀ lines₁ → AllWritten P C sums noted (o .defaults) n listed events₀ events₁
       → k ≡ size people → Finishes plan c o w walked noted sums lines₀ lines₁ events₀ events₁ (Answered k (n + listed) (walked .worlds))
   told n listed lines₁ events₁ k begun e el part fit L A p = record { at = go }
     where
@@ -519,6 +519,6 @@ module _ {plan : Plan} {c : Case} {o : Opens} (w : Wanted) {walked : Walked} {no
           written-told (length lines₀) (length events₀) (map (S .line) (members people)) (S .events) lines₁ events₁ k (n + listed) (walked .worlds) (omega arith)
           (p ∙ sym (length-map (members people) (S .line) ∙ members-length people)) (let z : n + listed ≡ length (S .events) = omega arith in z)
           (lines-filled (S .line) people lines₀ lines₁ zl (S .lines lines₁ L))
-          (events-filled rules es n listed events₀ events₁ (subst (Many rules) (sym e) many-rules) (flat-length es (rising-twelve (map nine (K .masks)) (K .nines .each)))
+          (events-filled rules es n listed events₀ events₁ (subst (Many rules) (sym e) many-rules) (flat-length es (rising-sized (map nine (K .masks)) (K .nines .each)))
           (el ∙ nl) (N .2) (A .bytes e) ∙ ap (filled (length events₀)) (S .same))
           ∙ sym (S .is)

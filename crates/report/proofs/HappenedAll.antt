@@ -15,11 +15,11 @@ use Rattle.sets.proofs.Local.{clash}
 use Rattle.expressions.specs.paper.Rules.{edgeCount, cutCount, attachmentCount, barCount, statusCount, factCount}
 use Rattle.expressions.specs.paper.Nodes.{on}
 use Rattle.expressions.specs.paper.Bindings.{Bound, tookDefault}
-use Rattle.worlds.specs.paper.World.{World, looseComponents, standing, blockedBy, barHolds}
-use Rattle.worlds.specs.paper.Events.{littleBytes, event, listed, frozenEvents, appliedEvents, blockedEvents, overlapEvents, attachmentEvents, barEvents, statusEvents, discretionEvents, eventsOf}
+use Rattle.worlds.specs.paper.World.{World, looseComponents, barHolds}
+use Rattle.worlds.specs.paper.Events.{littleBytes, event, listed, frozenEvents, appliedEvents, blocks, blockedEvents, overlaps, overlapEvents, attachmentEvents, barEvents, statusEvents, discretionEvents, eventsOf}
 use Rattle.report.specs.paper.EventList.{rising, defaultEvents}
 use Rattle.report.specs.paper.Operations.{eventsOver}
-use Rattle.report.specs.code.Happened.{Rises, overlaps, Gathered, frozenOver, appliedOver, blockedOver, overlapOver, attachmentOver, barOver, statusOver, defaultOver, discretionOver, happened}
+use Rattle.report.specs.code.Happened.{Rises, Gathered, frozenOver, appliedOver, blockedOver, overlapOver, attachmentOver, barOver, statusOver, defaultOver, discretionOver, happened}
 use Rattle.report.proofs.AmongLaws.{Among, in-left, in-right, of-both, in-flat, of-flat, in-map, of-map, of-numbers, in-listed, of-listed, in-any, of-any}
 use Rattle.report.proofs.RisingSet.{Same, rises-rising}
 use Rattle.report.proofs.RisingKinds.{happened-rising}
@@ -201,9 +201,7 @@ module _ (P : Plan) (C : Case) (roster : ℕ) (ws : List World) (frozen applied 
 
   kind3 : Same (blockedOver P C blockings) (flatMap (blockedEvents P C roster) ws)
   unfolding blockedOver blockedEvents
-  kind3 =
-      by-rules ws (cutCount P) (edgeCount P) (λ c. has (blockings c)) (λ w c e. standing (w .kept) (w .overlapping) c && blockedBy P (w .active) c e) _
-      (G .blocked)
+  kind3 = by-rules ws (cutCount P) (edgeCount P) (λ c. has (blockings c)) (blocks P) _ (G .blocked)
 
   kind4 : Same (overlapOver P clashes) (flatMap (overlapEvents P C roster) ws)
   unfolding overlapOver overlapEvents

@@ -16,6 +16,7 @@ use Rattle.expressions.proofs.ListLaws.{flat-append}
 use Rattle.worlds.specs.code.Tables.{row}
 use Rattle.worlds.specs.paper.Events.{listed}
 use Rattle.worlds.proofs.FindLaws.{few-low}
+use Rattle.report.specs.paper.EventList.{eventLength}
 use Rattle.report.specs.code.Happened.{frozenOver, appliedOver, blockedOver, overlapOver, attachmentOver, barOver, statusOver, defaultOver, discretionOver, happened}
 use Rattle.report.specs.code.EventBytes.{Below, Writes, sizes}
 use Rattle.report.specs.code.EventsWritten.{Shifted, byRules, eventCount, RuleEvents, EventsWritten, AllWritten}
@@ -73,7 +74,7 @@ module _ (n by : ℕ) (before : List ℕ) (room : n + by ≤ length before) wher
         long = s .long;
       }
 
--- ---- how many events, each with its 12 bytes
+-- ---- how many events, each of `eventLength` bytes
 
 pub record Many (es : List (List ℕ)) (n : ℕ) : Type 0 where
   pub count : length es ≡ n
@@ -82,7 +83,7 @@ pub record Many (es : List (List ℕ)) (n : ℕ) : Type 0 where
 many-both : {es fs : List (List ℕ)} {m n : ℕ} → Many es m → Many fs n → Many (es ++ fs) (m + n)
 many-both {es} {fs} a b = record { count = length-append es fs ∙ ap₂ _+_ (a .count) (b .count); each = long-both (a .each) (b .each) }
 
-many-listed : (f : ℕ → List ℕ) → ((i : ℕ) → length (f i) ≡ 12) → (n m : ℕ) → n ≤ 64 → Below m n → Many (listed n (has m) f) (size m)
+many-listed : (f : ℕ → List ℕ) → ((i : ℕ) → length (f i) ≡ eventLength) → (n m : ℕ) → n ≤ 64 → Below m n → Many (listed n (has m) f) (size m)
 many-listed f h n m few b =
     subst (λ (es : List (List ℕ)). Many es (size m)) (listed-members f n m (few-low n m few b) b)
     (record { count = length-map (members m) f ∙ members-length m; each = long-map f h (members m) })
@@ -108,12 +109,13 @@ pub record Upto (es : List (List ℕ)) (n : ℕ) (before after : List ℕ) (next
   pub written : Writes 0 es before after next
   pub many : Many es n
   pub long : length after ≡ length before
-  pub place : next ≡ 12 * n
+  pub place : next ≡ eventLength * n
 
-upto-first : {es : List (List ℕ)} {n next : ℕ} {before after : List ℕ} → Many es n → 12 * n ≤ length before → Writes 0 es before after next → Upto es n before after next
+upto-first : {es : List (List ℕ)} {n next : ℕ} {before after : List ℕ} → Many es n → eventLength * n ≤ length before
+    → Writes 0 es before after next → Upto es n before after next
 upto-first m h w = record { written = w; many = m; long = writes-long (m .each) (omega (arith, m .count)) w; place = omega (arith, m .count, w .place) }
 
-upto-more : {es fs : List (List ℕ)} {n k p q : ℕ} {before mid after : List ℕ} → Upto es n before mid p → Many fs k → 12 * (n + k) ≤ length before → Writes p fs mid after q
+upto-more : {es fs : List (List ℕ)} {n k p q : ℕ} {before mid after : List ℕ} → Upto es n before mid p → Many fs k → eventLength * (n + k) ≤ length before → Writes p fs mid after q
     → Upto (es ++ fs) (n + k) before after q
 upto-more {es} {fs} {n} {k} {p} {q} {before} {mid} {after} u m h w = record {
   written = writes-both 0 p q es fs before mid after (u .many .each) (omega (arith, u .many .count)) (u .written) w;
@@ -177,7 +179,7 @@ module _ (plan : Plan) (c : Case) (sums noted : List (List ℕ)) (defaults : ℕ
       Upto (excluded ++ defaultOver (planOf plan) defaults) (clashes + size (row sums 4 6) + size (row sums 4 7) + size (row sums 4 8) + size defaults) before
 
   module _ (r : RuleEvents plan c sums noted defaults (length before)) where
-    fits : 12 * (clashes + size (row sums 4 6) + size (row sums 4 7) + size (row sums 4 8) + size defaults) ≤ length before
+    fits : eventLength * (clashes + size (row sums 4 6) + size (row sums 4 7) + size (row sums 4 8) + size defaults) ≤ length before
     unfolding eventCount
     fits = let f = r .fit in omega arith
 
@@ -215,7 +217,7 @@ module _ (plan : Plan) (c : Case) (sums noted : List (List ℕ)) (defaults : ℕ
 
     -- each kind fits, and is written
 
-    pub frozen-room : 0 + 12 * size (row sums 4 4) ≤ length before
+    pub frozen-room : 0 + eventLength * size (row sums 4 4) ≤ length before
     frozen-room = let f = fits in omega arith
 
     -- HOW MANY THERE ARE BY RULE
@@ -233,43 +235,43 @@ module _ (plan : Plan) (c : Case) (sums noted : List (List ℕ)) (defaults : ℕ
     pub frozen-next : {after : List ℕ} {next : ℕ} → Writes 0 frozen before after next → Frozen after next
     frozen-next = upto-first many-frozen (let f = fits in omega arith)
 
-    pub applied-room : {mid : List ℕ} {p : ℕ} → Frozen mid p → p + 12 * size (row sums 4 5) ≤ length mid
+    pub applied-room : {mid : List ℕ} {p : ℕ} → Frozen mid p → p + eventLength * size (row sums 4 5) ≤ length mid
     applied-room u = let f = fits in omega (arith, u .place, u .long)
 
     pub applied-next : {mid after : List ℕ} {p q : ℕ} → Frozen mid p → Writes p (appliedOver (planOf plan) (caseOf c) (row sums 4 5)) mid after q → Applied after q
     applied-next u = upto-more u many-applied (let f = fits in omega arith)
 
-    pub blocked-room : {mid : List ℕ} {p n : ℕ} → n ≡ cutCount (planOf plan) → Applied mid p → p + 12 * sizes n (row noted 1) ≤ length mid
+    pub blocked-room : {mid : List ℕ} {p n : ℕ} → n ≡ cutCount (planOf plan) → Applied mid p → p + eventLength * sizes n (row noted 1) ≤ length mid
     blocked-room e u = let f = fits in omega (arith, u .place, u .long, ap (λ (k : ℕ). sizes k (row noted 1)) e)
 
     pub blocked-next : {mid after : List ℕ} {p q : ℕ} → Applied mid p → Writes p (blockedOver (planOf plan) (caseOf c) (row noted 1)) mid after q → Blocked after q
     blocked-next u = upto-more u many-blocked (let f = fits in omega arith)
 
-    pub clashed-room : {mid : List ℕ} {p n : ℕ} → n ≡ cutCount (planOf plan) → Blocked mid p → p + 12 * sizes n (row noted 2) ≤ length mid
+    pub clashed-room : {mid : List ℕ} {p n : ℕ} → n ≡ cutCount (planOf plan) → Blocked mid p → p + eventLength * sizes n (row noted 2) ≤ length mid
     clashed-room e u = let f = fits in omega (arith, u .place, u .long, ap (λ (k : ℕ). sizes k (row noted 2)) e)
 
     pub clashed-next : {mid after : List ℕ} {p q : ℕ} → Blocked mid p → Writes p (overlapOver (planOf plan) (row noted 2)) mid after q → Clashed after q
     clashed-next u = upto-more u many-clashed (let f = fits in omega arith)
 
-    pub attached-room : {mid : List ℕ} {p : ℕ} → Clashed mid p → p + 12 * size (row sums 4 6) ≤ length mid
+    pub attached-room : {mid : List ℕ} {p : ℕ} → Clashed mid p → p + eventLength * size (row sums 4 6) ≤ length mid
     attached-room u = let f = fits in omega (arith, u .place, u .long)
 
     pub attached-next : {mid after : List ℕ} {p q : ℕ} → Clashed mid p → Writes p (attachmentOver (planOf plan) (caseOf c) (row sums 4 6)) mid after q → Attached after q
     attached-next u = upto-more u many-attached (let f = fits in omega arith)
 
-    pub barred-room : {mid : List ℕ} {p : ℕ} → Attached mid p → p + 12 * size (row sums 4 7) ≤ length mid
+    pub barred-room : {mid : List ℕ} {p : ℕ} → Attached mid p → p + eventLength * size (row sums 4 7) ≤ length mid
     barred-room u = let f = fits in omega (arith, u .place, u .long)
 
     pub barred-next : {mid after : List ℕ} {p q : ℕ} → Attached mid p → Writes p (barOver (planOf plan) (row sums 4 7)) mid after q → Barred after q
     barred-next u = upto-more u many-barred (let f = fits in omega arith)
 
-    pub excluded-room : {mid : List ℕ} {p : ℕ} → Barred mid p → p + 12 * size (row sums 4 8) ≤ length mid
+    pub excluded-room : {mid : List ℕ} {p : ℕ} → Barred mid p → p + eventLength * size (row sums 4 8) ≤ length mid
     excluded-room u = let f = fits in omega (arith, u .place, u .long)
 
     pub excluded-next : {mid after : List ℕ} {p q : ℕ} → Barred mid p → Writes p (statusOver (planOf plan) (row sums 4 8)) mid after q → Excluded after q
     excluded-next u = upto-more u many-excluded (let f = fits in omega arith)
 
-    pub defaulted-room : {mid : List ℕ} {p : ℕ} → Excluded mid p → p + 12 * size defaults ≤ length mid
+    pub defaulted-room : {mid : List ℕ} {p : ℕ} → Excluded mid p → p + eventLength * size defaults ≤ length mid
     defaulted-room u = let f = fits in omega (arith, u .place, u .long)
 
     pub defaulted-next : {mid after : List ℕ} {p q : ℕ} → Excluded mid p → Writes p (defaultOver (planOf plan) defaults) mid after q → Defaulted after q
@@ -281,8 +283,9 @@ module _ (plan : Plan) (c : Case) (sums noted : List (List ℕ)) (defaults : ℕ
     all-written {after} {next} u =
         let e : excluded ++ defaultOver (planOf plan) defaults ≡ byRules (planOf plan) (caseOf c) sums noted defaults = simp (append-assoc, append-nil) in record {
           bytes =
-              u .written .bytes ∙ ap (λ (k : ℕ). flatMap (λ e. e) (excluded ++ defaultOver (planOf plan) defaults) ++ drop k before) (zero-add (12 * length (excluded ++ defaultOver (planOf plan) defaults)))
-              ∙ ap (λ (es : List (List ℕ)). flatMap (λ e. e) es ++ drop (12 * length es) before) e;
+              u .written .bytes ∙ ap (λ (k : ℕ). flatMap (λ e. e) (excluded ++ defaultOver (planOf plan) defaults) ++ drop k before)
+              (zero-add (eventLength * length (excluded ++ defaultOver (planOf plan) defaults)))
+              ∙ ap (λ (es : List (List ℕ)). flatMap (λ e. e) es ++ drop (eventLength * length es) before) e;
           count = let l = sym (ap length e) ∙ u .many .count in omega arith;
         }
 
@@ -299,23 +302,27 @@ none-written plan c sums noted defaults count listed before r z = record {
   bytes = λ e.
       let es = byRules (planOf plan) (caseOf c) sums noted defaults in
       let k : length es ≡ 0 = rules-many plan c sums noted defaults before r .count ∙ sym e ∙ z in
-      sym (take-append-drop (12 * listed) before)
-      ∙ ap₂ (λ (xs : List (List ℕ)) (j : ℕ). flatMap (λ e. e) xs ++ (take (12 * listed) before ++ drop j before)) (sym (length-none es k)) (let y : 12 * listed ≡ 12 * (count + listed) = omega arith in y);
+      sym (take-append-drop (eventLength * listed) before)
+      ∙ ap₂ (λ (xs : List (List ℕ)) (j : ℕ). flatMap (λ e. e) xs ++ (take (eventLength * listed) before ++ drop j before)) (sym (length-none es k))
+      (let y : eventLength * listed ≡ eventLength * (count + listed) = omega arith in y);
 }
   where
     length-none : {A : Type 0} (xs : List A) → length xs ≡ 0 → xs ≡ []
     length-none [] k = refl
     length-none (x ∷ xs) k = absurd (omega arith)
 
-pub behind-all : (plan : Plan) (c : Case) (sums noted : List (List ℕ)) (defaults count listed : ℕ) (before mid after : List ℕ) → Shifted (listed * 12) (count * 12) before mid
+pub behind-all : (plan : Plan) (c : Case) (sums noted : List (List ℕ)) (defaults count listed : ℕ) (before mid after : List ℕ)
+    → Shifted (listed * eventLength) (count * eventLength) before mid
     → EventsWritten (planOf plan) (caseOf c) sums noted defaults mid after → AllWritten (planOf plan) (caseOf c) sums noted defaults count listed before after
 behind-all plan c sums noted defaults count listed before mid after s w = record {
   bytes = λ e.
       let es = byRules (planOf plan) (caseOf c) sums noted defaults in
-      let k : 12 * length es ≡ count * 12 = omega (arith, w .count) in
+      let k : eventLength * length es ≡ count * eventLength = omega (arith, w .count) in
       w .bytes ∙ ap (λ (l : List ℕ). flatMap (λ e. e) es ++ l)
-      (ap (λ (j : ℕ). drop j mid) k ∙ sym (take-append-drop (listed * 12) (drop (count * 12) mid))
-      ∙ ap₂ (λ (x y : List ℕ). x ++ y) (s .moved ∙ ap (λ (j : ℕ). take j before) (let z : listed * 12 ≡ 12 * listed = omega arith in z))
-      (drop-drop (listed * 12) (count * 12) mid ∙ ap (λ (j : ℕ). drop j mid) (let z : count * 12 + listed * 12 ≡ listed * 12 + count * 12 = omega arith in z) ∙ s .behind
-      ∙ ap (λ (j : ℕ). drop j before) (let z : listed * 12 + count * 12 ≡ 12 * (count + listed) = omega arith in z)));
+      (ap (λ (j : ℕ). drop j mid) k ∙ sym (take-append-drop (listed * eventLength) (drop (count * eventLength) mid))
+      ∙ ap₂ (λ (x y : List ℕ). x ++ y)
+      (s .moved ∙ ap (λ (j : ℕ). take j before) (let z : listed * eventLength ≡ eventLength * listed = omega arith in z))
+      (drop-drop (listed * eventLength) (count * eventLength) mid
+      ∙ ap (λ (j : ℕ). drop j mid) (let z : count * eventLength + listed * eventLength ≡ listed * eventLength + count * eventLength = omega arith in z) ∙ s .behind
+      ∙ ap (λ (j : ℕ). drop j before) (let z : listed * eventLength + count * eventLength ≡ eventLength * (count + listed) = omega arith in z)));
 }

@@ -11,6 +11,7 @@ pub mod HappenedAll
 pub mod FoldLaws
 pub mod WriteLaws
 pub mod NineLaws
+pub mod SearchLaws
 pub mod EventLaws
 pub mod NearLeaves
 pub mod KeptSame

@@ -15,7 +15,7 @@ use Rattle.records.specs.paper.Plan.{Plan, Heading}
 use Rattle.records.specs.paper.Case.{Case, CaseHeading, caseHeading}
 use Rattle.records.specs.promises.Sound.{Sound, SoundCase}
 use Rattle.records.specs.code.Check.{checkedOf}
-use Rattle.records.specs.code.Decoded.{planOf, caseOf, caseHeadingOf, ifGiven}
+use Rattle.records.specs.code.Decoded.{planOf, caseOf, caseHeadingOf, ifGiven, statusesOf}
 use Rattle.records.specs.declared.plan.Plan.{Plan as Coded}
 use Rattle.records.specs.declared.case.Case.{Case as CodedCase}
 use Rattle.records.specs.declared.checked.Checked.{Checked}
@@ -27,8 +27,8 @@ use Rattle.expressions.specs.paper.Influence.{Frame, openDecisions}
 use Rattle.expressions.specs.paper.Bindings.{Bound, bindings, bindingsBy, bindingAt, bindable, frameOf}
 use Rattle.expressions.specs.paper.Variables.{worldCount}
 use Rattle.expressions.specs.code.Codes.{boundOf}
-use Rattle.expressions.specs.code.Coded.{frameBy, statusesOf, PersonFits, HoldsUses}
-use Rattle.expressions.specs.code.Counted.{countOf, Counts}
+use Rattle.expressions.specs.code.Coded.{frameBy, PersonFits, HoldsUses}
+use Rattle.expressions.specs.code.Counted.{countAgainst, Counts}
 use Rattle.expressions.specs.code.Reached.{Reached}
 use Rattle.expressions.specs.code.Told.{BindsFacts}
 use Rattle.expressions.specs.declared.bindings.Bound.{Bound as CodedBound}
@@ -39,9 +39,9 @@ use Rattle.expressions.proofs.OpenLaws.{opens-number}
 use Rattle.expressions.proofs.FactLaws.{bindings-by}
 use Rattle.expressions.proofs.ReachLaws.{heading-of, frame-of}
 use Rattle.report.specs.paper.Line.{lineLength}
-use Rattle.report.specs.paper.Operations.{relationOf, mismatched, headingFault, tooMany, Opened, stopped, incomplete, ready, orStop, unlessFault, counted, bound}
+use Rattle.report.specs.paper.Operations.{relationOf, mismatched, headingFault, tooMany, Opened, stopped, incomplete, ready, orStop, unlessFault, counted, boundAndCounted, bound}
 use Rattle.report.specs.code.Opening.{RulePersons, HeadingFault}
-use Rattle.report.specs.code.Operate.{judged, headed}
+use Rattle.report.specs.code.Operate.{headed}
 use Rattle.report.specs.code.Ready.{IsReady}
 use Rattle.report.specs.code.Open.{stopBy, openedOf, OpensCase}
 use Rattle.report.specs.declared.Answer.the-variants.{Refused, TooManyWorlds}
@@ -78,8 +78,8 @@ not-both (fine a) e f = let z : _≡_ {A = ℕ} 0 1 = cc in omega arith
 not-both (refused m j) e f = let z : _≡_ {A = ℕ} 0 1 = cc in omega arith
 
 -- the code's count and maximum are those of refusal 11
-too-many : (n most : ℕ) → tooMany n most ≡ TooManyWorlds (countOf n most .count) (countOf n most .maximum)
-unfolding tooMany countOf
+too-many : (n most : ℕ) → tooMany n most ≡ TooManyWorlds (countAgainst n most .count) (countAgainst n most .maximum)
+unfolding tooMany countAgainst
 too-many n most = refl
 
 -- ---- the heading
@@ -106,7 +106,7 @@ module _ (plan : Coded) (c : CodedCase) (sound : Sound (planOf plan)) (sane : So
       ap (λ (h : Heading). h .relation) (sym (getD-take (plan .headings) (h ∷ []) 0 (record { relation = 0; chain = [] }) (omega (arith, l, sound .heading))))
 
   pub persons-fit : All PersonFits (statusesOf (plan .statuses))
-  unfolding statusesOf planOf
+  unfolding planOf
   persons-fit = statuses-fit Pl sound
 
   module _ (room : ℕ) where
@@ -142,11 +142,11 @@ module _ (plan : Coded) (c : CodedCase) (sound : Sound (planOf plan)) (sane : So
       roster-peopled : c .heading .roster ≡ 0 → ⊥
       roster-peopled e = somebody Pl (caseHeading Ca) room z (roster-is ∙ e)
 
-      lines-fit : 29 * size (c .heading .roster) ≤ room
+      lines-fit : lineLength * size (c .heading .roster) ≤ room
       unfolding headingFault
       lines-fit =
-          subst (λ (m : ℕ). 29 * size m ≤ room) roster-is
-          (ltb-false room (29 * size (caseHeading Ca .roster))
+          subst (λ (m : ℕ). lineLength * size m ≤ room) roster-is
+          (ltb-false room (lineLength * size (caseHeading Ca .roster))
           (fits (caseHeading Ca .segmentComplete) (mismatched Pl (caseHeading Ca)) (ltb room (lineLength * size (caseHeading Ca .roster))) z))
         where
           fits : (a b d : Bool) → _≡_ {A = ℕ} (cond a (cond b 9 (cond d 12 0)) 8) 0 → d ≡ false
@@ -157,13 +157,13 @@ module _ (plan : Coded) (c : CodedCase) (sound : Sound (planOf plan)) (sane : So
 
       -- by whether the roster is complete
       by-complete : (b : Bool) → c .heading .complete ≡ b
-          → bound Pl Ca ≡ cond (eqb (length (ifGiven b (c .heading .evidence))) 0) (incomplete (c .heading .roster)) (judged plan c)
-      unfolding bound judged caseHeadingOf
+          → bound Pl Ca ≡ cond (eqb (length (ifGiven b (c .heading .evidence))) 0) (incomplete (c .heading .roster)) (boundAndCounted Pl Ca)
+      unfolding bound caseHeadingOf
       by-complete b e =
-          ap (λ (h : CaseHeading). cond (eqb (length (h .complete)) 0) (incomplete (h .roster)) (judged plan c)) headed-by
-          ∙ ap (λ (b : Bool). cond (eqb (length (ifGiven b (c .heading .evidence))) 0) (incomplete (c .heading .roster)) (judged plan c)) e
+          ap (λ (h : CaseHeading). cond (eqb (length (h .complete)) 0) (incomplete (h .roster)) (boundAndCounted Pl Ca)) headed-by
+          ∙ ap (λ (b : Bool). cond (eqb (length (ifGiven b (c .heading .evidence))) 0) (incomplete (c .heading .roster)) (boundAndCounted Pl Ca)) e
 
-      roster-complete : c .heading .complete ≡ true → judged plan c ≡ headed plan c room
+      roster-complete : c .heading .complete ≡ true → boundAndCounted Pl Ca ≡ headed plan c room
       roster-complete e = sym (heading-passes ∙ by-complete true e)
 
       roster-incomplete : c .heading .complete ≡ false → headed plan c room ≡ incomplete (c .heading .roster)
@@ -174,12 +174,12 @@ module _ (plan : Coded) (c : CodedCase) (sound : Sound (planOf plan)) (sane : So
   abbrev bs : List Bound
   bs = bindings Pl Ca
 
-  binding-stops : (n k : ℕ) → checkedOf (bindable Ca) ≡ checked.Refused n k → judged plan c ≡ stopped (Refused n k)
-  unfolding judged
+  binding-stops : (n k : ℕ) → checkedOf (bindable Ca) ≡ checked.Refused n k → boundAndCounted Pl Ca ≡ stopped (Refused n k)
+  unfolding boundAndCounted
   binding-stops n k e = ap (λ (v : Verdict Case). orStop v (λ C. counted Pl C (bindings Pl C))) (refused-is (bindable Ca) (sym e))
 
-  binding-passes : checkedOf (bindable Ca) ≡ checked.Accepted → judged plan c ≡ counted Pl Ca bs
-  unfolding judged
+  binding-passes : checkedOf (bindable Ca) ≡ checked.Accepted → boundAndCounted Pl Ca ≡ counted Pl Ca bs
+  unfolding boundAndCounted
   binding-passes e = ap (λ (v : Verdict Case). orStop v (λ C. counted Pl C (bindings Pl C))) (whole (bindable-split Ca))
     where
       whole : (bindable Ca ≡ fine Ca) ⊎ ((n : ℕ) × (j : ℕ) × (bindable Ca ≡ refused (suc n) j)) → bindable Ca ≡ fine Ca
@@ -195,25 +195,25 @@ module _ (plan : Coded) (c : CodedCase) (sound : Sound (planOf plan)) (sane : So
     codes-bound f = coded f ∙ ap (λ (m : ℕ). bindingAt (bindingsBy Pl Ca m) f) (over .bound) ∙ ap (λ (l : List Bound). bindingAt l f) (bindings-by Pl Ca)
 
     module _ (r : Count) (counts : Counts codes (reach .count) (reach .undecided .count) (c .heading .«most_worlds») r) where
-      worlds-counted : r ≡ countOf (worldCount Pl bs) (caseHeading Ca .mostWorlds)
+      worlds-counted : r ≡ countAgainst (worldCount Pl bs) (caseHeading Ca .mostWorlds)
       unfolding caseHeadingOf
       worlds-counted =
           counts .worlds Pl bs (sym (over .count)) (sym (opens-number (reach .undecided) (openDecisions Pl) (over .opens))) codes-bound
-          ∙ ap (λ (h : CaseHeading). countOf (worldCount Pl bs) (h .mostWorlds)) (sym headed-by)
+          ∙ ap (λ (h : CaseHeading). countAgainst (worldCount Pl bs) (h .mostWorlds)) (sym headed-by)
 
       over-most : ltb (caseHeading Ca .mostWorlds) (worldCount Pl bs) ≡ r .refused
-      unfolding countOf
+      unfolding countAgainst
       over-most = sym (ap (λ (k : Count). k .refused) worlds-counted)
 
       module _ (e : checkedOf (bindable Ca) ≡ checked.Accepted) where
-        count-stops : r .refused ≡ true → judged plan c ≡ stopped (TooManyWorlds (r .count) (r .maximum))
+        count-stops : r .refused ≡ true → boundAndCounted Pl Ca ≡ stopped (TooManyWorlds (r .count) (r .maximum))
         unfolding counted
         count-stops h =
             binding-passes e
             ∙ ap (λ (b : Bool). cond b (stopped (tooMany (worldCount Pl bs) (caseHeading Ca .mostWorlds))) (ready Pl Ca bs)) (over-most ∙ h)
             ∙ ap stopped (too-many (worldCount Pl bs) (caseHeading Ca .mostWorlds) ∙ ap (λ (k : Count). TooManyWorlds (k .count) (k .maximum)) (sym worlds-counted))
 
-        count-passes : r .refused ≡ false → judged plan c ≡ ready Pl Ca bs
+        count-passes : r .refused ≡ false → boundAndCounted Pl Ca ≡ ready Pl Ca bs
         unfolding counted
         count-passes h =
             binding-passes e
@@ -235,15 +235,15 @@ module _ (plan : Coded) (c : CodedCase) (sound : Sound (planOf plan)) (sane : So
       (b : CodedBound) (binds : BindsFacts Pl Ca (reach .bound) b)
       (n : Count) (counts : Counts (b .codes) (reach .count) (reach .undecided .count) (c .heading .«most_worlds») n) where
     fault-is : k ≡ fault room
-    unfolding frameBy statusesOf planOf
+    unfolding frameBy planOf
     fault-is = told .at Pl relation-is (listed .at Pl (reached .groups) refl) ∙ ap (λ (h : CaseHeading). headingFault Pl h room) (sym headed-by)
 
     by-count : checkedOf (bindable Ca) ≡ checked.Accepted → (q : Bool) → n .refused ≡ q
-        → judged plan c ≡ openedOf plan c (cond q (Stopped (TooManyWorlds (n .count) (n .maximum))) Nothing)
+        → boundAndCounted Pl Ca ≡ openedOf plan c (cond q (Stopped (TooManyWorlds (n .count) (n .maximum))) Nothing)
     by-count e true h = count-stops reach reached (b .codes) (binds .codes) n counts e h
     by-count e false h = count-passes reach reached (b .codes) (binds .codes) n counts e h
 
-    by-found : (f : Checked) → checkedOf (bindable Ca) ≡ f → judged plan c ≡ openedOf plan c (stopBy zero true f n)
+    by-found : (f : Checked) → checkedOf (bindable Ca) ≡ f → boundAndCounted Pl Ca ≡ openedOf plan c (stopBy zero true f n)
     unfolding stopBy
     by-found (checked.Refused m j) e = binding-stops m j e
     by-found checked.Accepted e = by-count e (n .refused) refl
@@ -270,7 +270,7 @@ module _ (plan : Coded) (c : CodedCase) (sound : Sound (planOf plan)) (sane : So
   -- ---- what follows for lines and worlds
 
   module _ (lines : List ℕ) (o : CodedOpened) (h : OpensCase plan c (length lines) o) where
-    pub bare-fits : o .stop ≡ Incomplete → 29 * size (c .heading .roster) ≤ length lines
+    pub bare-fits : o .stop ≡ Incomplete → lineLength * size (c .heading .roster) ≤ length lines
     bare-fits e = lines-fit (length lines) (faultless (length lines) (h .opened ∙ ap (openedOf plan c) e) refl)
 
     pub is-ready : o .stop ≡ Nothing → (uses events : List ℕ) → HoldsUses (plan .nodes) uses → lines ≡ replicate (length lines) 0 → events ≡ replicate (length events) 0

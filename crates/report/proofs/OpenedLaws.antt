@@ -20,7 +20,7 @@ use Rattle.expressions.specs.paper.Bindings.{Bound, bindings, bindable, familyF
 use Rattle.expressions.specs.paper.Variables.{worldCount}
 use Rattle.report.specs.paper.Line.{lineLength}
 use Rattle.report.specs.declared.Answer.{Answer}
-use Rattle.report.specs.paper.Operations.{told, relationOf, Opened, stopped, incomplete, ready, mismatched, headingFault, orStop, unlessFault, tooMany, counted, bound, opened, answerOpened, answer, showOpened, show}
+use Rattle.report.specs.paper.Operations.{told, relationOf, Opened, stopped, incomplete, ready, mismatched, headingFault, orStop, unlessFault, tooMany, counted, boundAndCounted, bound, opened, answerOpened, answer, showOpened, show}
 use Rattle.report.proofs.Numbered.{Numbered, plan-numbered, case-numbered, bindable-numbered}
 use Rattle.report.proofs.Answered.{too-many}
 
@@ -49,7 +49,7 @@ module _ (plan case : List ℕ) (room : ℕ) where
   unless-fault (suc n) o h = suc-ne-zero n
 
   bound-opened : (P : Plan) (C : Case) → Ready P C (bindings P C) → OnOpened (bound P C)
-  unfolding bound counted bindable
+  unfolding bound boundAndCounted counted bindable
   bound-opened P C h = pick (eqb (length (caseHeading C .complete)) 0)
     where
       few : (D : Case) → D ≡ C → (b : Bool) (count most : ℕ) → OnOpened (cond b (stopped (tooMany count most)) (ready P D (bindings P D)))
@@ -63,7 +63,7 @@ module _ (plan case : List ℕ) (room : ℕ) where
           (past-faults (λ D. D ≡ C) (familiesAt C) (familyFaults [] (C .families)) _ (λ _.
           past-faults (λ D. D ≡ C) (booleansAt C) (booleanFaults [] (C .booleans)) (fine C) (λ _. refl)))
 
-      pick : (b : Bool) → OnOpened (cond b (incomplete (caseHeading C .roster)) (orStop (bindable C) (λ C. counted P C (bindings P C))))
+      pick : (b : Bool) → OnOpened (cond b (incomplete (caseHeading C .roster)) (boundAndCounted P C))
       pick true = (P, C, h .accepted, h .read, refl)
       pick false =
           or-stop (bindable C) (λ C. counted P C (bindings P C)) (bindable-numbered C)

@@ -12,7 +12,7 @@ use borrow.Author.Tests.{ltb-true, lt-ltb, eqb-false}
 use Rattle.sets.specs.paper.Sets.{has, anyOf, subset, size, All}
 use Rattle.records.specs.paper.Plan as paper
 use Rattle.records.specs.paper.Case as paper-case
-use Rattle.records.specs.code.Decoded.{planOf, caseOf, caseHeadingOf}
+use Rattle.records.specs.code.Decoded.{planOf, caseOf, caseHeadingOf, factsOf}
 use Rattle.records.specs.declared.plan.Plan.{Plan}
 use Rattle.records.specs.declared.case.Case.{Case}
 use Rattle.sets.proofs.SetLaws.{and-parts, has-none}
@@ -25,7 +25,7 @@ use Rattle.expressions.specs.declared.bindings.Bound as code-bound
 use Rattle.expressions.specs.paper.Bindings.{Bound, bindings, bindingOf, frameOf, tookDefault, tookDefaultBy}
 use Rattle.expressions.specs.paper.Variables as variables
 use Rattle.expressions.specs.paper.Variables.{Values, slotsBy, slots, worlds, booleansAmong, booleanCount, isVariable, factInfluence, decisionInfluence, influence}
-use Rattle.expressions.specs.code.Coded.{factsOf, frameBy}
+use Rattle.expressions.specs.code.Coded.{frameBy}
 use Rattle.expressions.specs.code.Slots.{slotOf, slotsOf}
 use Rattle.expressions.specs.code.Reached.{Reached}
 use Rattle.expressions.specs.code.Influences.{setsOf, influenceBy}
@@ -40,8 +40,7 @@ use Rattle.expressions.proofs.FactLaws.{default-by}
 use Rattle.expressions.proofs.ReachLaws.{frame-of, heading-of, influence-list}
 use Rattle.worlds.specs.paper.Active.{active, flags}
 use Rattle.worlds.specs.paper.World.{World, worldOf, afterMarks, keptCuts, appliedCuts, standing, blockedBy, barHolds}
-use Rattle.worlds.specs.paper.Events.{leastOfMerged}
-use Rattle.worlds.specs.code.Settled.{blocks, clashes}
+use Rattle.worlds.specs.paper.Events.{blocks, leastOfMerged, overlaps}
 use Rattle.worlds.specs.code.Tables.{row, Stands}
 use Rattle.worlds.specs.code.Made.{CommonFor, Ready, Made}
 use Rattle.worlds.specs.declared.tables.Common.{Common}
@@ -139,8 +138,8 @@ module _ (P : paper.Plan) (roster : ℕ) (I : variables.Influence) where
   unfolding blocks
   blocked-below v c e h = blocking-below v c e (and-parts (standing (worldBy v .kept) (worldBy v .overlapping) c) (blockedBy P (worldBy v .active) c e) h .1)
 
-  clashed-below : (v : Values) (c d : ℕ) → clashes P (worldBy v) c d ≡ true → d < cutCount P
-  unfolding clashes leastOfMerged
+  clashed-below : (v : Values) (c d : ℕ) → overlaps P (worldBy v) c d ≡ true → d < cutCount P
+  unfolding overlaps leastOfMerged
   clashed-below v c d h =
       kept-below v d (and-parts (on (worldBy v .kept) d) _ (and-parts (leastOfMerged P (worldBy v) c) (leastOfMerged P (worldBy v) d) (and-parts _ _ h .0) .1) .0)
 
@@ -201,7 +200,7 @@ module _ (P : paper.Plan) (I : variables.Influence) (k : Common) (t : List (List
   blocked-ends c e h = some (λ w. blocks P w c e) (λ v. blocked-below P (k .roster) I v c e) (sym (kept .blocked c e) ∙ h)
 
   pub clashed-ends : (c : ℕ) → Below (row noted 2 c) (cutCount P)
-  clashed-ends c d h = some (λ w. clashes P w c d) (λ v. clashed-below P (k .roster) I v c d) (sym (kept .clashed c d) ∙ h)
+  clashed-ends c d h = some (λ w. overlaps P w c d) (λ v. clashed-below P (k .roster) I v c d) (sym (kept .clashed c d) ∙ h)
 
 -- ---- a case that is ready
 
@@ -245,7 +244,7 @@ module _ {plan : Plan} {c : Case} {reach : Reach} {given : code-bound.Bound} {us
 
   module _ {booleans : ℕ} (b : booleans ≡ booleansAmong (factsOf (plan .facts))) where
     booleans-are : booleans ≡ booleanCount P
-    unfolding factsOf booleanCount planOf
+    unfolding booleanCount planOf
     booleans-are = b
 
     pub booleans-fit : booleans ≤ reach .count

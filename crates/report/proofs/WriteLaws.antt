@@ -21,8 +21,8 @@ use Rattle.expressions.specs.paper.Variables.{Influence}
 use Rattle.worlds.specs.paper.Events.{littleBytes}
 use Rattle.worlds.specs.paper.View.{View}
 use Rattle.worlds.specs.code.Tables.{row}
-use Rattle.worlds.proofs.OverLaws.{has-members, members-next, members-none}
-use Rattle.report.specs.paper.Line.{Line, lineBytes, lineBy, lineOver, firstKind, holding}
+use Rattle.sets.proofs.TurnLaws.{has-members, members-next, members-none}
+use Rattle.report.specs.paper.Line.{Line, lineBytes, lineBy, lineOver, firstKind, holding, lineLength}
 use Rattle.report.specs.code.Summed.{stands, rolesAgree}
 use Rattle.report.specs.code.Written.{LineBy}
 
@@ -55,13 +55,13 @@ written p e vs n m hp h =
     simp (d, t, l, take-all (length e - n) (drop n e) q, drop-of-length-le (drop n e) q, drop-drop, append-nil, append-assoc)
 
 -- a part that is written from its start on is as long as it was
-part-long : (vs l : List ℕ) (n : ℕ) → length vs ≡ 29 → n + 29 ≤ length l
-    → length (vs ++ drop 29 (take (length l - n) (drop n l))) ≡ length (take (length l - n) (drop n l))
+part-long : (vs l : List ℕ) (n : ℕ) → length vs ≡ lineLength → n + lineLength ≤ length l
+    → length (vs ++ drop lineLength (take (length l - n) (drop n l))) ≡ length (take (length l - n) (drop n l))
 part-long vs l n e h = simp (length-append, length-drop, length-take) (omega arith)
 
 -- ---- line after line
 
-pub line-length : (l : Line) → length (lineBytes l) ≡ 29
+pub line-length : (l : Line) → length (lineBytes l) ≡ lineLength
 unfolding lineBytes littleBytes
 line-length l = refl
 
@@ -74,14 +74,14 @@ unfolding anyOf
 listed [] p qs = ap (λ (b : Bool). b || anyOf (λ (x : ℕ). eqb x p) qs) (eq-eqb p p refl)
 listed (q ∷ ps) p qs = ap (λ (b : Bool). eqb q p || b) (listed ps p qs) ∙ or-true (eqb q p)
 
--- each x gives a line of 29 bytes for every person; without an x the buffer still keeps its length
+-- each x gives a line of `lineLength` bytes for every person; without an x the buffer still keeps its length
 module _ {X : Type 0} (line : X → ℕ → List ℕ) (persons : ℕ) where
   -- the lines of some persons stand at the front, those of m are left
   pub record Filled (m at : ℕ) (before after : List ℕ) : Type 0 where
     pub done : List ℕ
     pub left : done ++ members m ≡ members persons
     pub small : m < 2 ^ 64
-    pub place : at ≡ 29 * length done
+    pub place : at ≡ lineLength * length done
     pub long : length after ≡ length before
     pub lines : (x : X) → length (flatMap (line x) done) ≡ at
     pub stand : (x : X) → after ≡ flatMap (line x) done ++ drop at before
@@ -92,7 +92,7 @@ module _ {X : Type 0} (line : X → ℕ → List ℕ) (persons : ℕ) where
 
   module _ {m at : ℕ} {before after : List ℕ} (f : Filled m at before after) where
     -- with persons left there is room
-    pub fill-room : (m ≡ 0 → ⊥) → 29 * size persons ≤ length before → at + 29 ≤ length after
+    pub fill-room : (m ≡ 0 → ⊥) → lineLength * size persons ≤ length before → at + lineLength ≤ length after
     fill-room n h =
         let rest = members (bitAnd m (m - 1)) in
         let k : length (f .done ++ (lowest m ∷ rest)) ≡ size persons = ap (λ (ps : List ℕ). length (f .done ++ ps)) (sym (members-next m (f .small) n)) ∙ ap length (f .left) ∙ members-length persons in
@@ -104,27 +104,30 @@ module _ {X : Type 0} (line : X → ℕ → List ℕ) (persons : ℕ) where
         has-members persons p h ∙ ap (anyOf (λ (x : ℕ). eqb x p)) (sym (f .left) ∙ ap (λ (ps : List ℕ). f .done ++ ps) e) ∙ listed (f .done) p (members r)
 
     -- one line more
-    pub fill-next : (p r : ℕ) (vs : List ℕ) → members m ≡ p ∷ members r → r < m → at + 29 ≤ length after → length vs ≡ 29 → ((x : X) → vs ≡ line x p)
-        → Filled r (at + 29) before (putMid at (length after - at) after (vs ++ drop 29 (take (length after - at) (drop at after))))
+    pub fill-next : (p r : ℕ) (vs : List ℕ) → members m ≡ p ∷ members r → r < m → at + lineLength ≤ length after
+        → length vs ≡ lineLength → ((x : X) → vs ≡ line x p)
+        → Filled r (at + lineLength) before (putMid at (length after - at) after (vs ++ drop lineLength (take (length after - at) (drop at after))))
     fill-next p r vs e less h l v = record {
       done = f .done ++ (p ∷ []);
       left = append-assoc (f .done) (p ∷ []) (members r) ∙ ap (λ (ps : List ℕ). f .done ++ ps) (sym e) ∙ f .left;
       small = lt-trans less (f .small);
       place = simp length-append (omega (arith, f .place));
-      long = same-len-mid at (length after - at) after (vs ++ drop 29 (take (length after - at) (drop at after))) (part-long vs after at l h) ∙ f .long;
+      long =
+          same-len-mid at (length after - at) after (vs ++ drop lineLength (take (length after - at) (drop at after))) (part-long vs after at l h) ∙ f .long;
       lines = λ x. ap length (flat-last (line x) (f .done) p ∙ ap (λ (ls : List ℕ). flatMap (line x) (f .done) ++ ls) (sym (v x)))
           ∙ length-append (flatMap (line x) (f .done)) vs ∙ ap₂ _+_ (f .lines x) l;
-      stand = λ x. rw (f .stand x) (written (flatMap (line x) (f .done)) before vs at 29 (f .lines x) (omega (arith, f .long, h))
-          ∙ ap (λ (ls : List ℕ). ls ++ drop (at + 29) before) (ap (λ (ls : List ℕ). flatMap (line x) (f .done) ++ ls) (v x) ∙ sym (flat-last (line x) (f .done) p)));
+      stand = λ x. rw (f .stand x) (written (flatMap (line x) (f .done)) before vs at lineLength (f .lines x) (omega (arith, f .long, h))
+          ∙ ap (λ (ls : List ℕ). ls ++ drop (at + lineLength) before)
+          (ap (λ (ls : List ℕ). flatMap (line x) (f .done) ++ ls) (v x) ∙ sym (flat-last (line x) (f .done) p)));
     }
 
     -- with nobody left all lines stand
-    pub fill-end : m ≡ 0 → (x : X) → after ≡ flatMap (line x) (members persons) ++ drop (29 * size persons) before
+    pub fill-end : m ≡ 0 → (x : X) → after ≡ flatMap (line x) (members persons) ++ drop (lineLength * size persons) before
     fill-end e x =
         let all : f .done ≡ members persons = sym (append-nil (f .done)) ∙ ap (λ (ps : List ℕ). f .done ++ ps) (sym (members-none m e)) ∙ f .left in
         f .stand x
         ∙ ap₂ (λ (ps : List ℕ) (n : ℕ). flatMap (line x) ps ++ drop n before) all
-        (f .place ∙ ap (λ (ps : List ℕ). 29 * length ps) all ∙ ap (λ (n : ℕ). 29 * n) (members-length persons))
+        (f .place ∙ ap (λ (ps : List ℕ). lineLength * length ps) all ∙ ap (λ (n : ℕ). lineLength * n) (members-length persons))
 
 -- ---- the sets that hold a person
 

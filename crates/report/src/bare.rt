@@ -6,11 +6,12 @@ use sets::size;
 ghost use Prim.Native.Nat.{_*_, _≤_};
 ghost use lib.ListN.{length};
 ghost use Rattle.sets.specs.paper.Sets.{size as ones};
+ghost use Rattle.report.specs.paper.Line.{lineLength};
 ghost use Rattle.report.specs.code.Bare.{Worldless};
 
 // A line with nothing but its kind for each person of the roster; to show, there is no world.
 pub fn without_worlds(lines: &mut [u8], roster: u64, kind: u8, wanted: Wanted) -> Answer
-    requires { ⌜ 29 * ones roster ≤ length (now lines) ⌝ }
+    requires { ⌜ lineLength * ones roster ≤ length (now lines) ⌝ }
     ensures { λ r. ⌜ Worldless wanted kind roster (now (lines .entry)) (now (lines .exit)) r ⌝ }
 {
     if !wanted.all {

@@ -1,9 +1,13 @@
-// An event of 12 bytes, written into the rest of the lent buffer.
+// An event, EVENT bytes, written into the rest of the lent buffer.
 ghost use mathlib.Core.Path.{_≡_};
 ghost use mathlib.Core.List.{_++_};
 ghost use Prim.Native.Nat.{_≤_};
 ghost use lib.ListN.{length, drop};
 ghost use Rattle.worlds.specs.paper.Events.{event};
+ghost use Rattle.report.specs.paper.EventList.{eventLength};
+
+// the length of an event
+pub const EVENT: usize = 12;
 
 pub struct Event {
     pub kind: u8,
@@ -14,7 +18,7 @@ pub struct Event {
 }
 
 // Kind, three numbers, and a mask, its lowest byte first.
-pub fn encode_event(e: Event) -> [u8; 12]
+pub fn encode_event(e: Event) -> [u8; EVENT]
     ensures { λ r. ⌜ r ≡ event (e .kind) (e .a) (e .b) (e .c) (e .mask) ⌝ }
 {
     let m = e.mask;
@@ -41,14 +45,14 @@ pub fn encode_event(e: Event) -> [u8; 12]
     ]
 }
 
-// Fills the first 12 bytes.
+// Fills the first EVENT bytes.
 pub fn write_event(rest: &mut [u8], e: Event)
-    requires { ⌜ 12 ≤ length (now rest) ⌝ }
-    ensures { λ r. ⌜ now (rest .exit) ≡ event (e .kind) (e .a) (e .b) (e .c) (e .mask) ++ drop 12 (now (rest .entry)) ⌝ }
+    requires { ⌜ eventLength ≤ length (now rest) ⌝ }
+    ensures { λ r. ⌜ now (rest .exit) ≡ event (e .kind) (e .a) (e .b) (e .c) (e .mask) ++ drop eventLength (now (rest .entry)) ⌝ }
 {
     let bytes = encode_event(e);
     let mut i: usize = 0;
-    while i < 12 {
+    while i < EVENT {
         rest[i] = bytes[i];
         i = i + 1;
     }

@@ -2,6 +2,7 @@
 use crate::Answer;
 use crate::bare::without_worlds;
 use crate::clear::clear;
+use crate::event::EVENT;
 use crate::happened::count_events;
 use crate::happened::write_events;
 use crate::lines::write_lines;
@@ -10,19 +11,21 @@ use crate::sums::BEGUN;
 use crate::sums::Sums;
 use crate::sums::TALLY;
 use crate::walk::Walked;
-use expressions::counts::upto;
 use expressions::influence::Influence;
 use records::case::Case;
 use records::plan::Plan;
+use sets::numbers::upto;
 use sets::size;
 use worlds::tables::Noted;
 ghost use Prim.Native.Nat.{_+_, _*_, _≤_};
 ghost use lib.ListN.{length, take, drop};
 ghost use Rattle.sets.specs.paper.Sets.{size as ones};
+ghost use Rattle.report.specs.paper.Line.{lineLength};
 ghost use Rattle.report.specs.code.Written.{LinesBy};
 ghost use Rattle.report.specs.code.Finish.{Ends, Finishes};
 
-// What the lines of open persons need: the sets of influence, `facts` of them of facts; none of them for a shown world.
+// What lines and events need beside the worlds: the sets of influence, `facts` of them of facts, and the facts that took their default; nothing
+// of it for a shown world.
 pub struct Opens {
     pub influence: Influence,
     pub facts: usize,
@@ -31,7 +34,7 @@ pub struct Opens {
 
 // The lines of all persons; the first `known` sets of influence are of facts, the others of decisions.
 fn write_open(lines: &mut [u8], sums: &Sums, roster: u64, sets: &[u64], known: usize)
-    requires { ⌜ (29 * ones roster ≤ length (now lines)) × (known ≤ 64) × (known ≤ length (now sets)) × (length (now sets) ≤ known + 16) ⌝ }
+    requires { ⌜ (lineLength * ones roster ≤ length (now lines)) × (known ≤ 64) × (known ≤ length (now sets)) × (length (now sets) ≤ known + 16) ⌝ }
     ensures { λ r. ⌜ LinesBy (now (sums .entry)) roster (take known (now (sets .entry))) (drop known (now (sets .entry))) (now (lines .entry)) (now (lines .exit)) ⌝ }
 {
     write_lines(lines, sums, roster, &sets[..known], &sets[known..]);
@@ -61,7 +64,7 @@ pub fn finish(
     let count = count_events(sums, noted, opens.defaults, upto(cuts.count, 16));
     let listed = listing.count;
     let total = count + listed;
-    if listing.full || events.len() < 12 * total {
+    if listing.full || events.len() < EVENT * total {
         clear(events);
         return Answer::Refused {
             number: 13,

@@ -1,4 +1,5 @@
-// The events of all worlds, written once: those by rule in front, those of kind 9 behind them.
+// The events of all worlds, written once: kinds 1 to 8 in front, those of kind 9 behind them.
+use crate::event::EVENT;
 use crate::kinds::write_applied;
 use crate::kinds::write_attachments;
 use crate::kinds::write_bars;
@@ -15,10 +16,10 @@ use crate::sums::FROZEN;
 use crate::sums::MOVED;
 use crate::sums::Sums;
 use crate::sums::TALLY;
-use expressions::counts::upto;
 use expressions::evidence::evidence_by_fact;
 use records::case::Case;
 use records::plan::Plan;
+use sets::numbers::upto;
 use sets::size;
 use worlds::tables::BLOCKINGS;
 use worlds::tables::CLASHES;
@@ -27,6 +28,7 @@ ghost use mathlib.Core.Path.{_≡_};
 ghost use Prim.Native.Nat.{_+_, _*_, _≤_};
 ghost use lib.ListN.{length};
 ghost use Rattle.records.specs.code.Decoded.{planOf, caseOf};
+ghost use Rattle.report.specs.paper.EventList.{eventLength};
 ghost use Rattle.report.specs.code.EventsWritten.{eventCount, Shifted, RuleEvents, EventsWritten, AllWritten};
 
 // The first n bytes moved up; what stood between is free.
@@ -86,12 +88,12 @@ pub fn write_events(
     count: usize,
     listed: usize,
 )
-    requires { ⌜ RuleEvents plan case (now sums) (now noted) defaults (length (now events)) × (12 * (count + listed) ≤ length (now events)) ⌝ }
+    requires { ⌜ RuleEvents plan case (now sums) (now noted) defaults (length (now events)) × (eventLength * (count + listed) ≤ length (now events)) ⌝ }
     ensures { λ r. ⌜ AllWritten (planOf plan) (caseOf case) (now (sums .entry)) (now (noted .entry)) defaults count listed (now (events .entry)) (now (events .exit)) ⌝ }
 {
     if count == 0 {
         return;
     }
-    shift_up(events, listed * 12, count * 12);
+    shift_up(events, listed * EVENT, count * EVENT);
     write_rules(events, plan, case, sums, noted, defaults);
 }

@@ -1,16 +1,18 @@
 // The refusals of a case's heading: 8 segment not complete, 9 it does not fit the plan, 12 lines do not fit.
-use expressions::counts::upto;
+use crate::line::LINE;
 use expressions::groups::Groups;
 use records::case::CaseHeading;
 use records::plan::Statuses;
 use sets::bit;
+use sets::numbers::upto;
 use sets::size;
 use sets::subset;
 ghost use mathlib.Core.Path.{_≡_};
 ghost use mathlib.Core.List.{map};
 ghost use lib.ListN.{take};
 ghost use Rattle.sets.specs.paper.Sets.{unionOf, All};
-ghost use Rattle.expressions.specs.code.Coded.{statusesOf, PersonFits};
+ghost use Rattle.records.specs.code.Decoded.{statusesOf};
+ghost use Rattle.expressions.specs.code.Coded.{PersonFits};
 ghost use Rattle.expressions.specs.code.Listed.{heldByStatus};
 ghost use Rattle.report.specs.code.Opening.{itself, RulePersons, HeadingFault};
 
@@ -70,7 +72,7 @@ pub fn heading_fault(heading: CaseHeading, relation: u8, persons: u64, room: usi
     if !subset(persons, heading.roster) {
         return 9;
     }
-    if room < 29 * (size(heading.roster) as usize) {
+    if room < LINE * (size(heading.roster) as usize) {
         return 12;
     }
     0

@@ -1,34 +1,34 @@
 // The events of all worlds kind by kind, rising by rule; each writer starts at a place and hands back the place behind its last event.
+use crate::event::EVENT;
 use crate::event::Event;
 use crate::event::write_event;
-use expressions::counts::wide;
-use expressions::elections::elect;
+use expressions::elections::election_policies;
 use records::plan::Attachments;
 use records::plan::Cuts;
 use records::plan::Edges;
 use records::plan::Election;
 use records::plan::Statuses;
-use worlds::over::low;
-use worlds::over::others;
+use sets::low;
+use sets::numbers::wide;
+use sets::others;
 ghost use mathlib.Core.Path.{_≡_};
 ghost use Prim.Native.Nat.{_+_, _*_, _≤_};
 ghost use lib.ListN.{length};
 ghost use Rattle.sets.specs.paper.Sets.{size};
 ghost use Rattle.records.specs.paper.Plan.{Plan as Paper};
 ghost use Rattle.records.specs.paper.Case.{Case as PaperCase};
-ghost use Rattle.records.specs.code.Decoded.{electionOf};
-ghost use Rattle.expressions.specs.code.Coded.{edgesOf, cutsOf, attachmentsOf, statusesOf};
+ghost use Rattle.records.specs.code.Decoded.{electionOf, edgesOf, cutsOf, attachmentsOf, statusesOf};
 ghost use Rattle.expressions.specs.code.Evident.{EvidenceBy};
 ghost use Rattle.expressions.specs.paper.Rules.{edgeCount, cutCount, attachmentCount, barCount, statusCount, factCount};
 ghost use Rattle.worlds.specs.paper.Events.{electionActor, electionEvidence};
 ghost use Rattle.expressions.specs.paper.Bindings.{defaultOf};
-ghost use Rattle.report.specs.paper.EventList.{numberOf, electionCitation};
+ghost use Rattle.report.specs.paper.EventList.{numberOf, electionCitation, eventLength};
 ghost use Rattle.report.specs.code.Happened.{frozenOver, appliedOver, attachmentOver, barOver, statusOver, defaultOver};
 ghost use Rattle.report.specs.code.EventBytes.{Writes, Below};
 
 // 1 frozen: rule, left, right.
 pub fn write_frozen(events: &mut [u8], at: usize, edges: Edges, frozen: u64) -> usize
-    requires { ⌜ at + 12 * size frozen ≤ length (now events) ⌝ }
+    requires { ⌜ at + eventLength * size frozen ≤ length (now events) ⌝ }
     ensures { λ r. ⌜ ((P : Paper) → P .edges ≡ edgesOf edges → Below frozen (edgeCount P) → Writes at (frozenOver P frozen) (now (events .entry)) (now (events .exit)) r) ⌝ }
 {
     let mut place = at;
@@ -44,7 +44,7 @@ pub fn write_frozen(events: &mut [u8], at: usize, edges: Edges, frozen: u64) -> 
             mask: 0,
         };
         write_event(&mut events[place..], event);
-        place = place + 12;
+        place = place + EVENT;
         m = others(m);
     }
     place
@@ -72,7 +72,7 @@ pub fn write_applied(
     evidence: &[u64; 256],
     applied: u64,
 ) -> usize
-    requires { ⌜ (at + 12 * size applied ≤ length (now events)) × Below applied 16 ⌝ }
+    requires { ⌜ (at + eventLength * size applied ≤ length (now events)) × Below applied 16 ⌝ }
     ensures { λ r. ⌜ ((P : Paper) (C : PaperCase) → P .cuts ≡ cutsOf cuts → EvidenceBy C (now (evidence .entry)) → Below applied (cutCount P) → Writes at (appliedOver P C applied) (now (events .entry)) (now (events .exit)) r) ⌝ }
 {
     let mut place = at;
@@ -89,7 +89,7 @@ pub fn write_applied(
             mask: election_evidence(evidence, e),
         };
         write_event(&mut events[place..], event);
-        place = place + 12;
+        place = place + EVENT;
         m = others(m);
     }
     place
@@ -103,7 +103,7 @@ pub fn write_attachments(
     evidence: &[u64; 256],
     moved: u64,
 ) -> usize
-    requires { ⌜ (at + 12 * size moved ≤ length (now events)) × Below moved 32 ⌝ }
+    requires { ⌜ (at + eventLength * size moved ≤ length (now events)) × Below moved 32 ⌝ }
     ensures { λ r. ⌜ ((P : Paper) (C : PaperCase) → P .attachments ≡ attachmentsOf attachments → EvidenceBy C (now (evidence .entry)) → Below moved (attachmentCount P) → Writes at (attachmentOver P C moved) (now (events .entry)) (now (events .exit)) r) ⌝ }
 {
     let mut place = at;
@@ -120,7 +120,7 @@ pub fn write_attachments(
             mask: election_evidence(evidence, e),
         };
         write_event(&mut events[place..], event);
-        place = place + 12;
+        place = place + EVENT;
         m = others(m);
     }
     place
@@ -128,7 +128,7 @@ pub fn write_attachments(
 
 // 6 bar: rule.
 pub fn write_bars(events: &mut [u8], at: usize, barring: u64) -> usize
-    requires { ⌜ at + 12 * size barring ≤ length (now events) ⌝ }
+    requires { ⌜ at + eventLength * size barring ≤ length (now events) ⌝ }
     ensures { λ r. ⌜ ((P : Paper) → Below barring (barCount P) → Writes at (barOver P barring) (now (events .entry)) (now (events .exit)) r) ⌝ }
 {
     let mut place = at;
@@ -142,7 +142,7 @@ pub fn write_bars(events: &mut [u8], at: usize, barring: u64) -> usize
             mask: 0,
         };
         write_event(&mut events[place..], event);
-        place = place + 12;
+        place = place + EVENT;
         m = others(m);
     }
     place
@@ -150,7 +150,7 @@ pub fn write_bars(events: &mut [u8], at: usize, barring: u64) -> usize
 
 // 7 excluded: rule, person.
 pub fn write_statuses(events: &mut [u8], at: usize, statuses: Statuses, excluding: u64) -> usize
-    requires { ⌜ (at + 12 * size excluding ≤ length (now events)) × Below excluding 32 ⌝ }
+    requires { ⌜ (at + eventLength * size excluding ≤ length (now events)) × Below excluding 32 ⌝ }
     ensures { λ r. ⌜ ((P : Paper) → P .statuses ≡ statusesOf statuses → Below excluding (statusCount P) → Writes at (statusOver P excluding) (now (events .entry)) (now (events .exit)) r) ⌝ }
 {
     let mut place = at;
@@ -166,7 +166,7 @@ pub fn write_statuses(events: &mut [u8], at: usize, statuses: Statuses, excludin
             mask: 0,
         };
         write_event(&mut events[place..], event);
-        place = place + 12;
+        place = place + EVENT;
         m = others(m);
     }
     place
@@ -194,13 +194,13 @@ pub fn write_defaults(
     attachments: Attachments,
     defaults: u64,
 ) -> usize
-    requires { ⌜ at + 12 * size defaults ≤ length (now events) ⌝ }
+    requires { ⌜ at + eventLength * size defaults ≤ length (now events) ⌝ }
     ensures { λ r. ⌜ ((P : Paper) → P .cuts ≡ cutsOf cuts → P .attachments ≡ attachmentsOf attachments → Below defaults (factCount P) → Writes at (defaultOver P defaults) (now (events .entry)) (now (events .exit)) r) ⌝ }
 {
     if defaults == 0 {
         return at;
     }
-    let elections = elect(cuts, attachments);
+    let elections = election_policies(cuts, attachments);
     let mut place = at;
     let mut m = defaults;
     while m != 0 {
@@ -214,7 +214,7 @@ pub fn write_defaults(
             mask: citation_of(e),
         };
         write_event(&mut events[place..], event);
-        place = place + 12;
+        place = place + EVENT;
         m = others(m);
     }
     place

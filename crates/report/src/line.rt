@@ -1,14 +1,17 @@
-// A line of 29 bytes, written into the rest of the lent buffer.
-use worlds::over::low;
-use worlds::over::others;
+// A line, LINE bytes, written into the rest of the lent buffer.
+use sets::low;
+use sets::others;
 ghost use mathlib.Core.Path.{_≡_};
 ghost use mathlib.Core.List.{_++_, flatMap};
 ghost use Prim.Native.Nat.{_*_, _≤_};
 ghost use Rattle.sets.specs.paper.Sets.{size, members};
 ghost use lib.ListN.{length, drop};
 ghost use Rattle.worlds.specs.paper.Events.{littleBytes};
-ghost use Rattle.report.specs.paper.Line.{lineBytes, bareLine};
+ghost use Rattle.report.specs.paper.Line.{lineBytes, bareLine, lineLength};
 ghost use Rattle.report.specs.code.Written.{lineFrom};
+
+// the length of a line
+pub const LINE: usize = 29;
 
 pub struct Line {
     pub person: u8,
@@ -44,7 +47,7 @@ fn mask_bytes(m: u64) -> [u8; 8]
 }
 
 // Person, kind, role, block, open facts, open decisions, citations; each number's lowest byte first.
-pub fn encode(l: Line) -> [u8; 29]
+pub fn encode(l: Line) -> [u8; LINE]
     ensures { λ r. ⌜ r ≡ lineBytes (lineFrom l) ⌝ }
 {
     let b = mask_bytes(l.block);
@@ -84,14 +87,14 @@ pub fn encode(l: Line) -> [u8; 29]
     ]
 }
 
-// Fills the first 29 bytes.
+// Fills the first LINE bytes.
 pub fn write_line(rest: &mut [u8], l: Line)
-    requires { ⌜ 29 ≤ length (now rest) ⌝ }
-    ensures { λ r. ⌜ now (rest .exit) ≡ lineBytes (lineFrom l) ++ drop 29 (now (rest .entry)) ⌝ }
+    requires { ⌜ lineLength ≤ length (now rest) ⌝ }
+    ensures { λ r. ⌜ now (rest .exit) ≡ lineBytes (lineFrom l) ++ drop lineLength (now (rest .entry)) ⌝ }
 {
     let bytes = encode(l);
     let mut i: usize = 0;
-    while i < 29 {
+    while i < LINE {
         rest[i] = bytes[i];
         i = i + 1;
     }
@@ -99,8 +102,8 @@ pub fn write_line(rest: &mut [u8], l: Line)
 
 // A line of this kind for each of these persons, rising, and nothing else in it.
 pub fn write_bare(lines: &mut [u8], persons: u64, kind: u8)
-    requires { ⌜ 29 * size persons ≤ length (now lines) ⌝ }
-    ensures { λ r. ⌜ now (lines .exit) ≡ flatMap (λ p. lineBytes (bareLine kind p)) (members persons) ++ drop (29 * size persons) (now (lines .entry)) ⌝ }
+    requires { ⌜ lineLength * size persons ≤ length (now lines) ⌝ }
+    ensures { λ r. ⌜ now (lines .exit) ≡ flatMap (λ p. lineBytes (bareLine kind p)) (members persons) ++ drop (lineLength * size persons) (now (lines .entry)) ⌝ }
 {
     let mut at: usize = 0;
     let mut m = persons;
@@ -115,7 +118,7 @@ pub fn write_bare(lines: &mut [u8], persons: u64, kind: u8)
             citations: 0,
         };
         write_line(&mut lines[at..], l);
-        at = at + 29;
+        at = at + LINE;
         m = others(m);
     }
 }

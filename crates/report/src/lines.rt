@@ -1,4 +1,5 @@
 // The lines of all persons, from what the worlds add up to.
+use crate::line::LINE;
 use crate::line::Line;
 use crate::line::write_line;
 use crate::sums::BLOCKS;
@@ -12,17 +13,17 @@ use crate::sums::Sums;
 use crate::sums::TALLY;
 use sets::bit;
 use sets::contains;
-use worlds::over::low;
-use worlds::over::others;
+use sets::low;
+use sets::others;
 ghost use mathlib.Core.Path.{_≡_};
 ghost use Prim.Native.Nat.{_*_, _≤_, _<_, _%_};
 ghost use lib.ListN.{length};
 ghost use Rattle.sets.specs.paper.Sets.{size};
-ghost use Rattle.report.specs.paper.Line.{holding as holdingOf};
+ghost use Rattle.report.specs.paper.Line.{holding as holdingOf, lineLength};
 ghost use Rattle.report.specs.code.Written.{LineBy, LinesBy};
 
-// The numbers of the sets that hold a person.
-fn holding(sets: &[u64], p: u8) -> u64
+// The variables that could still concern a person: the numbers of the sets of influence that hold the person.
+fn unresolved_for_person(sets: &[u64], p: u8) -> u64
     requires { ⌜ length (now sets) ≤ 64 ⌝ }
     ensures { λ r. ⌜ r ≡ holdingOf (now (sets .entry)) p ⌝ }
 {
@@ -85,18 +86,18 @@ fn line_of(sums: &Sums, p: usize, facts: u64, decisions: u16) -> Line
 
 // A line for each of these persons, rising; facts and decisions by their influence.
 pub fn write_lines(lines: &mut [u8], sums: &Sums, persons: u64, facts: &[u64], decisions: &[u64])
-    requires { ⌜ (29 * size persons ≤ length (now lines)) × (length (now facts) ≤ 64) × (length (now decisions) ≤ 16) ⌝ }
+    requires { ⌜ (lineLength * size persons ≤ length (now lines)) × (length (now facts) ≤ 64) × (length (now decisions) ≤ 16) ⌝ }
     ensures { λ r. ⌜ LinesBy (now (sums .entry)) persons (now (facts .entry)) (now (decisions .entry)) (now (lines .entry)) (now (lines .exit)) ⌝ }
 {
     let mut at: usize = 0;
     let mut m = persons;
     while m != 0 {
         let p = low(m);
-        let open_facts = holding(facts, p as u8);
-        let open_decisions = holding(decisions, p as u8);
+        let open_facts = unresolved_for_person(facts, p as u8);
+        let open_decisions = unresolved_for_person(decisions, p as u8);
         let l = line_of(sums, p, open_facts, open_decisions as u16);
         write_line(&mut lines[at..], l);
-        at = at + 29;
+        at = at + LINE;
         m = others(m);
     }
 }

@@ -1,15 +1,19 @@
 // Components at discretion as events of kind 9, kept rising at the start of the lent buffer while worlds go by.
+use crate::event::EVENT;
 use crate::event::Event;
 use crate::event::encode_event;
-use worlds::over::low;
-use worlds::over::others;
+use sets::low;
+use sets::others;
 ghost use mathlib.Core.Path.{_≡_};
-ghost use mathlib.Core.List.{_++_, map};
-ghost use Prim.Native.Nat.{ℕ, _+_, _*_, _<_, _≤_};
+ghost use mathlib.Core.Bool.{_&&_};
+ghost use mathlib.Core.List.{_++_};
+ghost use Prim.Native.Nat.{_+_, _*_, _≤_};
+ghost use lib.Dec.{eqb, ltb};
 ghost use lib.ListN.{length, take, drop};
-ghost use Rattle.worlds.specs.code.Over.{entry};
+ghost use Rattle.report.specs.paper.EventList.{eventLength};
+ghost use Rattle.report.specs.code.Happened.{Rises};
 ghost use Rattle.report.specs.code.EventBytes.{chunks};
-ghost use Rattle.report.specs.code.Nine.{order, Inserted, stands, PartListed, PartsListed};
+ghost use Rattle.report.specs.code.Nine.{order, chunk, PlaceOf, MovedUp, Inserted, stands, PartListed, PartsListed};
 
 // How many are listed; `full` where one did not fit.
 pub struct Listing {
@@ -18,11 +22,11 @@ pub struct Listing {
 }
 
 // 0 less, 1 equal, 2 greater, in byte order.
-fn compare(x: [u8; 12], y: [u8; 12]) -> u8
+fn compare(x: [u8; EVENT], y: [u8; EVENT]) -> u8
     ensures { λ r. ⌜ r ≡ order x y ⌝ }
 {
     let mut i: usize = 0;
-    while i < 12 {
+    while i < EVENT {
         let a = x[i];
         let b = y[i];
         if a < b {
@@ -36,9 +40,9 @@ fn compare(x: [u8; 12], y: [u8; 12]) -> u8
     1
 }
 
-fn front(s: &[u8]) -> [u8; 12]
-    requires { ⌜ 12 ≤ length (now s) ⌝ }
-    ensures { λ r. ⌜ r ≡ take 12 (now (s .entry)) ⌝ }
+fn front(s: &[u8]) -> [u8; EVENT]
+    requires { ⌜ eventLength ≤ length (now s) ⌝ }
+    ensures { λ r. ⌜ r ≡ take eventLength (now (s .entry)) ⌝ }
 {
     [
         s[0],
@@ -56,61 +60,94 @@ fn front(s: &[u8]) -> [u8; 12]
     ]
 }
 
-fn put_front(s: &mut [u8], e: [u8; 12])
-    requires { ⌜ 12 ≤ length (now s) ⌝ }
-    ensures { λ r. ⌜ now (s .exit) ≡ e ++ drop 12 (now (s .entry)) ⌝ }
+fn put_front(s: &mut [u8], e: [u8; EVENT])
+    requires { ⌜ eventLength ≤ length (now s) ⌝ }
+    ensures { λ r. ⌜ now (s .exit) ≡ e ++ drop eventLength (now (s .entry)) ⌝ }
 {
     let mut i: usize = 0;
-    while i < 12 {
+    while i < EVENT {
         s[i] = e[i];
         i = i + 1;
     }
 }
 
-// Puts an event among the n rising ones at the start; how many there are then. The greater of two goes on to the rest.
-pub fn insert(s: &mut [u8], n: usize, e: [u8; 12]) -> usize
-    requires { ⌜ n * 12 + 12 ≤ length (now s) ⌝ }
-    ensures { λ r. ⌜ Inserted n e (now (s .entry)) (now (s .exit)) r ⌝ }
+// How the event at a place compares with another: 0 less, 1 equal, 2 greater.
+fn compare_at(s: &[u8], place: usize, e: [u8; EVENT]) -> u8
+    requires { ⌜ place * eventLength + eventLength ≤ length (now s) ⌝ }
+    ensures { λ r. ⌜ r ≡ order (chunk place (now (s .entry))) e ⌝ }
 {
-    let mut carried = e;
-    let mut i: usize = 0;
-    while i < n {
-        let at = i * 12;
-        let f = front(&s[at..]);
-        let c = compare(f, carried);
-        if c == 1 {
-            return n;
-        }
-        if c == 2 {
-            put_front(&mut s[at..], carried);
-            carried = f;
-        }
-        i = i + 1;
-    }
-    let end = n * 12;
-    put_front(&mut s[end..], carried);
-    n + 1
+    let at = place * EVENT;
+    compare(front(&s[at..]), e)
 }
 
-// Whether an event is among the first n.
-fn listed(s: &[u8], n: usize, e: [u8; 12]) -> bool
-    requires { ⌜ n * 12 ≤ length (now s) ⌝ }
-    ensures { λ r. ⌜ r ≡ stands e (chunks n (now (s .entry))) ⌝ }
+// The place of an event among the n rising ones at the start, by halving.
+fn place_of(s: &[u8], n: usize, e: [u8; EVENT]) -> usize
+    requires { ⌜ n * eventLength ≤ length (now s) ⌝ }
+    ensures { λ r. ⌜ PlaceOf n e (now (s .entry)) r ⌝ }
 {
-    let mut i: usize = 0;
-    while i < n {
-        let at = i * 12;
-        if compare(front(&s[at..]), e) == 1 {
-            return true;
+    let mut from: usize = 0;
+    let mut to = n;
+    while from < to {
+        let middle = from + (to - from) / 2;
+        if compare_at(s, middle, e) == 0 {
+            from = middle + 1;
+        } else {
+            to = middle;
         }
-        i = i + 1;
+    }
+    from
+}
+
+// Whether an event stands at a place of the first n.
+fn stands_at(s: &[u8], n: usize, place: usize, e: [u8; EVENT]) -> bool
+    requires { ⌜ n * eventLength ≤ length (now s) ⌝ }
+    ensures { λ r. ⌜ r ≡ (ltb place n && eqb (order (chunk place (now (s .entry))) e) 1) ⌝ }
+{
+    if place < n {
+        return compare_at(s, place, e) == 1;
     }
     false
 }
 
+// Moves the bytes from a place to an end up by an event's length.
+fn move_up(s: &mut [u8], from: usize, end: usize)
+    requires { ⌜ (from ≤ end) × (end + eventLength ≤ length (now s)) ⌝ }
+    ensures { λ r. ⌜ MovedUp from end (now (s .entry)) (now (s .exit)) ⌝ }
+{
+    let mut i = end;
+    while from < i {
+        i = i - 1;
+        s[i + EVENT] = s[i];
+    }
+}
+
+// Puts an event among the n rising ones at the start; how many there are then.
+pub fn insert(s: &mut [u8], n: usize, e: [u8; EVENT]) -> usize
+    requires { ⌜ n * eventLength + eventLength ≤ length (now s) ⌝ }
+    ensures { λ r. ⌜ Inserted n e (now (s .entry)) (now (s .exit)) r ⌝ }
+{
+    let place = place_of(s, n, e);
+    if stands_at(s, n, place, e) {
+        return n;
+    }
+    let at = place * EVENT;
+    move_up(s, at, n * EVENT);
+    put_front(&mut s[at..], e);
+    n + 1
+}
+
+// Whether an event is among the first n, which rise.
+fn listed(s: &[u8], n: usize, e: [u8; EVENT]) -> bool
+    requires { ⌜ n * eventLength ≤ length (now s) ⌝ }
+    ensures { λ r. ⌜ (Rises (chunks n (now (s .entry))) → r ≡ stands e (chunks n (now (s .entry)))) ⌝ }
+{
+    let place = place_of(s, n, e);
+    stands_at(s, n, place, e)
+}
+
 // One component more.
 fn list_part(events: &mut [u8], listing: Listing, part: u64) -> Listing
-    requires { ⌜ listing .count * 12 ≤ length (now events) ⌝ }
+    requires { ⌜ listing .count * eventLength ≤ length (now events) ⌝ }
     ensures { λ r. ⌜ PartListed part listing (now (events .entry)) (now (events .exit)) r ⌝ }
 {
     if listing.full {
@@ -124,7 +161,7 @@ fn list_part(events: &mut [u8], listing: Listing, part: u64) -> Listing
         mask: part,
     });
     let n = listing.count;
-    if n * 12 + 12 <= events.len() {
+    if n * EVENT + EVENT <= events.len() {
         return Listing {
             count: insert(events, n, e),
             full: false,
@@ -138,7 +175,7 @@ fn list_part(events: &mut [u8], listing: Listing, part: u64) -> Listing
 
 // The components of a world, at these persons of a table.
 pub fn list_parts(events: &mut [u8], listing: Listing, parts: &[u64; 64], heads: u64) -> Listing
-    requires { ⌜ listing .count * 12 ≤ length (now events) ⌝ }
+    requires { ⌜ listing .count * eventLength ≤ length (now events) ⌝ }
     ensures { λ r. ⌜ PartsListed (now (parts .entry)) heads listing (now (events .entry)) (now (events .exit)) r ⌝ }
 {
     let mut known = listing;

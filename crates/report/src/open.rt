@@ -68,9 +68,9 @@ pub fn open_case(plan: Plan, case: Case, uses: &[u64; 256], room: usize) -> Open
     let heading = case.heading;
     let found = bindable(case);
     let reach = reach_of(plan, uses, heading.roster, case.constraints);
+    let bound = bind_facts(plan, case, reach.bound);
     let persons = rule_persons(reach.groups, plan.statuses);
     let fault = heading_fault(heading, plan.relation, persons, room);
-    let bound = bind_facts(plan, case, reach.bound);
     let codes = bound.codes;
     let count = count_worlds(
         codes,

@@ -1,13 +1,13 @@
 -- Laws of what holds of each entry of a list.
-use mathlib.Core.Path.{_≡_}
-use mathlib.Core.Bool.{Bool, true}
+use mathlib.Core.Path.{_≡_, refl, sym, ap, _∙_}
+use mathlib.Core.Bool.{Bool, true, _||_, or-assoc}
 use mathlib.Core.List.{List, [], _∷_, _++_, map}
 use Prim.Native.Nat.{ℕ, zero, suc, _≤_, _<_}
 use native.Mathlib.Omega.{arith}
 use lib.ListN.{getD}
 use lib.Dec.{ltb}
 use borrow.Author.Tests.{ltb-true}
-use Rattle.sets.specs.paper.Sets.{allOf, All}
+use Rattle.sets.specs.paper.Sets.{allOf, anyOf, All}
 use Rattle.sets.proofs.SetLaws.{and-parts}
 
 -- of which nothing is asked
@@ -52,6 +52,12 @@ all-tested f [] e = tt
 all-tested f (x ∷ xs) e =
     let t = and-parts (f x) (allOf f xs) e in
     (t .0, all-tested f xs (t .1))
+
+-- a test that holds of one of two lists
+pub any-append : {A : Type 0} (f : A → Bool) (xs ys : List A) → anyOf f (xs ++ ys) ≡ (anyOf f xs || anyOf f ys)
+unfolding anyOf
+any-append f [] ys = refl
+any-append f (x ∷ xs) ys = ap (λ (b : Bool). f x || b) (any-append f xs ys) ∙ sym (or-assoc (f x) (anyOf f xs) (anyOf f ys))
 
 -- numbers that a test lets through
 pub all-less : (bound : ℕ) (v : List ℕ) → All (λ i. ltb i bound ≡ true) v → All (λ i. i < bound) v

@@ -1,10 +1,13 @@
 pub mod SetLaws
+pub mod WholeLaws
 pub mod Closing
 pub mod LoopLaws
 pub mod BelowLaws
 pub mod Every
 pub mod UnionLaws
+pub mod SumLaws
 pub mod MaskLaws
 pub mod MemberLaws
+pub mod TurnLaws
 pub mod Rising
 pub mod Local

@@ -217,7 +217,7 @@ or-true : (x : Bool) → (x || true) ≡ true
 or-true true = refl
 or-true false = refl
 
-or-parts : (x y : Bool) → (x || y) ≡ true → (x ≡ true) ⊎ (y ≡ true)
+pub or-parts : (x y : Bool) → (x || y) ≡ true → (x ≡ true) ⊎ (y ≡ true)
 or-parts true y e = inl refl
 or-parts false y e = inr e
 

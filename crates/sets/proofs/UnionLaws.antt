@@ -21,6 +21,10 @@ union-none a = ext (union a 0) a (λ p. has-union a 0 p ∙ ap (λ (x : Bool). h
 pub union-self : (a : ℕ) → union a a ≡ a
 union-self a = ext (union a a) a (λ p. has-union a a p ∙ or-self (has a p))
 
+-- a set added twice is added once
+pub union-twice : (a b : ℕ) → union (union a b) b ≡ union a b
+union-twice a b = union-assoc a b b ∙ ap (union a) (union-self b)
+
 pub union-agree : {A : Type 0} (f g : A → ℕ) → ((x : A) → f x ≡ g x) → (xs : List A) → unionOf f xs ≡ unionOf g xs
 unfolding unionOf
 union-agree f g same [] = refl

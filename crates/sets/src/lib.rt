@@ -1,7 +1,11 @@
 // Sets of persons as masks: bit p stands for person p.
+pub mod numbers;
+pub mod whole;
+
 ghost use mathlib.Core.Path.{_≡_};
+ghost use mathlib.Core.List.{_∷_};
 ghost use Prim.Native.Nat.{_<_};
-ghost use Rattle.sets.specs.paper.Sets.{has, one, union as both, minus as without, disjoint as apart, subset as inside, size as ones, lowest as least, risingLess, pass as onePass, closeOf};
+ghost use Rattle.sets.specs.paper.Sets.{has, one, union, minus, subset, size, lowest, members, risingLess, pass, closeOf};
 
 // A person's mask.
 pub fn bit(p: u8) -> u64
@@ -19,40 +23,43 @@ pub fn contains(m: u64, p: u8) -> bool
 }
 
 pub fn union(a: u64, b: u64) -> u64
-    ensures { λ r. ⌜ r ≡ both a b ⌝ }
+    ensures { λ r. ⌜ r ≡ union a b ⌝ }
 {
     a | b
 }
 
 pub fn minus(a: u64, b: u64) -> u64
-    ensures { λ r. ⌜ r ≡ without a b ⌝ }
+    ensures { λ r. ⌜ r ≡ minus a b ⌝ }
 {
     a & !b
 }
 
-pub fn disjoint(a: u64, b: u64) -> bool
-    ensures { λ r. ⌜ r ≡ apart a b ⌝ }
-{
-    a & b == 0
-}
-
 pub fn subset(a: u64, b: u64) -> bool
-    ensures { λ r. ⌜ r ≡ inside a b ⌝ }
+    ensures { λ r. ⌜ r ≡ subset a b ⌝ }
 {
     a & !b == 0
 }
 
 pub fn size(m: u64) -> u32
-    ensures { λ r. ⌜ r ≡ ones m ⌝ }
+    ensures { λ r. ⌜ r ≡ size m ⌝ }
 {
     u64::count_ones(m)
 }
 
-// The lowest person of a set, 64 for nobody.
-pub fn lowest(m: u64) -> u32
-    ensures { λ r. ⌜ r ≡ least m ⌝ }
+// The lowest number of a set that is not empty.
+pub fn low(set: u64) -> usize
+    requires { ⌜ (set ≡ 0 → ⊥) ⌝ }
+    ensures { λ r. ⌜ (r ≡ lowest set) × (r < 64) ⌝ }
 {
-    u64::trailing_zeros(m)
+    u64::trailing_zeros(set) as usize
+}
+
+// The set without its lowest number.
+pub fn others(set: u64) -> u64
+    requires { ⌜ (set ≡ 0 → ⊥) ⌝ }
+    ensures { λ r. ⌜ (members set ≡ lowest set ∷ members r) × (r < set) ⌝ }
+{
+    set & (set - 1)
 }
 
 // Whether a comes before b, as rising lists of persons: by the lowest person who is in one of them only.
@@ -72,7 +79,7 @@ pub fn rising_less(a: u64, b: u64) -> bool
 
 // Each set once, in order, where it meets what is there.
 pub fn pass(sets: &[u64], seed: u64) -> u64
-    ensures { λ r. ⌜ r ≡ onePass (now (sets .entry)) seed ⌝ }
+    ensures { λ r. ⌜ r ≡ pass (now (sets .entry)) seed ⌝ }
 {
     let mut m = seed;
     let mut i = 0;

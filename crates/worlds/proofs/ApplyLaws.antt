@@ -7,7 +7,7 @@ use Prim.Native.Nat.{ℕ, _^_, _<_}
 use lib.Dec.{eqb, ltb}
 use borrow.Author.Tests.{ltb-true, lt-ltb, eqb-true, eqb-false, eq-eqb, ne-eqb, not-true}
 use Rattle.sets.specs.paper.Sets.{has, one, disjoint, meets, union, minus, only, members, anyBelow}
-use Rattle.records.specs.paper.Plan.{Plan}
+use Rattle.records.specs.paper.Plan.{Plan, oneEnd}
 use Rattle.sets.proofs.SetLaws.{has-none, has-minus, has-one, in-union-l, in-union-r, member, meeting, disjoint-false, and-parts}
 use Rattle.sets.proofs.LoopLaws.{getD-below}
 use Rattle.sets.proofs.BelowLaws.{flag-set, of-only, in-only}
@@ -17,7 +17,7 @@ use Rattle.expressions.specs.paper.Nodes.{on}
 use Rattle.expressions.specs.paper.Variables.{Influence}
 use Rattle.worlds.specs.paper.Active as paper
 use Rattle.worlds.specs.paper.World.{about, sameMembers, standing, overlappingCut, overlappingCuts, blockedBy, blockedCut, appliedCuts}
-use Rattle.worlds.specs.code.Tables.{row, crosses, Stands, TellsActive}
+use Rattle.worlds.specs.code.Tables.{row, Stands, TellsActive}
 use Rattle.worlds.specs.code.Cuts.{blockers, blockedTwins}
 use Rattle.worlds.specs.declared.tables.Common.{Common}
 use Rattle.worlds.specs.declared.tables.Active.{Active}
@@ -43,7 +43,7 @@ module _ (P : Plan) where
   ms c = cut P c .members
 
   -- an edge that crosses a cut has an end in it
-  crossing-end : (c e : ℕ) → crosses P c e ≡ true → (q : ℕ) × (has (ms c) q ≡ true) × (has (pair P e) q ≡ true)
+  crossing-end : (c e : ℕ) → oneEnd (cut P c) (edge P e) ≡ true → (q : ℕ) × (has (ms c) q ≡ true) × (has (pair P e) q ≡ true)
   unfolding pair
   crossing-end c e h = pick (which (has (ms c) (edge P e .left))) (which (has (ms c) (edge P e .right)))
     where
@@ -67,9 +67,9 @@ module _ (P : Plan) where
     abbrev meetsOther : ℕ → Bool
     meetsOther m = about n ms m (λ d. on kept d && not (eqb m (ms d)))
 
-    pub overlaps : (c : ℕ) → c < n → on (overlappingCuts P kept) c ≡ (on kept c && meetsOther (ms c))
+    pub overlapping-at : (c : ℕ) → c < n → on (overlappingCuts P kept) c ≡ (on kept c && meetsOther (ms c))
     unfolding overlappingCuts overlappingCut
-    overlaps c l = getD-below n (overlappingCut P kept) false c l
+    overlapping-at c l = getD-below n (overlappingCut P kept) false c l
 
     pub overlap-parts : (c : ℕ) → on (overlappingCuts P kept) c ≡ true → (c < n) × (on kept c ≡ true) × (meetsOther (ms c) ≡ true)
     unfolding overlappingCuts overlappingCut
@@ -80,17 +80,17 @@ module _ (P : Plan) where
 
     -- merged cuts that are kept overlap together
     pub overlap-twin : (c d : ℕ) → d < n → on (overlappingCuts P kept) c ≡ true → on kept d ≡ true → ms c ≡ ms d → on (overlappingCuts P kept) d ≡ true
-    overlap-twin c d l h k e = overlaps d l ∙ ap₂ _&&_ k (ap meetsOther (sym e) ∙ overlap-parts c h .2)
+    overlap-twin c d l h k e = overlapping-at d l ∙ ap₂ _&&_ k (ap meetsOther (sym e) ∙ overlap-parts c h .2)
 
     pub overlap-two : (c d : ℕ) → c < n → d < n → on kept c ≡ true → on kept d ≡ true → meets (ms c) (ms d) ≡ true → (ms c ≡ ms d → ⊥) → on (overlappingCuts P kept) c ≡ true
     unfolding about
-    overlap-two c d l r h k m e = overlaps c l ∙ ap₂ _&&_ h (any-in n _ d r (ap₂ _&&_ m (ap₂ (λ (x y : Bool). x && not y) k (ne-eqb (ms c) (ms d) e))))
+    overlap-two c d l r h k m e = overlapping-at c l ∙ ap₂ _&&_ h (any-in n _ d r (ap₂ _&&_ m (ap₂ (λ (x y : Bool). x && not y) k (ne-eqb (ms c) (ms d) e))))
 
-  pub blocked-parts : (a : paper.Active) (c e : ℕ) → blockedBy P a c e ≡ true → (on (a .frozen) e ≡ true) × (crosses P c e ≡ true)
+  pub blocked-parts : (a : paper.Active) (c e : ℕ) → blockedBy P a c e ≡ true → (on (a .frozen) e ≡ true) × (oneEnd (cut P c) (edge P e) ≡ true)
   unfolding blockedBy
   blocked-parts a c e h =
       let z = and-parts (on (a .frozen) e && edge P e .combination) _ h in
-      (and-parts (on (a .frozen) e) (edge P e .combination) (z .0) .0, and-parts (crosses P c e) _ (z .1) .0)
+      (and-parts (on (a .frozen) e) (edge P e .combination) (z .0) .0, and-parts (oneEnd (cut P c) (edge P e)) _ (z .1) .0)
 
 -- ---- the cuts that are left when blocked ones and those merged with them are out
 

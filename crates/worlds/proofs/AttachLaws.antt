@@ -28,7 +28,7 @@ use Rattle.worlds.specs.code.Tables.{row, Stands, TellsActive}
 use Rattle.worlds.specs.code.Blocks.{Parted, MovedTo, startOf}
 use Rattle.worlds.specs.declared.tables.Common.{Common}
 use Rattle.worlds.specs.declared.tables.Active as masks
-use Rattle.worlds.proofs.OverLaws.{members-none, member-has, union-has, has-union-of}
+use Rattle.sets.proofs.TurnLaws.{members-none, member-has, union-has, has-union-of}
 use Rattle.worlds.proofs.FirstBlocks.{Blocks, out-of-blocks, first-blocks}
 use Rattle.worlds.proofs.Partition.{not-set, moved-block, cut-on, live-below, movers-live, attach-blocks}
 

@@ -15,11 +15,11 @@ use borrow.Author.Tests.{eqb-true, eqb-false, eq-eqb, not-true}
 use Rattle.sets.specs.paper.Sets.{odd, has, union, minus, disjoint, meets, only, lowest, members, unionOf}
 use Rattle.sets.proofs.SetLaws.{has-zero, has-suc, has-none, has-and, ext, has-high, member, in-minus, of-minus, meeting, disjoint-false, lt-or-le, trailing-least}
 use Rattle.sets.proofs.Local.{clash}
-use Rattle.sets.proofs.UnionLaws.{union-none, union-assoc, union-first, union-end}
+use Rattle.sets.proofs.UnionLaws.{union-none, union-assoc, union-first, union-end, union-twice}
 use Rattle.worlds.specs.code.Over.{entry}
 use Rattle.worlds.specs.code.Blocks.{Parted}
 use Rattle.worlds.specs.code.Citing.{CitesIn}
-use Rattle.worlds.proofs.OverLaws.{members-none, union-twice}
+use Rattle.sets.proofs.TurnLaws.{members-none}
 
 -- ---- tests that say the same, and sets that meet
 

@@ -16,7 +16,7 @@ use Rattle.sets.proofs.BelowLaws.{any-false, union-find, in-below, of-only, in-
 use Rattle.sets.proofs.MemberLaws.{member-at, member-place, members-length}
 use Rattle.sets.proofs.Local.{which, clash}
 use Rattle.sets.proofs.UnionLaws.{union-none}
-use Rattle.worlds.proofs.OverLaws.{members-none}
+use Rattle.sets.proofs.TurnLaws.{members-none}
 use Rattle.worlds.proofs.CiteLaws.{both-ways, meets-in, meets-of, lowest-in, lowest-below}
 
 -- ---- tests and sets

@@ -16,7 +16,7 @@ use Rattle.sets.proofs.UnionLaws.{union-none}
 use Rattle.worlds.specs.code.Over.{entry}
 use Rattle.worlds.specs.code.Blocks.{Parted}
 use Rattle.worlds.specs.code.Citing.{CitesIn, far, CitedFor}
-use Rattle.worlds.proofs.OverLaws.{members-next, members-none}
+use Rattle.sets.proofs.TurnLaws.{members-next, members-none}
 use Rattle.worlds.proofs.CiteLaws.{both-ways, none-of, meets-in, meets-of, lowest-in, nobody, cites-none, cites-add, cites-both, cites-as}
 
 -- ---- tests of sets

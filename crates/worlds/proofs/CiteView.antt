@@ -12,7 +12,7 @@ use lib.Bits.{bitAnd}
 use borrow.Author.Tests.{eqb-true, ne-eqb}
 use Rattle.sets.specs.paper.Sets.{has, one, union, meet, minus, meets, subset, only, lowest, members, unionOf, unionBelow}
 use Rattle.records.specs.paper.Plan.{Plan}
-use Rattle.records.specs.promises.Sound.{SoundEdge, SoundAttachment}
+use Rattle.records.specs.promises.Sound.{Person, SoundEdge, SoundAttachment}
 use Rattle.sets.proofs.SetLaws.{has-none, has-one, empty, of-meet, in-minus, of-minus, in-union-l, in-union-r, of-union, union-lt, one-lt}
 use Rattle.sets.proofs.Closing.{in-one}
 use Rattle.sets.proofs.LoopLaws.{all-at}
@@ -34,7 +34,7 @@ use Rattle.worlds.specs.declared.tables.Common.{Common}
 use Rattle.worlds.specs.declared.tables.Settled.{Settled}
 use Rattle.worlds.proofs.FirstBlocks.{Blocks}
 use Rattle.worlds.proofs.Partition.{world-blocks}
-use Rattle.worlds.proofs.OverLaws.{and-pred, and-less, members-next}
+use Rattle.sets.proofs.TurnLaws.{and-pred, and-less, members-next}
 use Rattle.worlds.proofs.CiteLaws.{minus-le, lowest-in, lowest-below, filled, cites-both}
 use Rattle.worlds.proofs.CiteTurns.{meets-sym, meets-none, far-other, far-same}
 use Rattle.worlds.proofs.CiteRules.{only-none, only-both, union-comm, lowest-one, ends-inside, meets-person, rules-same, rules-all, no-members, unless-same}
@@ -180,7 +180,7 @@ module _ (P : Plan) (I : Influence) (k : Common) (t : List (List ℕ)) (a : pape
           ∙ ⊎-elim (λ z. ap₂ by (z .0) (z .1) ∙ both (edge P e .left) (edge P e .right))
           (λ z. ap₂ by (z .0) (z .1) ∙ both (edge P e .right) (edge P e .left) ∙ union-comm _ _) (edge-ends e l)
 
-  anchor-at : (i : ℕ) → i < attachmentCount P → attachment P i .anchor < 64
+  anchor-at : (i : ℕ) → i < attachmentCount P → Person (attachment P i .anchor)
   unfolding attachment
   anchor-at i l = all-at (SoundAttachment P) (P .attachments) _ i (S .sound .attachments) l .anchor
 

@@ -99,7 +99,7 @@ module _ (P : Plan) (I : Influence) (k : Common) (t : List (List ℕ)) (S : Stan
             let y = of-meet (row t 6 c) lo d (z .1) in
             let u = and-parts (on over c) (least c) (sym (least-told c) ∙ z .0) in
             let v = and-parts (on over d) (least d) (sym (least-told d) ∙ y .1) in
-            ap₂ _&&_ (ap₂ _&&_ (u .1) (v .1)) (and-parts (ltb d (cutCount P)) _ (sym (S .earlier c d (overlap-parts P kept c (u .0) .0)) ∙ y .0) .1)
+            ap₂ _&&_ (ap₂ _&&_ (u .1) (v .1)) (and-parts (ltb d (cutCount P)) _ (sym (S .later c d (overlap-parts P kept c (u .0) .0)) ∙ y .0) .1)
 
         back : ((least c && least d) && (sharing P c d && risingLess (mc c) (mc d))) ≡ true → (has lo c && has (meet (row t 6 c) lo) d) ≡ true
         back h =
@@ -111,4 +111,4 @@ module _ (P : Plan) (I : Influence) (k : Common) (t : List (List ℕ)) (S : Stan
             let oc = overlap-two P kept c d (low c kc) (low d kd) kc kd (x .0) (λ e. clash (x .1) (rising-self (mc c) (mc d) e)) in
             let od = overlap-two P kept d c (low d kd) (low c kc) kd kc (meets-swap (mc c) (mc d) (x .0)) (λ e. clash (x .1) (rising-self (mc c) (mc d) (sym e))) in
             ap₂ _&&_ (least-told c ∙ ap₂ _&&_ oc (y .0))
-            (in-meet (row t 6 c) lo d (S .earlier c d (low c kc) ∙ ap₂ _&&_ (lt-ltb d (cutCount P) (low d kd)) (z .1)) (least-told d ∙ ap₂ _&&_ od (y .1)))
+            (in-meet (row t 6 c) lo d (S .later c d (low c kc) ∙ ap₂ _&&_ (lt-ltb d (cutCount P) (low d kd)) (z .1)) (least-told d ∙ ap₂ _&&_ od (y .1)))

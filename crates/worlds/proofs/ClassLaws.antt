@@ -16,7 +16,7 @@ use Rattle.sets.proofs.Closing.{Takes, Closed, close-closed, close-within, clos
 use Rattle.records.proofs.ListLaws.{all-append}
 use Rattle.worlds.specs.code.Over.{entry, Marked}
 use Rattle.worlds.specs.code.Classes.{Alone, ClassesBy, Joins, joinable}
-use Rattle.worlds.proofs.OverLaws.{members-none, union-has, has-union-of}
+use Rattle.sets.proofs.TurnLaws.{members-none, union-has, has-union-of}
 
 -- ---- closed sets and closings
 

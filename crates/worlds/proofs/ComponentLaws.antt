@@ -15,7 +15,7 @@ use Rattle.sets.proofs.BelowLaws.{of-only, in-only}
 use Rattle.sets.proofs.Local.{which, clash}
 use Rattle.worlds.specs.code.Over.{entry}
 use Rattle.worlds.specs.code.Discretion.{near, looseBy, joinedTo, Leads, Component, Heads, HeadsBy, Renewed, LooseParts}
-use Rattle.worlds.proofs.OverLaws.{union-has, has-union-of}
+use Rattle.sets.proofs.TurnLaws.{union-has, has-union-of}
 use Rattle.worlds.proofs.ClassLaws.{closed-inside}
 use Rattle.worlds.proofs.FirstBlocks.{close-class}
 use Rattle.worlds.proofs.LooseLaws.{one-tight, close-alone, pairs-inside, Shared}

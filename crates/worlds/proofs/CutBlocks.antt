@@ -10,7 +10,7 @@ use Rattle.sets.specs.paper.Sets.{has, union, meet, minus, lowest, members, uni
 use Rattle.sets.proofs.SetLaws.{has-none, has-union, has-minus, ext}
 use Rattle.worlds.specs.code.Over.{entry, Marked}
 use Rattle.worlds.specs.code.Blocks.{CutInto}
-use Rattle.worlds.proofs.OverLaws.{members-none, member-has}
+use Rattle.sets.proofs.TurnLaws.{members-none, member-has}
 use Rattle.worlds.proofs.Partition.{not-set}
 
 -- a loop over applied cuts that has `todo` left

@@ -8,7 +8,7 @@ use native.Mathlib.Omega.{arith}
 use lib.Dec.{eqb, ltb}
 use borrow.Author.Tests.{ltb-true, lt-ltb}
 use Rattle.sets.specs.paper.Sets.{has, meets, union, meet, minus, members, below, anyBelow, unionOf}
-use Rattle.records.specs.paper.Plan.{Plan}
+use Rattle.records.specs.paper.Plan.{Plan, oneEnd}
 use Rattle.sets.proofs.SetLaws.{has-union, has-meet, has-minus, has-one, and-parts, lt-or-le}
 use Rattle.sets.proofs.LoopLaws.{getD-below, getD-past}
 use Rattle.expressions.specs.paper.Rules.{edgeCount, cutCount, edge, cut}
@@ -18,7 +18,7 @@ use Rattle.expressions.specs.paper.Variables.{Influence}
 use Rattle.expressions.proofs.OpenLaws.{open-few}
 use Rattle.worlds.specs.paper.Active as paper
 use Rattle.worlds.specs.paper.World.{about, precedes, sameMembers, keptCut, keptCuts, overlappingCut, overlappingCuts, blockedBy}
-use Rattle.worlds.specs.code.Tables.{row, sharing, crosses, Stands, TellsActive}
+use Rattle.worlds.specs.code.Tables.{row, sharing, Stands, TellsActive}
 use Rattle.worlds.specs.code.Cuts.{blockers}
 use Rattle.worlds.specs.declared.tables.Common.{Common}
 use Rattle.worlds.specs.declared.tables.Active.{Active}
@@ -110,7 +110,7 @@ module _ (P : Plan) (I : Influence) (k : Common) (t : List (List ℕ)) (S : Stan
                 ≡ (ltb d (decisionCount P) && ((eqb (openDecision P d .cut) c && eqb (openDecision P d .edge) e) && not (has (a .decisions) d)))
             pick true z =
                 ap (λ (b : Bool). ((ltb d (decisionCount P) && eqb (openDecision P d .cut) c) && not (has (a .decisions) d)) && b)
-                (ap (λ (m : ℕ). has m e) (S .decided d (ltb-true d (decisionCount P) z)) ∙ has-one (openDecision P d .edge) e)
+                (ap (λ (m : ℕ). has m e) (S .openEdges d (ltb-true d (decisionCount P) z)) ∙ has-one (openDecision P d .edge) e)
                 ∙ parted (ltb d (decisionCount P)) (eqb (openDecision P d .cut) c) (has (a .decisions) d) (eqb (openDecision P d .edge) e)
             pick false z =
                 ap (λ (b : Bool). ((b && eqb (openDecision P d .cut) c) && not (has (a .decisions) d)) && has (row t 10 d) e) z
@@ -123,7 +123,7 @@ module _ (P : Plan) (I : Influence) (k : Common) (t : List (List ℕ)) (S : Stan
         has-meet (meet (f .frozen) (row t 7 c)) (union (row t 8 c) (unionOf (row t 10) (members (undecided c)))) e
         ∙ ap₂ _&&_ (has-meet (f .frozen) (row t 7 c) e ∙ ap₂ _&&_ (T .frozen e) (S .crossing c e l))
         (has-union (row t 8 c) (unionOf (row t 10) (members (undecided c))) e ∙ ap₂ _||_ (S .said c e l) (open-says c e l))
-        ∙ frozen-low (on (a .frozen) e) (ltb e (edgeCount P)) (edge P e .combination) (crosses P c e) _ (λ h. lt-ltb e (edgeCount P) (T .edgesBelow e h))
+        ∙ frozen-low (on (a .frozen) e) (ltb e (edgeCount P)) (edge P e .combination) (oneEnd (cut P c) (edge P e)) _ (λ h. lt-ltb e (edgeCount P) (T .edgesBelow e h))
       where
         frozen-low : (o l x y z : Bool) → (o ≡ true → l ≡ true) → ((o && (l && (x && y))) && z) ≡ ((o && x) && (y && z))
         frozen-low true true true y z h = refl

@@ -15,14 +15,14 @@ use Rattle.expressions.specs.paper.Nodes.{on}
 use Rattle.expressions.specs.paper.Variables.{Influence}
 use Rattle.worlds.specs.paper.Active as paper
 use Rattle.worlds.specs.paper.World.{keptCut, keptCuts, overlappingCuts, standing, spread, overlapSeed, marksOf, afterMarks, worldOf}
-use Rattle.worlds.specs.paper.Events.{leastOfMerged}
+use Rattle.worlds.specs.paper.Events.{blocks, leastOfMerged, overlaps}
 use Rattle.worlds.specs.code.Tables.{row, Stands}
 use Rattle.worlds.specs.code.Cuts.{blockers, blockedTwins, Noted}
-use Rattle.worlds.specs.code.Settled.{blocks, clashes, CutsSettled}
+use Rattle.worlds.specs.code.Settled.{CutsSettled}
 use Rattle.worlds.specs.declared.tables.Common.{Common}
 use Rattle.worlds.specs.declared.tables.Active.{Active}
 use Rattle.worlds.specs.declared.cuts.CutsDone.{CutsDone}
-use Rattle.worlds.proofs.OverLaws.{union-has, has-union-of}
+use Rattle.sets.proofs.TurnLaws.{union-has, has-union-of}
 use Rattle.worlds.proofs.SpreadLaws.{spread-members}
 use Rattle.worlds.proofs.Partition.{cut-on}
 use Rattle.worlds.proofs.FindLaws.{union-members, few-low}
@@ -99,7 +99,7 @@ pub cuts-made : (t : List (List ℕ)) (f : Active) (r : CutsDone) (b₀ b₁ c�
     → r .overlap ≡ unionOf (row t 15) (members united)
     → r .applied ≡ minus st out
     → CutsSettled t f r b₀ b₁ c₀ c₁
-unfolding worldOf afterMarks marksOf blocks clashes leastOfMerged
+unfolding worldOf afterMarks marksOf blocks overlaps leastOfMerged
 cuts-made t f r b₀ b₁ c₀ c₁ left cl lo st out united hk ho hl hs nc nb et eu eo ea = record {
   at = λ P I k a S T.
       let kept = keptCuts P a in

@@ -28,7 +28,7 @@ use Rattle.worlds.specs.code.Tables.{Stands, TellsActive}
 use Rattle.worlds.specs.code.Settled.{PartsAre}
 use Rattle.worlds.specs.declared.tables.Common.{Common}
 use Rattle.worlds.specs.declared.tables.Active.{Active}
-use Rattle.worlds.proofs.OverLaws.{has-members, union-has, has-union-of}
+use Rattle.sets.proofs.TurnLaws.{has-members, union-has, has-union-of}
 use Rattle.worlds.proofs.FindLaws.{not-so, union-members, set-low, few-low}
 use Rattle.worlds.proofs.SpreadLaws.{spread-members}
 use Rattle.worlds.proofs.ClassLaws.{close-alike, closed-inside}

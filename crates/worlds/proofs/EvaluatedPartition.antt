@@ -1,4 +1,4 @@
--- Document 01, "Proved: each roster person is marked, or is in just one block whose members all report it", of the state that `evaluate` returns.
+-- Document 01, "Proved: each roster person is marked, or is in just one block whose members all report it", of the state that `evaluate_world` returns.
 use mathlib.Core.Path.{_≡_, sym, ap, _∙_}
 use mathlib.Core.Bool.{Bool, true, false, cond}
 use mathlib.Core.Logic.{_⊎_, inl, inr, ⊎-elim}

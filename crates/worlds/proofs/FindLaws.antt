@@ -10,7 +10,7 @@ use Rattle.sets.specs.paper.Sets.{has, minus, disjoint, meets, members, anyBelo
 use Rattle.sets.proofs.SetLaws.{has-suc, has-minus, antisym, empty, disjoint-false, disjoint-true, and-parts}
 use Rattle.sets.proofs.BelowLaws.{any-false}
 use Rattle.sets.proofs.Local.{which, clash, any-none}
-use Rattle.worlds.proofs.OverLaws.{union-has, has-union-of}
+use Rattle.sets.proofs.TurnLaws.{union-has, has-union-of}
 
 -- two answers, each yes where the other is
 pub same-answer : (x y : Bool) → (x ≡ true → y ≡ true) → (y ≡ true → x ≡ true) → x ≡ y

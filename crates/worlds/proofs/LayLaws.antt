@@ -1,10 +1,9 @@
 -- One entry laid into the tables of a case, and what a loop that lays entry after entry has laid.
 use mathlib.Core.Path.{_≡_, refl, sym, ap, ap₂, _∙_, subst}
 use mathlib.Core.Bool.{Bool, true, false, _&&_, _||_, cond, and-false, or-false, or-true, true≢false}
-use mathlib.Core.List.{List, [], _∷_}
+use mathlib.Core.List.{List, []}
 use mathlib.Core.Logic.{⊎-elim}
-use Prim.Native.Nat.{ℕ, zero, suc, _+_, _≤_, _<_}
-use native.Mathlib.Nat.{le-of-suc-le-suc}
+use Prim.Native.Nat.{ℕ, _+_, _≤_, _<_}
 use native.Mathlib.Numerals.{add-one}
 use native.Mathlib.Omega.{arith}
 use lib.ListN.{length, getD, set}
@@ -12,10 +11,6 @@ use lib.Seq.{getD-set-same, getD-set-other}
 use lib.Dec.{eqb, ltb}
 use borrow.Author.Count.{below-more}
 use borrow.Author.Tests.{eqb-true, eqb-false, eq-eqb, ne-eqb, lt-ltb, le-ltb}
-use mir.Val.{Val}
-use base.Fml.{Fml}
-use denote.Shadow.{shadow}
-use denote.Array.{each, inArray}
 use Rattle.sets.specs.paper.Sets.{has, one, union, anyOf, below, All}
 use Rattle.sets.proofs.SetLaws.{has-one, has-union, lt-or-le}
 use Rattle.sets.proofs.LoopLaws.{getD-below, length-below, all-at}
@@ -23,15 +18,6 @@ use Rattle.records.proofs.Listing
 use Rattle.expressions.proofs.ListLaws.{any-last}
 use Rattle.worlds.specs.code.Tables.{row}
 use Rattle.worlds.specs.code.Laid.{Laid, Row, Same}
-
--- ---- an array of arrays, by what is told of its elements on entry
-
-pub rows-long : {A : Type 0} (f : A → List Val → Fml) (n : ℕ) (xs : List (List A)) (us : List Val) → shadow (each (List A) (inArray A f n) xs us)
-    → (k : ℕ) → k < length xs → length (getD xs k []) ≡ n
-rows-long f n [] us s k h = absurd (omega arith)
-rows-long f n (x ∷ xs) [] s k h = absurd s
-rows-long f n (x ∷ xs) (u ∷ us) s zero h = s .0 .1 .0 .1
-rows-long f n (x ∷ xs) (u ∷ us) s (suc k) h = rows-long f n xs us (s .1) k (le-of-suc-le-suc h)
 
 -- ---- one entry
 

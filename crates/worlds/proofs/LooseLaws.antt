@@ -20,7 +20,7 @@ use Rattle.sets.proofs.UnionLaws.{union-assoc, union-none}
 use Rattle.worlds.specs.code.Over.{entry}
 use Rattle.worlds.specs.code.Classes.{Alone, ClassesBy, Joins, joinable}
 use Rattle.worlds.specs.code.Discretion.{near, cliqueBy, looseBy, Heads, LooseParts}
-use Rattle.worlds.proofs.OverLaws.{members-next, members-none}
+use Rattle.sets.proofs.TurnLaws.{members-next, members-none}
 use Rattle.worlds.proofs.ClassLaws.{closed-inside}
 use Rattle.worlds.proofs.FirstBlocks.{close-class}
 

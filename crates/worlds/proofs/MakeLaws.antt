@@ -16,26 +16,25 @@ use Rattle.sets.proofs.Closing.{passes-next, in-one}
 use Rattle.sets.proofs.BelowLaws.{union-find, in-below, of-only, in-only}
 use Rattle.sets.proofs.LoopLaws.{all-at}
 use Rattle.sets.proofs.Every.{all-then}
-use Rattle.records.specs.paper.Plan.{Plan, Cut, Heading}
+use Rattle.records.specs.paper.Plan.{Plan, Cut, Heading, oneEnd}
 use Rattle.records.specs.promises.Sound.{Sound, SoundEdge, SoundDecision, SoundCut, SoundAttachment, SoundBar, SoundStatus}
-use Rattle.records.specs.code.Decoded.{ifGiven, planOf}
+use Rattle.records.specs.code.Decoded.{ifGiven, planOf, edgesOf, cutsOf, attachmentsOf, barsOf, statusesOf}
 use Rattle.records.specs.declared.plan.Plan.{Plan as Coded}
 use Rattle.expressions.specs.paper.Rules.{edgeCount, cutCount, edge, cut, pair, chained, ruleSets, rulePersons}
 use Rattle.expressions.specs.paper.Influence.{openDecisions}
 use Rattle.expressions.specs.code.Undecided.{Named, opensOf}
 use Rattle.expressions.specs.paper.Variables.{Influence}
-use Rattle.expressions.specs.code.Coded.{edgesOf, cutsOf, attachmentsOf, barsOf, statusesOf}
 use Rattle.expressions.specs.declared.decisions.Undecided.{Undecided}
 use Rattle.expressions.proofs.ListLaws.{filled-at}
 use Rattle.expressions.proofs.OpenLaws.{all-named}
 use Rattle.worlds.specs.code.Over.{entry}
 use Rattle.worlds.specs.paper.World.{chainStep, preceded, precedes, sameMembers, spread}
-use Rattle.worlds.specs.code.Tables.{row, sharing, crosses, Stands}
+use Rattle.worlds.specs.code.Tables.{row, sharing, Stands}
 use Rattle.worlds.specs.code.Laid.{EdgeFits, CutFits, AttachmentFits, BarFits, StatusFits, OpenFits, EdgesLaid, CutsLaid, AttachmentsLaid, BarsLaid, StatusesLaid, DecisionsLaid}
 use Rattle.worlds.specs.code.Related.{PrecedesFit, chainBy, Preceding, Chained, RelatedAt, CutsRelated}
 use Rattle.worlds.specs.code.Made.{Combination, SpreadLaid, CommonFor}
 use Rattle.worlds.specs.declared.tables.Common.{Common}
-use Rattle.worlds.proofs.OverLaws.{union-has, has-union-of}
+use Rattle.sets.proofs.TurnLaws.{union-has, has-union-of}
 use Rattle.worlds.proofs.ClassLaws.{gathered}
 
 -- ---- a set of the numbers that pass a test, number by number
@@ -295,7 +294,7 @@ pair-crosses l r m h k b =
     pick false false = refl
 
 edge-crosses : (P : Plan) → Sound P → (c e : ℕ) → c < cutCount P → e < edgeCount P
-    → (meets (pair P e) (cut P c .members) && meets (pair P e) ((2 ^ 64 - 1) - cut P c .members)) ≡ crosses P c e
+    → (meets (pair P e) (cut P c .members) && meets (pair P e) ((2 ^ 64 - 1) - cut P c .members)) ≡ oneEnd (cut P c) (edge P e)
 unfolding pair edge cut
 edge-crosses P sound c e h l =
     let s = all-at (SoundEdge P) (P .edges) _ e (sound .edges) l in
@@ -343,10 +342,10 @@ module _ (P : Plan) (sound : Sound P) (all combination : ℕ) (chains : List ℕ
   pub clashing-stand : (c d : ℕ) → c < cutCount P → has (row after 5 c) d ≡ (ltb d (cutCount P) && (sharing P c d && not (sameMembers P c d)))
   clashing-stand c d h = at c h .clashing d ∙ more c d h (λ l. ap₂ (λ (x y : ℕ). not (eqb x y)) (own c h) (own d l))
 
-  pub earlier-stand : (c d : ℕ) → c < cutCount P → has (row after 6 c) d ≡ (ltb d (cutCount P) && (sharing P c d && risingLess (cut P c .members) (cut P d .members)))
-  earlier-stand c d h = at c h .earlier d ∙ more c d h (λ l. ap₂ risingLess (own c h) (own d l))
+  pub later-stand : (c d : ℕ) → c < cutCount P → has (row after 6 c) d ≡ (ltb d (cutCount P) && (sharing P c d && risingLess (cut P c .members) (cut P d .members)))
+  later-stand c d h = at c h .later d ∙ more c d h (λ l. ap₂ risingLess (own c h) (own d l))
 
-  pub crossing-stand : (c e : ℕ) → c < cutCount P → has (row after 7 c) e ≡ (ltb e (edgeCount P) && (edge P e .combination && crosses P c e))
+  pub crossing-stand : (c e : ℕ) → c < cutCount P → has (row after 7 c) e ≡ (ltb e (edgeCount P) && (edge P e .combination && oneEnd (cut P c) (edge P e)))
   crossing-stand c e h =
       at c h .crossing e
       ∙ ap (λ (b : Bool). (b && meets (row before 0 e) (row before 1 c)) && meets (row before 0 e) ((2 ^ 64 - 1) - row before 1 c)) (joint e)
@@ -356,7 +355,7 @@ module _ (P : Plan) (sound : Sound P) (all combination : ℕ) (chains : List ℕ
       group : (w x y z : Bool) → (((w && x) && y) && z) ≡ (w && (x && (y && z)))
       group w x y z = ap (λ (b : Bool). b && z) (and-assoc w x y) ∙ and-assoc w (x && y) z ∙ ap (λ (b : Bool). w && b) (and-assoc x y z)
 
-      crossed : e < edgeCount P → (meets (row before 0 e) (row before 1 c) && meets (row before 0 e) ((2 ^ 64 - 1) - row before 1 c)) ≡ crosses P c e
+      crossed : e < edgeCount P → (meets (row before 0 e) (row before 1 c) && meets (row before 0 e) ((2 ^ 64 - 1) - row before 1 c)) ≡ oneEnd (cut P c) (edge P e)
       crossed l = ap₂ (λ (x y : ℕ). meets x y && meets x ((2 ^ 64 - 1) - y)) (ends e l) (own c h) ∙ edge-crosses P sound c e h l
 
 -- ---- the tables whole
@@ -379,23 +378,23 @@ module _ (plan : Coded) (undecided : Undecided) (roster all combination steps : 
   P = planOf plan
 
   the-edges : P .edges ≡ edgesOf (plan .edges)
-  unfolding planOf edgesOf
+  unfolding planOf
   the-edges = refl
 
   the-cuts : P .cuts ≡ cutsOf (plan .cuts)
-  unfolding planOf cutsOf
+  unfolding planOf
   the-cuts = refl
 
   the-attachments : P .attachments ≡ attachmentsOf (plan .attachments)
-  unfolding planOf attachmentsOf
+  unfolding planOf
   the-attachments = refl
 
   the-bars : P .bars ≡ barsOf (plan .bars)
-  unfolding planOf barsOf
+  unfolding planOf
   the-bars = refl
 
   the-statuses : P .statuses ≡ statusesOf (plan .statuses)
-  unfolding planOf statusesOf
+  unfolding planOf
   the-statuses = refl
 
   -- rows that the last calls leave
@@ -443,13 +442,13 @@ module _ (plan : Coded) (undecided : Undecided) (roster all combination steps : 
         lower = λ c d h. left 3 c d refl (lower-stand P sound all combination chains t₇ t₈ every b orders members-seven pairs-seven related c d h);
         droppers = λ c d h. left 4 c d refl (droppers-stand P sound all combination chains t₇ t₈ every b orders members-seven pairs-seven related c d h);
         clashing = λ c d h. left 5 c d refl (clashing-stand P sound all combination chains t₇ t₈ every b orders members-seven pairs-seven related c d h);
-        earlier = λ c d h. left 6 c d refl (earlier-stand P sound all combination chains t₇ t₈ every b orders members-seven pairs-seven related c d h);
+        later = λ c d h. left 6 c d refl (later-stand P sound all combination chains t₇ t₈ every b orders members-seven pairs-seven related c d h);
         crossing = λ c e h. left 7 c e refl (crossing-stand P sound all combination chains t₇ t₈ every b orders members-seven pairs-seven related c e h);
         said = λ c e h. ap (λ (m : ℕ). has m e) (from-six 8 c refl refl refl ∙ statuses .same .at 8 c refl ∙ bars .same .at 8 c refl ∙ attachments .same .at 8 c refl)
             ∙ cuts .said P the-cuts c e h;
         opens = λ c d h. ap (λ (m : ℕ). has m d) (from-seven 9 c refl refl)
             ∙ decisions .opens P (sym opens) (λ x. statuses .same .at 9 x refl ∙ bars .same .at 9 x refl ∙ attachments .same .at 9 x refl ∙ cuts .same .at 9 x refl ∙ edges .same .at 9 x refl ∙ none x) c d;
-        decided = λ d h. from-seven 10 d refl refl ∙ decisions .edges P (sym opens) .at d h;
+        openEdges = λ d h. from-seven 10 d refl refl ∙ decisions .edges P (sym opens) .at d h;
         movers = λ n h. from-six 11 n refl refl refl ∙ statuses .same .at 11 n refl ∙ bars .same .at 11 n refl ∙ attachments .movers P the-attachments .at n h;
         anchors = λ n h. from-six 12 n refl refl refl ∙ statuses .same .at 12 n refl ∙ bars .same .at 12 n refl ∙ attachments .anchors P the-attachments .at n h;
         barred = λ n h. from-six 13 n refl refl refl ∙ statuses .same .at 13 n refl ∙ bars .members P the-bars .at n h;

@@ -9,9 +9,8 @@ use lib.Dec.{eqb}
 use borrow.Author.Tests.{eqb-true, eqb-false, eq-eqb, ne-eqb}
 use Rattle.sets.specs.paper.Sets.{has, union, only, lowest, members, unionOf}
 use Rattle.sets.proofs.SetLaws.{has-none}
-use Rattle.sets.proofs.UnionLaws.{union-none, union-first}
+use Rattle.sets.proofs.UnionLaws.{union-none, union-first, union-twice}
 use Rattle.worlds.specs.code.Over.{entry}
-use Rattle.worlds.proofs.OverLaws.{union-twice}
 
 -- a table with more at each number of a set
 abbrev pub noting : (ℕ → ℕ) → ℕ → List ℕ → ℕ → ℕ

@@ -31,7 +31,7 @@ use Rattle.worlds.specs.declared.tables.Common.{Common}
 use Rattle.worlds.specs.declared.tables.Active as told
 use Rattle.worlds.specs.declared.tables.Settled.{Settled}
 use Rattle.worlds.specs.declared.world.World.{World}
-use Rattle.worlds.proofs.OverLaws.{has-members, union-has, has-union-of}
+use Rattle.sets.proofs.TurnLaws.{has-members, union-has, has-union-of}
 use Rattle.worlds.proofs.ClassLaws.{close-alike}
 use Rattle.worlds.proofs.FirstBlocks.{applied, applied-parts, first, cuts-same, applied-to, of-cuts, in-cuts, first-by, first-is}
 use Rattle.worlds.proofs.Partition.{not-set, cut-on, partition}

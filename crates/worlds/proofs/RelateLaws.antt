@@ -143,7 +143,7 @@ module _ (preceded : List ℕ) (c cuts combination : ℕ) where
         droppers = λ d. a .droppers d
             ∙ ap₂ (λ (u v : ℕ). (has cuts d && meets v u) && (has (entry preceded d) c && not (has (entry preceded c) d))) own (m d);
         clashing = λ d. a .clashing d ∙ ap₂ (λ (u v : ℕ). (has cuts d && meets v u) && not (eqb u v)) own (m d);
-        earlier = λ d. a .earlier d ∙ ap₂ (λ (u v : ℕ). (has cuts d && meets v u) && risingLess u v) own (m d);
+        later = λ d. a .later d ∙ ap₂ (λ (u v : ℕ). (has cuts d && meets v u) && risingLess u v) own (m d);
         crossing = λ e. a .crossing e ∙ ap₂ (λ (u v : ℕ). (has combination e && meets v u) && meets v ((2 ^ 64 - 1) - u)) own (p e);
       }
 
@@ -155,7 +155,7 @@ module _ (preceded : List ℕ) (c cuts combination : ℕ) where
     lower = λ d. ap (λ (x : ℕ). has x d) (s 3) ∙ a .lower d;
     droppers = λ d. ap (λ (x : ℕ). has x d) (s 4) ∙ a .droppers d;
     clashing = λ d. ap (λ (x : ℕ). has x d) (s 5) ∙ a .clashing d;
-    earlier = λ d. ap (λ (x : ℕ). has x d) (s 6) ∙ a .earlier d;
+    later = λ d. ap (λ (x : ℕ). has x d) (s 6) ∙ a .later d;
     crossing = λ d. ap (λ (x : ℕ). has x d) (s 7) ∙ a .crossing d;
   }
 

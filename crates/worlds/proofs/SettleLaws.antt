@@ -18,15 +18,16 @@ use Rattle.expressions.specs.paper.Nodes.{on}
 use Rattle.expressions.specs.paper.Variables.{Influence}
 use Rattle.worlds.specs.paper.Active as paper
 use Rattle.worlds.specs.paper.World.{World, worldOf, afterMarks, marked, barHolds, barredBy, excludedBy}
+use Rattle.worlds.specs.paper.Events.{blocks, overlaps}
 use Rattle.worlds.specs.code.Over.{entry}
 use Rattle.worlds.specs.code.Tables.{row, Stands, TellsActive}
 use Rattle.worlds.specs.code.Discretion.{Renewed, LooseParts}
-use Rattle.worlds.specs.code.Settled.{blocks, clashes, Added, CutsAre, CutsSettled, PartsAre, SettledAs, Settles}
+use Rattle.worlds.specs.code.Settled.{Added, CutsAre, CutsSettled, PartsAre, SettledAs, Settles}
 use Rattle.worlds.specs.declared.tables.Common.{Common}
 use Rattle.worlds.specs.declared.tables.Active.{Active}
 use Rattle.worlds.specs.declared.tables.Settled.{Settled}
 use Rattle.worlds.specs.declared.cuts.CutsDone.{CutsDone}
-use Rattle.worlds.proofs.OverLaws.{union-has, has-union-of}
+use Rattle.sets.proofs.TurnLaws.{union-has, has-union-of}
 use Rattle.worlds.proofs.FindLaws.{few-low}
 use Rattle.worlds.proofs.DiscretionLaws.{parts-are, discretion-is}
 use Rattle.worlds.proofs.AttachLaws.{marksIn, settled-moved, settled-attached}
@@ -190,5 +191,5 @@ module _ (t : List (List ℕ)) (k : Common) (f : Active) (noted after : List (Li
     blocked = λ P I a S T.
         subst (λ (x : List ℕ). Added (blocks P (worldOf P (k .roster) I a)) x (getD after 1 [])) (getD-set-other noted 0 1 parts [] (λ e. omega arith)) (done P I a S T .blocked);
     clashed = λ P I a S T.
-        subst (λ (x : List ℕ). Added (clashes P (worldOf P (k .roster) I a)) x (getD after 2 [])) (getD-set-other noted 0 2 parts [] (λ e. omega arith)) (done P I a S T .clashed);
+        subst (λ (x : List ℕ). Added (overlaps P (worldOf P (k .roster) I a)) x (getD after 2 [])) (getD-set-other noted 0 2 parts [] (λ e. omega arith)) (done P I a S T .clashed);
   }

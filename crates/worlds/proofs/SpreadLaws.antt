@@ -11,7 +11,7 @@ use Rattle.sets.proofs.Closing.{Closed, close-same, close-union}
 use Rattle.expressions.specs.paper.Rules.{ruleSets}
 use Rattle.expressions.specs.paper.Variables.{Influence}
 use Rattle.worlds.specs.paper.World.{spread}
-use Rattle.worlds.proofs.OverLaws.{union-has, has-union-of}
+use Rattle.sets.proofs.TurnLaws.{union-has, has-union-of}
 
 -- a set is the union of its persons
 pub members-union : (m : ℕ) → m < 2 ^ 64 → unionOf one (members m) ≡ m

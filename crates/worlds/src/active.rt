@@ -1,10 +1,10 @@
 // What a valuation says of the rules, as masks, from the values of nodes.
-use crate::over::low;
-use crate::over::others;
 use crate::tables::Active;
 use crate::values::any_holds;
-use expressions::counts::wide;
 use sets::bit;
+use sets::low;
+use sets::numbers::wide;
+use sets::others;
 ghost use mathlib.Core.Path.{_≡_};
 ghost use mathlib.Core.Bool.{_&&_, not};
 ghost use mathlib.Core.List.{[]};

@@ -1,8 +1,5 @@
 // The citations of persons' blocks, gathered at the lowest person of each block.
 use crate::over::give;
-use crate::over::low;
-use crate::over::others;
-use crate::over::whole;
 use crate::tables::ANCHORS;
 use crate::tables::ATTACHMENT_CITATIONS;
 use crate::tables::BAR_CITATIONS;
@@ -17,8 +14,11 @@ use crate::tables::STATUS_CITATIONS;
 use crate::tables::STATUSES;
 use crate::tables::Settled;
 use crate::tables::Tables;
+use sets::low;
 use sets::minus;
+use sets::others;
 use sets::subset;
+use sets::whole::whole_64_words;
 ghost use mathlib.Core.Path.{_≡_};
 ghost use mathlib.Core.Bool.{_&&_, cond};
 ghost use lib.Dec.{eqb};
@@ -32,7 +32,7 @@ ghost use Rattle.worlds.specs.code.Citing.{CitesIn, through, ownOf, Cite
 fn cite_at(blocks: &[u64; 64], persons: u64, what: u64, cited: &mut [u64; 64])
     ensures { λ r. ⌜ CitesIn (now (blocks .entry)) (λ b. only (meets persons b) what) (now (cited .entry)) (now (cited .exit)) ⌝ }
 {
-    whole(*cited);
+    whole_64_words(*cited);
     let mut m = persons;
     while m != 0 {
         let b = blocks[low(m)];
@@ -48,7 +48,7 @@ fn cite_at(blocks: &[u64; 64], persons: u64, what: u64, cited: &mut [u64; 64])
 fn cite_edges(blocks: &[u64; 64], t: &Tables, frozen: u64, cited: &mut [u64; 64])
     ensures { λ r. ⌜ CitesIn (now (blocks .entry)) (λ b. unionOf (λ e. only (meets (row (now (t .entry)) 0 e) b && inside (row (now (t .entry)) 0 e) b) (row (now (t .entry)) 16 e)) (members frozen)) (now (cited .entry)) (now (cited .exit)) ⌝ }
 {
-    whole(*cited);
+    whole_64_words(*cited);
     let mut m = frozen;
     while m != 0 {
         let e = low(m);
@@ -81,7 +81,7 @@ fn cite_one(blocks: &[u64; 64], p: usize, what: u64, cited: &mut [u64; 64])
     requires { ⌜ p < 64 ⌝ }
     ensures { λ r. ⌜ CitesIn (now (blocks .entry)) (λ b. only (has b p) what) (now (cited .entry)) (now (cited .exit)) ⌝ }
 {
-    whole(*cited);
+    whole_64_words(*cited);
     let b = blocks[p];
     if b != 0 {
         let k = low(b);
@@ -121,7 +121,7 @@ fn cite_cuts(
 fn cite_attachments(blocks: &[u64; 64], t: &Tables, attachments: u64, cited: &mut [u64; 64])
     ensures { λ r. ⌜ CitesIn (now (blocks .entry)) (λ b. unionOf (λ i. only (has b (lowest (row (now (t .entry)) 12 i)) && meets (row (now (t .entry)) 11 i) b) (row (now (t .entry)) 18 i)) (members attachments)) (now (cited .entry)) (now (cited .exit)) ⌝ }
 {
-    whole(*cited);
+    whole_64_words(*cited);
     let mut m = attachments;
     while m != 0 {
         let i = low(m);
@@ -169,7 +169,7 @@ fn hand_out(
 )
     ensures { λ r. ⌜ CitedFor (now (blocks .entry)) (now (cited .entry)) (now (own .entry)) persons (now (citations .entry)) (now (citations .exit)) ⌝ }
 {
-    whole(*citations);
+    whole_64_words(*citations);
     let mut m = persons;
     while m != 0 {
         let p = low(m);

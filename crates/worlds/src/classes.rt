@@ -1,11 +1,11 @@
 // Persons in classes: at each person of a table the set of all who are joined to that person.
 use crate::over::gather;
-use crate::over::low;
-use crate::over::others;
 use crate::over::put;
-use crate::over::whole;
 use sets::bit;
+use sets::low;
+use sets::others;
 use sets::subset;
+use sets::whole::whole_64_words;
 ghost use mathlib.Core.Path.{_≡_};
 ghost use Prim.Native.Nat.{ℕ, _<_};
 ghost use lib.ListN.{getD};
@@ -18,7 +18,7 @@ ghost use Rattle.worlds.specs.code.Classes.{Alone, Joins, joinable};
 pub fn alone(classes: &mut [u64; 64], persons: u64)
     ensures { λ r. ⌜ Alone persons (now (classes .entry)) (now (classes .exit)) ⌝ }
 {
-    whole(*classes);
+    whole_64_words(*classes);
     let mut m = persons;
     while m != 0 {
         let p = low(m);

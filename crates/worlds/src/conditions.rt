@@ -6,45 +6,35 @@ use crate::active::Conditions;
 use crate::active::DEFEATERS;
 use crate::active::EDGE;
 use crate::active::STATUS;
-use expressions::counts::upto;
 use records::plan::Attachments;
 use records::plan::Bars;
 use records::plan::Cuts;
 use records::plan::Edges;
 use records::plan::Plan;
 use records::plan::Statuses;
+use sets::numbers::upto;
+use sets::whole::whole_6_rows_of_bytes;
+use sets::whole::whole_64_lists;
 ghost use mathlib.Core.Path.{_≡_};
-ghost use mathlib.Core.List.{[]};
-ghost use Prim.Native.Nat.{ℕ, _<_};
-ghost use lib.ListN.{length, getD};
-ghost use Rattle.records.specs.code.Decoded.{planOf};
+ghost use Prim.Native.Nat.{_<_};
+ghost use Rattle.records.specs.code.Decoded.{planOf, cutsOf, attachmentsOf, barsOf, statusesOf};
 ghost use Rattle.worlds.specs.code.Laid.{Laid};
 ghost use Rattle.worlds.specs.code.Conditions.{Conditioned, EdgeConditions, ConditionsOf};
 ghost use Rattle.expressions.specs.paper.Rules.{cutCount, attachmentCount, barCount, statusCount, cut, attachment, bar, status};
-ghost use Rattle.expressions.specs.code.Coded.{cutsOf, attachmentsOf, barsOf, statusesOf};
-
-// A reference to the table does not tell the proof how long it is. The compiler drops the call with its copy.
-fn whole_conditions(conditions: Conditions)
-    ensures { λ r. ⌜ (length conditions ≡ 6) × ((k : ℕ) → k < 6 → length (getD conditions k []) ≡ 64) ⌝ }
-{}
-
-fn whole_lists(lists: [[u8; 16]; 64])
-    ensures { λ r. ⌜ length lists ≡ 64 ⌝ }
-{}
 
 // One entry of a row.
 fn lay_condition(conditions: &mut Conditions, k: usize, i: usize, node: u8)
     requires { ⌜ (k < 6) × (i < 64) ⌝ }
     ensures { λ r. ⌜ Laid k i node (now (conditions .entry)) (now (conditions .exit)) ⌝ }
 {
-    whole_conditions(*conditions);
+    whole_6_rows_of_bytes(*conditions);
     conditions[k][i] = node;
 }
 
 fn lay_edges(conditions: &mut Conditions, defeaters: &mut [[u8; 16]; 64], edges: Edges)
     ensures { λ r. ⌜ EdgeConditions edges (now (conditions .entry)) (now (conditions .exit)) (now (defeaters .exit)) ⌝ }
 {
-    whole_lists(*defeaters);
+    whole_64_lists(*defeaters);
     let n = upto(edges.count, 64);
     let mut i: usize = 0;
     while i < n {

@@ -1,30 +1,31 @@
 // Steps 3 to 5 by sets of cuts: which are kept, which overlap, which are blocked.
 use crate::over::gather;
-use crate::over::low;
 use crate::over::meeting;
-use crate::over::others;
-use crate::over::whole;
 use crate::tables::Active;
 use crate::tables::BLOCKINGS;
 use crate::tables::CLASHES;
 use crate::tables::CLASHING;
 use crate::tables::CROSSING;
-use crate::tables::DECIDED;
 use crate::tables::DROPPERS;
-use crate::tables::EARLIER;
+use crate::tables::LATER_CLASHING;
 use crate::tables::LOWER_TWINS;
 use crate::tables::MEMBERS;
 use crate::tables::Noted;
 use crate::tables::OPEN;
+use crate::tables::OPEN_EDGES;
 use crate::tables::SAID;
 use crate::tables::SPREAD;
 use crate::tables::TWINS;
 use crate::tables::Tables;
+use sets::low;
 use sets::minus;
+use sets::others;
+use sets::whole::whole_3_rows;
+use sets::whole::whole_64_words;
 ghost use mathlib.Core.Path.{_≡_};
 ghost use Prim.Native.Nat.{ℕ, _<_};
 ghost use mathlib.Core.List.{[]};
-ghost use lib.ListN.{length, getD};
+ghost use lib.ListN.{getD};
 ghost use mathlib.Core.Bool.{_&&_, not};
 ghost use Rattle.sets.specs.paper.Sets.{has, meet, union, minus as without, unionOf, meets, members};
 ghost use Rattle.worlds.specs.code.Tables.{row};
@@ -32,7 +33,7 @@ ghost use Rattle.worlds.specs.code.Cuts.{blockers, blockedTwins, Noted};
 ghost use Rattle.worlds.specs.code.Settled.{CutsSettled};
 
 // Step 3: the active cuts that no active cut drops; drops are decided together.
-pub fn kept(t: &Tables, active: u64) -> u64
+pub fn apply_cut_precedence(t: &Tables, active: u64) -> u64
     ensures { λ r. ⌜ ((c : ℕ) → has r c ≡ (has active c && not (meets (row (now (t .entry)) 4 c) active))) ⌝ }
 {
     minus(active, meeting(&t[DROPPERS], active, active))
@@ -51,7 +52,7 @@ pub fn blocking(t: &Tables, c: usize, frozen: u64, decisions: u64) -> u64
     ensures { λ r. ⌜ r ≡ blockers (now (t .entry)) frozen decisions c ⌝ }
 {
     let open = minus(t[OPEN][c], decisions);
-    let said = t[SAID][c] | gather(&t[DECIDED], open);
+    let said = t[SAID][c] | gather(&t[OPEN_EDGES], open);
     frozen & t[CROSSING][c] & said
 }
 
@@ -60,7 +61,7 @@ pub fn blocked(t: &Tables, standing: u64, frozen: u64, decisions: u64, noted: &m
     ensures twins { λ r. ⌜ r ≡ blockedTwins (now (t .entry)) frozen decisions (members standing) ⌝ }
     ensures noted { λ r. ⌜ Noted standing (blockers (now (t .entry)) frozen decisions) (now (noted .entry)) (now (noted .exit)) ⌝ }
 {
-    whole(*noted);
+    whole_64_words(*noted);
     let mut found: u64 = 0;
     let mut m = standing;
     while m != 0 {
@@ -86,19 +87,14 @@ pub fn lowest_twins(t: &Tables, cuts: u64) -> u64
 pub fn note_clashes(t: &Tables, cuts: u64, noted: &mut [u64; 64])
     ensures { λ r. ⌜ Noted cuts (λ c. meet (row (now (t .entry)) 6 c) cuts) (now (noted .entry)) (now (noted .exit)) ⌝ }
 {
-    whole(*noted);
+    whole_64_words(*noted);
     let mut m = cuts;
     while m != 0 {
         let c = low(m);
-        noted[c] = noted[c] | t[EARLIER][c] & cuts;
+        noted[c] = noted[c] | t[LATER_CLASHING][c] & cuts;
         m = others(m);
     }
 }
-
-// A reference to the notes does not tell the proof how long they are. The compiler drops the call with its copy.
-pub fn whole_notes(noted: Noted)
-    ensures { λ r. ⌜ length noted ≡ 3 ⌝ }
-{}
 
 pub struct CutsDone {
     pub overlap: u64,
@@ -110,8 +106,8 @@ pub fn settle_cuts(t: &Tables, active: Active, noted: &mut Noted) -> CutsDone
     ensures cuts { λ r. ⌜ CutsSettled (now (t .entry)) active r (getD (now (noted .entry)) 1 []) (getD (now (noted .exit)) 1 []) (getD (now (noted .entry)) 2 []) (getD (now (noted .exit)) 2 []) ⌝ }
     ensures parts { λ r. ⌜ getD (now (noted .exit)) 0 [] ≡ getD (now (noted .entry)) 0 [] ⌝ }
 {
-    whole_notes(*noted);
-    let left = kept(t, active.cuts);
+    whole_3_rows(*noted);
+    let left = apply_cut_precedence(t, active.cuts);
     let clash = overlapping(t, left);
     note_clashes(t, lowest_twins(t, clash), &mut noted[CLASHES]);
     let standing = minus(left, clash);

@@ -1,19 +1,19 @@
 // Step 2: Base components of more than two persons that are no cliques.
 use crate::over::gather;
 use crate::over::give;
-use crate::over::low;
-use crate::over::others;
-use crate::over::whole;
 use sets::bit;
+use sets::low;
 use sets::minus;
+use sets::others;
 use sets::subset;
+use sets::whole::whole_64_words;
 ghost use mathlib.Core.Path.{_≡_};
 ghost use Prim.Native.Nat.{ℕ, _<_};
 ghost use Rattle.sets.specs.paper.Sets.{has, one, union, only, unionOf, members};
 ghost use Rattle.worlds.specs.code.Over.{entry};
 ghost use Rattle.worlds.specs.code.Discretion.{near, cliqueBy, looseBy, Component, HeadsBy, Renewed, LooseParts};
 
-// At each person all to whom one of these edges leads, with the person.
+// At each person the ends of these edges that hold the person.
 fn neighbours(pairs: &[u64; 64], edges: u64) -> [u64; 64]
     ensures { λ r. ⌜ ((p : ℕ) → entry r p ≡ near (now (pairs .entry)) edges p) ⌝ }
 {
@@ -27,8 +27,8 @@ fn neighbours(pairs: &[u64; 64], edges: u64) -> [u64; 64]
     lead
 }
 
-// Whether everybody of a set is led to everybody of it.
-fn clique(lead: &[u64; 64], set: u64) -> bool
+// Whether everybody of a set is led to everybody else of it by an edge.
+fn is_edge_clique(lead: &[u64; 64], set: u64) -> bool
     ensures { λ r. ⌜ r ≡ cliqueBy (entry (now (lead .entry))) set ⌝ }
 {
     let mut m = set;
@@ -47,13 +47,13 @@ fn loose(lead: &[u64; 64], set: u64) -> bool
     ensures { λ r. ⌜ r ≡ looseBy (entry (now (lead .entry))) set ⌝ }
 {
     if u64::count_ones(set) > 2 {
-        !clique(lead, set)
+        !is_edge_clique(lead, set)
     } else {
         false
     }
 }
 
-// All to whom a person is led, also through others.
+// A person, and all to whom the person is led, also through others.
 fn component(lead: &[u64; 64], p: usize) -> u64
     requires { ⌜ p < 64 ⌝ }
     ensures { λ r. ⌜ Component (now (lead .entry)) p r ⌝ }
@@ -79,7 +79,7 @@ fn heads(lead: &[u64; 64], persons: u64, parts: &mut [u64; 64]) -> Parted
     ensures heads { λ r. ⌜ HeadsBy (now (lead .entry)) persons (r .heads) (now (parts .exit)) ⌝ }
     ensures fresh { λ r. ⌜ Renewed (r .heads) (r .fresh) (now (parts .entry)) (now (parts .exit)) ⌝ }
 {
-    whole(*parts);
+    whole_64_words(*parts);
     let mut found: u64 = 0;
     let mut fresh: u64 = 0;
     let mut m = persons;

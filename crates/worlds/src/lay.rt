@@ -4,18 +4,16 @@ use crate::tables::ATTACHMENT_CITATIONS;
 use crate::tables::BAR_CITATIONS;
 use crate::tables::BARS;
 use crate::tables::CUT_CITATIONS;
-use crate::tables::DECIDED;
 use crate::tables::EDGE_CITATIONS;
 use crate::tables::MEMBERS;
 use crate::tables::MOVERS;
 use crate::tables::OPEN;
+use crate::tables::OPEN_EDGES;
 use crate::tables::PAIRS;
 use crate::tables::SAID;
 use crate::tables::STATUS_CITATIONS;
 use crate::tables::STATUSES;
 use crate::tables::Tables;
-use expressions::counts::upto;
-use expressions::counts::wide;
 use expressions::decisions::Undecided;
 use expressions::rules::ends;
 use records::plan::Attachments;
@@ -25,28 +23,23 @@ use records::plan::Decisions;
 use records::plan::Edges;
 use records::plan::Statuses;
 use sets::bit;
+use sets::numbers::upto;
+use sets::numbers::wide;
+use sets::whole::whole_21_rows;
 ghost use mathlib.Core.Path.{_≡_};
-ghost use mathlib.Core.List.{[]};
 ghost use Prim.Native.Nat.{ℕ, _<_, _≤_};
-ghost use lib.ListN.{length, getD};
 ghost use Rattle.sets.specs.paper.Sets.{has, All};
-ghost use Rattle.records.specs.code.Decoded.{decisionsOf};
-ghost use Rattle.expressions.specs.code.Coded.{edgesOf, cutsOf, attachmentsOf, barsOf, statusesOf};
+ghost use Rattle.records.specs.code.Decoded.{decisionsOf, edgesOf, cutsOf, attachmentsOf, barsOf, statusesOf};
 ghost use Rattle.expressions.specs.paper.Influence.{hasVerdict};
 ghost use Rattle.expressions.specs.code.Undecided.{opensOf};
 ghost use Rattle.worlds.specs.code.Laid.{Laid, EdgesLaid, CutsLaid, AttachmentsLaid, BarsLaid, StatusesLaid, DecisionsLaid, EdgeFits, CutFits, AttachmentFits, BarFits, StatusFits, OpenFits};
-
-// A reference to the tables does not tell the proof how long they are. The compiler drops the call with its copy.
-pub fn whole_tables(t: Tables)
-    ensures { λ r. ⌜ (length t ≡ 21) × ((k : ℕ) → k < 21 → length (getD t k []) ≡ 64) ⌝ }
-{}
 
 // One entry of a row.
 pub fn lay(t: &mut Tables, k: usize, i: usize, value: u64)
     requires { ⌜ (k < 21) × (i < 64) ⌝ }
     ensures { λ r. ⌜ Laid k i value (now (t .entry)) (now (t .exit)) ⌝ }
 {
-    whole_tables(*t);
+    whole_21_rows(*t);
     t[k][i] = value;
 }
 
@@ -152,7 +145,7 @@ pub fn lay_decisions(t: &mut Tables, undecided: Undecided)
     while i < n {
         let c = wide(undecided.cuts[i]);
         let e = undecided.edges[i];
-        lay(t, DECIDED, i, bit(e));
+        lay(t, OPEN_EDGES, i, bit(e));
         let before = t[OPEN][c];
         lay(t, OPEN, c, before | bit(i as u8));
         i = i + 1;

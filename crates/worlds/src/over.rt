@@ -1,28 +1,14 @@
 // Loops over the numbers of a set, lowest first.
 use sets::bit;
+use sets::low;
+use sets::others;
+use sets::whole::whole_64_bytes;
+use sets::whole::whole_64_words;
 ghost use mathlib.Core.Path.{_≡_};
-ghost use mathlib.Core.Bool.{_&&_, cond};
-ghost use mathlib.Core.List.{_∷_};
-ghost use Prim.Native.Nat.{ℕ, _<_};
-ghost use lib.ListN.{getD, length};
-ghost use Rattle.sets.specs.paper.Sets.{has, union, meets, members, unionOf, lowest};
+ghost use mathlib.Core.Bool.{_&&_};
+ghost use Prim.Native.Nat.{ℕ};
+ghost use Rattle.sets.specs.paper.Sets.{has, union, meets, members, unionOf};
 ghost use Rattle.worlds.specs.code.Over.{entry, Marked, Given};
-
-// The lowest number of a set that is not empty.
-pub fn low(set: u64) -> usize
-    requires { ⌜ (set ≡ 0 → ⊥) ⌝ }
-    ensures { λ r. ⌜ (r ≡ lowest set) × (r < 64) ⌝ }
-{
-    u64::trailing_zeros(set) as usize
-}
-
-// The set without its lowest number.
-pub fn others(set: u64) -> u64
-    requires { ⌜ (set ≡ 0 → ⊥) ⌝ }
-    ensures { λ r. ⌜ (members set ≡ lowest set ∷ members r) × (r < set) ⌝ }
-{
-    set & (set - 1)
-}
 
 // The union of the entries of a set of numbers.
 pub fn gather(table: &[u64; 64], set: u64) -> u64
@@ -54,21 +40,11 @@ pub fn meeting(table: &[u64; 64], set: u64, other: u64) -> u64
     found
 }
 
-// A table has its 64 entries, which a reference to it does not tell the proof. The compiler drops the call with its copy.
-pub fn whole(table: [u64; 64])
-    ensures { λ r. ⌜ length table ≡ 64 ⌝ }
-{}
-
-// The same for bytes.
-pub fn whole_bytes(bytes: [u8; 64])
-    ensures { λ r. ⌜ length bytes ≡ 64 ⌝ }
-{}
-
 // The same byte at each number of a set.
 pub fn mark(bytes: &mut [u8; 64], set: u64, byte: u8)
     ensures { λ r. ⌜ Marked set byte (now (bytes .entry)) (now (bytes .exit)) ⌝ }
 {
-    whole_bytes(*bytes);
+    whole_64_bytes(*bytes);
     let mut m = set;
     while m != 0 {
         let i = low(m);
@@ -81,7 +57,7 @@ pub fn mark(bytes: &mut [u8; 64], set: u64, byte: u8)
 pub fn put(table: &mut [u64; 64], set: u64, value: u64)
     ensures { λ r. ⌜ Marked set value (now (table .entry)) (now (table .exit)) ⌝ }
 {
-    whole(*table);
+    whole_64_words(*table);
     let mut m = set;
     while m != 0 {
         let i = low(m);
@@ -94,7 +70,7 @@ pub fn put(table: &mut [u64; 64], set: u64, value: u64)
 pub fn give(table: &mut [u64; 64], set: u64, more: u64)
     ensures { λ r. ⌜ Given set more (now (table .entry)) (now (table .exit)) ⌝ }
 {
-    whole(*table);
+    whole_64_words(*table);
     let mut m = set;
     while m != 0 {
         let i = low(m);

@@ -1,33 +1,32 @@
 // How the cuts of a plan stand to each other and to the edges, once a case.
 use crate::lay::lay;
 use crate::over::gather;
-use crate::over::low;
 use crate::over::meeting;
-use crate::over::others;
-use crate::over::whole;
 use crate::tables::CLASHING;
 use crate::tables::CROSSING;
 use crate::tables::DROPPERS;
-use crate::tables::EARLIER;
+use crate::tables::LATER_CLASHING;
 use crate::tables::LOWER_TWINS;
 use crate::tables::MEMBERS;
 use crate::tables::PAIRS;
 use crate::tables::TWINS;
 use crate::tables::Tables;
-use expressions::counts::upto;
-use expressions::counts::wide;
 use records::plan::Cuts;
 use records::plan::Numbers;
 use sets::bit;
+use sets::low;
 use sets::minus;
+use sets::numbers::upto;
+use sets::numbers::wide;
+use sets::others;
 use sets::rising_less;
+use sets::whole::whole_64_words;
 ghost use mathlib.Core.Path.{_≡_};
 ghost use mathlib.Core.Bool.{_&&_};
 ghost use Prim.Native.Nat.{ℕ, _<_};
 ghost use lib.Dec.{eqb};
 ghost use Rattle.sets.specs.paper.Sets.{has, setOf, risingLess, All};
-ghost use Rattle.records.specs.code.Decoded.{numbersOf};
-ghost use Rattle.expressions.specs.code.Coded.{cutsOf};
+ghost use Rattle.records.specs.code.Decoded.{numbersOf, cutsOf};
 ghost use Rattle.worlds.specs.code.Over.{entry};
 ghost use Rattle.worlds.specs.code.Related.{chainBy, Preceding, Chained, CutRelated, CutsRelated, PrecedesFit};
 
@@ -83,7 +82,7 @@ pub fn direct_precedence(cuts: Cuts, direct: &mut [u64; 64])
     requires { ⌜ All PrecedesFit (cutsOf cuts) ⌝ }
     ensures { λ r. ⌜ Preceding cuts (now (direct .exit)) ⌝ }
 {
-    whole(*direct);
+    whole_64_words(*direct);
     let n = upto(cuts.count, 16);
     let mut i: usize = 0;
     while i < n {
@@ -111,7 +110,7 @@ fn chain(direct: &[u64; 64], steps: usize, from: u64) -> u64
 pub fn chains(direct: &[u64; 64], cuts: u64, steps: usize, preceded: &mut [u64; 64])
     ensures { λ r. ⌜ Chained (now (direct .entry)) cuts steps (now (preceded .exit)) ⌝ }
 {
-    whole(*preceded);
+    whole_64_words(*preceded);
     let mut m = cuts;
     while m != 0 {
         let c = low(m);
@@ -129,7 +128,7 @@ fn relate_cut(t: &mut Tables, preceded: &[u64; 64], c: usize, cuts: u64, combina
     let own = t[MEMBERS][c];
     let sharing = meeting(&t[MEMBERS], cuts, own);
     let twins = equal_cuts(&t[MEMBERS], cuts, own);
-    let earlier = later_cuts(&t[MEMBERS], sharing, own);
+    let later = later_cuts(&t[MEMBERS], sharing, own);
     let inward = meeting(&t[PAIRS], combination, own);
     let crossing = meeting(&t[PAIRS], inward, !own);
     let place = bit(c as u8);
@@ -139,7 +138,7 @@ fn relate_cut(t: &mut Tables, preceded: &[u64; 64], c: usize, cuts: u64, combina
     lay(t, LOWER_TWINS, c, twins & (place - 1));
     lay(t, DROPPERS, c, droppers);
     lay(t, CLASHING, c, minus(sharing, twins));
-    lay(t, EARLIER, c, earlier);
+    lay(t, LATER_CLASHING, c, later);
     lay(t, CROSSING, c, crossing);
 }
 

@@ -1,6 +1,5 @@
 // What a world settles by sets of rules and persons, before anybody's block.
 use crate::cuts::settle_cuts;
-use crate::cuts::whole_notes;
 use crate::discretion::loose_parts;
 use crate::over::gather;
 use crate::over::meeting;
@@ -17,6 +16,7 @@ use crate::tables::STATUSES;
 use crate::tables::Settled;
 use crate::tables::Tables;
 use sets::minus;
+use sets::whole::whole_3_rows;
 ghost use mathlib.Core.List.{[]};
 ghost use lib.ListN.{getD};
 ghost use Rattle.worlds.specs.code.Settled.{Settles};
@@ -26,7 +26,7 @@ ghost use Rattle.worlds.specs.code.Settled.{Settles};
 pub fn settle(t: &Tables, common: Common, active: Active, noted: &mut Noted) -> Settled
     ensures { λ r. ⌜ Settles (now (t .entry)) common active r (getD (now (noted .entry)) 0 []) (getD (now (noted .exit)) 0 []) (getD (now (noted .entry)) 1 []) (getD (now (noted .exit)) 1 []) (getD (now (noted .entry)) 2 []) (getD (now (noted .exit)) 2 []) ⌝ }
 {
-    whole_notes(*noted);
+    whole_3_rows(*noted);
     let parted = loose_parts(&t[PAIRS], active.frozen & common.base, &mut noted[PARTS]);
     let loose = gather(&noted[PARTS], parted.heads);
     let discretion = gather(&t[SPREAD], loose);

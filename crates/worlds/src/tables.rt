@@ -5,8 +5,9 @@ pub type Tables = [[u64; 64]; 21];
 
 // of edges: the two persons
 pub const PAIRS: usize = 0;
-// of cuts: the members; the cuts with equal members, and those of lower number; the cuts that drop it; those that it overlaps; those that it
-// overlaps and comes before; the Combination edges that cross it; the edges on which it says blocked; its unresolved decisions
+// of cuts: the members; the cuts with equal members, and those of them with lower numbers; the cuts that drop it where they are active; those
+// that it overlaps, and those of them whose members come later; the Combination edges that cross it; the edges on which it says blocked; its
+// unresolved decisions
 pub const MEMBERS: usize = 1;
 
 pub const TWINS: usize = 2;
@@ -17,15 +18,15 @@ pub const DROPPERS: usize = 4;
 
 pub const CLASHING: usize = 5;
 
-pub const EARLIER: usize = 6;
+pub const LATER_CLASHING: usize = 6;
 
 pub const CROSSING: usize = 7;
 
 pub const SAID: usize = 8;
 
 pub const OPEN: usize = 9;
-// of unresolved decisions: the edge
-pub const DECIDED: usize = 10;
+// of unresolved decisions: the edge that each leaves open
+pub const OPEN_EDGES: usize = 10;
 // of attachments: the members, the anchor
 pub const MOVERS: usize = 11;
 
@@ -47,8 +48,8 @@ pub const BAR_CITATIONS: usize = 19;
 
 pub const STATUS_CITATIONS: usize = 20;
 
-// What worlds note beside: the components at discretion of the last one, at their lowest persons; at each cut the edges that ever blocked it, and
-// the cuts that it ever clashed with.
+// What worlds note beside: at each person the component at discretion found last that has the person as its lowest; at each cut the edges that
+// ever blocked it, and the later cuts that it ever overlapped.
 pub type Noted = [[u64; 64]; 3];
 
 pub const PARTS: usize = 0;
@@ -57,7 +58,7 @@ pub const BLOCKINGS: usize = 1;
 
 pub const CLASHES: usize = 2;
 
-// `base`: the Base edges that can mark discretion, none where there is a chain citation; the others: all rules of a kind.
+// `base`: the Base edges that can mark discretion, none where there is a chain citation; attachments, bars, statuses: all of them.
 pub struct Common {
     pub roster: u64,
     pub base: u64,
@@ -76,7 +77,7 @@ pub struct Active {
     pub decisions: u64,
 }
 
-// What a world settles by sets: the lowest persons of the components at discretion, and those of them who had another component noted before;
+// What a world settles by sets: the lowest persons of the components at discretion, and those of them at whom this component was not noted yet;
 // the marks; the applied cuts; the attachments that were not skipped, and whom they attached; the bars that hold, and whom they bar; whom a
 // status excludes.
 pub struct Settled {

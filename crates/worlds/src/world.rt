@@ -2,11 +2,8 @@
 use crate::classes::alone;
 use crate::classes::join_pairs;
 use crate::over::gather;
-use crate::over::low;
 use crate::over::mark;
-use crate::over::others;
 use crate::over::put;
-use crate::over::whole;
 use crate::tables::ANCHORS;
 use crate::tables::Active;
 use crate::tables::Common;
@@ -16,8 +13,11 @@ use crate::tables::PAIRS;
 use crate::tables::Settled;
 use crate::tables::Tables;
 use sets::contains;
+use sets::low;
 use sets::minus;
+use sets::others;
 use sets::subset;
+use sets::whole::whole_64_words;
 ghost use mathlib.Core.Path.{_≡_};
 ghost use Prim.Native.Nat.{ℕ, _<_};
 ghost use Rattle.worlds.specs.code.Over.{entry, Marked};
@@ -41,7 +41,7 @@ pub fn blank() -> World
     }
 }
 
-// The members of applied cuts that are placed become blocks; whoever is placed in none of them is the rest.
+// The members of applied cuts that are placed become blocks; the rest are the placed who are in none of them.
 fn cut_blocks(blocks: &mut [u64; 64], members: &[u64; 64], applied: u64, placed: u64) -> u64
     ensures { λ r. ⌜ CutInto (now (members .entry)) applied placed (now (blocks .entry)) (now (blocks .exit)) r ⌝ }
 {
@@ -60,7 +60,7 @@ fn cut_blocks(blocks: &mut [u64; 64], members: &[u64; 64], applied: u64, placed:
 fn regroup(blocks: &mut [u64; 64], persons: u64, target: u64, movers: u64)
     ensures { λ r. ⌜ Regrouped persons target movers (now (blocks .entry)) (now (blocks .exit)) ⌝ }
 {
-    whole(*blocks);
+    whole_64_words(*blocks);
     let mut m = persons;
     while m != 0 {
         let p = low(m);
@@ -84,7 +84,7 @@ fn move_to(blocks: &mut [u64; 64], block: u64, movers: u64)
 }
 
 impl World {
-    // Steps 1 and 2: whom discretion marks.
+    // Of step 2 the marks: these persons get kind 4. Which edges freeze, and whom discretion marks by them, is found before.
     pub fn freeze(mut self, discretion: u64) -> World
         ensures { λ r. ⌜ Frozen discretion self r ⌝ }
     {
@@ -92,7 +92,8 @@ impl World {
         self
     }
 
-    // Steps 3 to 6: whom overlap marks; applied cuts are blocks, the rest split into components by frozen edges.
+    // Of step 4 the marks, over those of discretion, and step 6: applied cuts are blocks, the rest split into components by frozen edges, and the
+    // placed have role 1. Which cuts apply, and whom overlap marks, is found before, by steps 3 to 5.
     pub fn cut(mut self, t: &Tables, frozen: u64, overlap: u64, applied: u64, placed: u64) -> World
         ensures { λ r. ⌜ Cut (now (t .entry)) frozen overlap applied placed self r ⌝ }
     {
@@ -104,7 +105,7 @@ impl World {
         self
     }
 
-    // Step 7: attachments in order; members that are placed move to the anchor's block.
+    // Step 7 for the attachments that are not skipped, which is found before: in order, their members that are placed move to the anchor's block.
     pub fn attach(mut self, t: &Tables, moved: u64, placed: u64) -> World
         ensures { λ r. ⌜ Attached (now (t .entry)) moved placed self r ⌝ }
     {
@@ -122,7 +123,7 @@ impl World {
         self
     }
 
-    // Step 8: whom a bar bars.
+    // Of step 8 the bars: these persons get role 3. Which bars hold is found before.
     pub fn bar(mut self, barred: u64) -> World
         ensures { λ r. ⌜ (r .blocks ≡ self .blocks) × (r .kinds ≡ self .kinds) × Marked barred 3 (self .roles) (r .roles) ⌝ }
     {
@@ -130,7 +131,7 @@ impl World {
         self
     }
 
-    // Then whom a status excludes.
+    // Of step 8 the statuses, after the bars: these persons get role 2. Which statuses are active is found before.
     pub fn status(mut self, excluded: u64) -> World
         ensures { λ r. ⌜ (r .blocks ≡ self .blocks) × (r .kinds ≡ self .kinds) × Marked excluded 2 (self .roles) (r .roles) ⌝ }
     {
@@ -139,8 +140,8 @@ impl World {
     }
 }
 
-// One world, from what it settles.
-pub fn evaluate(t: &Tables, common: Common, active: Active, settled: Settled) -> World
+// One world, from what `settle` found of it; placed are the persons of the roster without a mark.
+pub fn evaluate_world(t: &Tables, common: Common, active: Active, settled: Settled) -> World
     ensures { λ r. ⌜ SeenBy (now (t .entry)) common active settled r ⌝ }
 {
     let placed = minus(common.roster, settled.discretion | settled.overlap);

@@ -1,6 +1,8 @@
 //! Safe wrappers of the operations that crates/exports gives to C.
 
 pub mod alike;
+pub mod clock;
+pub mod settings;
 
 use judge::sides::Side;
 use model::Outcome;

@@ -1,12 +1,12 @@
 -- Evidence as the code may mark it: each number has a place in a mask, each fact one in a table.
 use mathlib.Core.Path.{_≡_}
 use mathlib.Core.List.{List}
-use Prim.Native.Nat.{ℕ, _<_}
+use Prim.Native.Nat.{ℕ}
 use lib.ListN.{getD}
 use Rattle.sets.specs.paper.Sets.{one, union, unionOf, All}
 use Rattle.records.specs.paper.Plan.{Plan}
 use Rattle.records.specs.paper.Case.{Case, Boolean, Relation, Observation}
-use Rattle.records.specs.promises.Sound.{SoundCase}
+use Rattle.records.specs.promises.Sound.{Evidence, SoundCase}
 use Rattle.expressions.specs.paper.Bindings.{evidenceOf}
 
 abbrev pub evidenceMark : Observation → ℕ
@@ -17,10 +17,10 @@ abbrev pub booleanEvidence : Boolean → ℕ
 booleanEvidence b = union (unionOf evidenceMark (b .observations)) (unionOf one (b .unknown))
 
 abbrev pub Evident : Observation → Type 0
-Evident o = o .evidence < 64
+Evident o = Evidence (o .evidence)
 
 abbrev pub EvidentBoolean : Boolean → Type 0
-EvidentBoolean b = All (λ e. e < 64) (b .unknown) × All Evident (b .observations)
+EvidentBoolean b = All Evidence (b .unknown) × All Evident (b .observations)
 
 abbrev pub EvidentRelation : Relation → Type 0
 EvidentRelation r = Evident (r .observation)

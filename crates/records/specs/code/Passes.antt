@@ -1,6 +1,6 @@
 -- Reading a file kind by kind: what a pass over the records of one kind stands for. Contracts of src/plan/reading/ and src/case/reading/ cite it.
 use mathlib.Core.Path.{_≡_}
-use mathlib.Core.Bool.{Bool, false, _||_, cond}
+use mathlib.Core.Bool.{Bool, true, false, _||_, cond}
 use mathlib.Core.List.{List, []}
 use Prim.Native.Nat.{ℕ, suc, _-_}
 use lib.ListN.{length}
@@ -55,5 +55,9 @@ abbrev pub endNumber : List ℕ → Passing → ℕ
 endNumber s p = cond (eqb (p .number) 0) (cond (ltb (p .at) (length s)) 1 (cond (eqb (p .«record») 0) 3 0)) (p .number)
 
 -- "2 past a limit", when n of the kind came before, or past the plan's other limit; 3 if the record does not fit; 5 if it is not sound
-abbrev pub judgement : ℕ → ℕ → Bool → Bool → Bool → ℕ
-judgement n limit over fits sound = cond (leb limit n || over) 2 (cond fits (cond sound 0 5) 3)
+abbrev pub fullJudgement : ℕ → ℕ → Bool → Bool → Bool → ℕ
+fullJudgement n limit over fits sound = cond (leb limit n || over) 2 (cond fits (cond sound 0 5) 3)
+
+-- of a kind that has no other limit, and no other rule that could be broken
+abbrev pub judgement : ℕ → ℕ → Bool → ℕ
+judgement n limit fits = fullJudgement n limit false fits true

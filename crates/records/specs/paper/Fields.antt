@@ -16,6 +16,10 @@ pub record Range : Type 0 where
 abbrev pub upTo : ℕ → Range
 upTo n = record { low = 0; top = n }
 
+-- the first number above a range
+abbrev pub above : Range → ℕ
+above r = suc (r .top)
+
 -- "Citations and evidence are 0–63, actors 1–255, other free numbers 0–255"; persons are 0–63
 abbrev pub person : Range
 person = upTo 63

@@ -224,6 +224,10 @@ getFact P f = getD (P .facts) f (record { family = []; tuple = [] })
 abbrev pub booleanFact : Plan → ℕ → Bool
 booleanFact P f = ltb f (length (P .facts)) && isBoolean (getFact P f)
 
+-- one end of the edge in the cut, the other outside
+abbrev pub oneEnd : Cut → Edge → Bool
+oneEnd c e = not (Bool·beq (has (c .members) (e .left)) (has (c .members) (e .right)))
+
 -- "4 a number naming no record, or no lower node, or no boolean fact in an election"
 module _ (P : Plan) where
   abbrev pub nodeNumber : ℕ → Bool
@@ -256,9 +260,9 @@ module _ (P : Plan) where
       eachFrom (λ k n. fault 4 (nodeSound k n)) 0 (P .nodes) ++ (faults 4 edgeSound (P .edges) ++ (faults 4 cutSound (P .cuts)
       ++ (faults 4 attachmentSound (P .attachments) ++ (faults 4 (λ b. nodeNumber (b .condition)) (P .bars) ++ faults 4 (λ t. nodeNumber (t .condition)) (P .statuses)))))
 
-  -- "6 a cut and a Combination edge crossing without a decision": one end in the cut
+  -- "6 a cut and a Combination edge crossing without a decision"
   unfoldable pub crosses : Cut → Edge → Bool
-  crosses c e = e .combination && not (Bool·beq (has (c .members) (e .left)) (has (c .members) (e .right)))
+  crosses c e = e .combination && oneEnd c e
 
   unfoldable pub crossingsDecided : Cut → Bool
   crossingsDecided c = allOf (λ ok. ok) (eachFrom (λ e edge. not (crosses c edge) || decidedIn (c .decisions) e) 0 (P .edges))

@@ -7,12 +7,23 @@ use mathlib.Core.List.{List, [], _∷_}
 use Prim.Native.Nat.{ℕ, suc, _^_, _≤_, _<_}
 use lib.ListN.{length}
 use Rattle.sets.specs.paper.Sets.{All}
+use Rattle.records.specs.paper.Fields.{person, citation, evidence, above}
 use Rattle.records.specs.paper.Plan.{Plan, Heading, Fact, Node, literal, fact, conj, disj, neg, Edge, Election, Decision, Cut, Attachment, Bar, Status, isBoolean, factsRise, decidedOnce, unresolved, booleanFact, crossingsDecided, electionFaults, electionRecords}
 use Rattle.records.specs.paper.Case.{Case, CaseHeading, Family, Boolean, Relation, Observation, relationSound}
 
 -- so many at most, each below a bound
 abbrev pub Numbers : ℕ → ℕ → List ℕ → Type 0
 Numbers most bound ns = (length ns ≤ most) × All (λ n. n < bound) ns
+
+-- "Citations and evidence are 0–63"; persons are 0–63
+abbrev pub Person : ℕ → Type 0
+Person n = n < above person
+
+abbrev pub Citation : ℕ → Type 0
+Citation n = n < above citation
+
+abbrev pub Evidence : ℕ → Type 0
+Evidence n = n < above evidence
 
 -- "actors 1–255"
 abbrev pub Actor : ℕ → Type 0
@@ -22,12 +33,12 @@ Actor n = (1 ≤ n) × (n < 256)
 
 pub record SoundHeading (h : Heading) : Type 0 where
   pub relation : h .relation < 256
-  pub chain : Numbers 1 64 (h .chain)
+  pub chain : Numbers 1 (above citation) (h .chain)
 
 -- a boolean fact has neither family nor tuple
 pub record SoundFact (f : Fact) : Type 0 where
   pub family : Numbers 1 256 (f .family)
-  pub tuple : Numbers 4 64 (f .tuple)
+  pub tuple : Numbers 4 (above person) (f .tuple)
   pub both : isBoolean f ≡ true → f .tuple ≡ []
 
 module _ (P : Plan) where
@@ -47,13 +58,13 @@ module _ (P : Plan) where
     pub fact : booleanFact P (e .fact) ≡ true
     pub actor : Actor (e .actor)
     pub policy : e .policy < 3
-    pub citation : e .citation < 64
+    pub citation : Citation (e .citation)
 
   pub record SoundEdge (e : Edge) : Type 0 where
-    pub left : e .left < 64
-    pub right : e .right < 64
+    pub left : Person (e .left)
+    pub right : Person (e .right)
     pub condition : e .condition < length (P .nodes)
-    pub citation : e .citation < 64
+    pub citation : Citation (e .citation)
     pub defeaters : Numbers 16 (length (P .nodes)) (e .defeaters)
 
   pub record SoundDecision (d : Decision) : Type 0 where
@@ -63,7 +74,7 @@ module _ (P : Plan) where
   pub record SoundCut (c : Cut) : Type 0 where
     pub members : c .members < 2 ^ 64
     pub condition : c .condition < length (P .nodes)
-    pub citation : c .citation < 64
+    pub citation : Citation (c .citation)
     pub election : All SoundElection (c .election)
     pub one : length (c .election) ≤ 1
     pub few : length (c .decisions) ≤ 64
@@ -75,9 +86,9 @@ module _ (P : Plan) where
 
   pub record SoundAttachment (a : Attachment) : Type 0 where
     pub members : a .members < 2 ^ 64
-    pub anchor : a .anchor < 64
+    pub anchor : Person (a .anchor)
     pub condition : a .condition < length (P .nodes)
-    pub citation : a .citation < 64
+    pub citation : Citation (a .citation)
     pub actor : Actor (a .actor)
     pub election : All SoundElection (a .election)
     pub one : length (a .election) ≤ 1
@@ -85,12 +96,12 @@ module _ (P : Plan) where
   pub record SoundBar (b : Bar) : Type 0 where
     pub members : b .members < 2 ^ 64
     pub condition : b .condition < length (P .nodes)
-    pub citation : b .citation < 64
+    pub citation : Citation (b .citation)
 
   pub record SoundStatus (t : Status) : Type 0 where
-    pub person : t .person < 64
+    pub person : Person (t .person)
     pub condition : t .condition < length (P .nodes)
-    pub citation : t .citation < 64
+    pub citation : Citation (t .citation)
 
 -- WHAT AN ACCEPTED PLAN IS
 pub record Sound (P : Plan) : Type 0 where
@@ -122,21 +133,21 @@ pub record SoundCaseHeading (h : CaseHeading) : Type 0 where
   pub scope : h .scope < 256
   pub segment : h .segment < 256
   pub roster : h .roster < 2 ^ 64
-  pub complete : Numbers 1 64 (h .complete)
+  pub complete : Numbers 1 (above evidence) (h .complete)
   pub mostWorlds : h .mostWorlds ≤ 4096
 
 pub record SoundFamily (m : Family) : Type 0 where
   pub number : m .number < 256
   pub scope : m .scope < 256
-  pub complete : Numbers 1 64 (m .complete)
+  pub complete : Numbers 1 (above evidence) (m .complete)
 
 pub record SoundObservation (o : Observation) : Type 0 where
   pub value : o .value < 2
-  pub evidence : o .evidence < 64
+  pub evidence : Evidence (o .evidence)
 
 pub record SoundBoolean (P : Plan) (b : Boolean) : Type 0 where
   pub fact : booleanFact P (b .fact) ≡ true
-  pub unknown : Numbers 1 64 (b .unknown)
+  pub unknown : Numbers 1 (above evidence) (b .unknown)
   pub few : length (b .observations) ≤ 16
   pub observations : All SoundObservation (b .observations)
 

@@ -10,10 +10,10 @@ use crate::plan::Facts;
 use crate::plan::Plan;
 use crate::plan::checks::naming::boolean_facts;
 use crate::plan::counts::count_records;
-use crate::plan::counts::least;
-use crate::plan::counts::wide;
 use sets::bit;
 use sets::contains;
+use sets::numbers::upto;
+use sets::numbers::wide;
 use sets::union;
 ghost use mathlib.Core.Path.{_≡_};
 ghost use Prim.Native.Nat.{_≤_};
@@ -37,18 +37,18 @@ pub fn count_case(case: Case) -> CaseCounts
     ensures { λ r. ⌜ CaseCountsOf (caseOf case) r × CaseCountLimits r ⌝ }
 {
     CaseCounts {
-        headings: least(case.headings, 1),
-        families: least(case.families.count, 16),
-        booleans: least(case.booleans.count, 64),
-        relations: least(case.relations.count, 256),
-        constraints: least(case.constraints.count, 16),
+        headings: upto(case.headings, 1),
+        families: upto(case.families.count, 16),
+        booleans: upto(case.booleans.count, 64),
+        relations: upto(case.relations.count, 256),
+        constraints: upto(case.constraints.count, 16),
     }
 }
 
 pub fn has_family(families: Families, number: u8) -> bool
     ensures { λ r. ⌜ r ≡ anyOf (sameFamily number) (familiesOf families) ⌝ }
 {
-    let count = least(families.count, 16);
+    let count = upto(families.count, 16);
     let mut i: usize = 0;
     while i < count {
         if families.items[i].number == number {
@@ -63,7 +63,7 @@ pub fn has_family(families: Families, number: u8) -> bool
 pub fn relation_facts(facts: Facts, families: Families) -> u64
     ensures { λ r. ⌜ RelationFacts facts families r ⌝ }
 {
-    let count = least(facts.count, 64);
+    let count = upto(facts.count, 64);
     let mut m: u64 = 0;
     let mut k: usize = 0;
     while k < count {
@@ -80,7 +80,7 @@ fn boolean_faults(set: u64, booleans: Booleans, first: usize) -> Checked
     requires { ⌜ first ≤ 1000 ⌝ }
     ensures { λ r. ⌜ BooleansNamed set booleans first r ⌝ }
 {
-    let count = least(booleans.count, 64);
+    let count = upto(booleans.count, 64);
     let mut k: usize = 0;
     while k < count {
         if !contains(set, booleans.items[k].fact) {
@@ -98,7 +98,7 @@ fn relation_faults(set: u64, relations: Relations, first: usize) -> Checked
     requires { ⌜ first ≤ 1000 ⌝ }
     ensures { λ r. ⌜ RelationsNamed set relations first r ⌝ }
 {
-    let count = least(relations.count, 256);
+    let count = upto(relations.count, 256);
     let mut k: usize = 0;
     while k < count {
         if !contains(set, relations.items[k].fact) {
@@ -116,7 +116,7 @@ fn constraint_faults(nodes: usize, constraints: Constraints, first: usize) -> Ch
     requires { ⌜ first ≤ 1000 ⌝ }
     ensures { λ r. ⌜ ConstraintsNamed nodes constraints first r ⌝ }
 {
-    let count = least(constraints.count, 16);
+    let count = upto(constraints.count, 16);
     let mut k: usize = 0;
     while k < count {
         if wide(constraints.items[k]) >= nodes {

@@ -1,8 +1,8 @@
 // The entries of a list that was read, copied out of the bytes.
 use crate::case::Observations;
-use crate::fields::to_index;
 use crate::plan::Decisions;
 use crate::plan::Numbers;
+use sets::numbers::wide;
 ghost use mathlib.Core.Path.{_≡_};
 ghost use Prim.Native.Nat.{_+_, _*_, _≤_};
 ghost use lib.ListN.{length, take};
@@ -15,7 +15,7 @@ pub fn numbers_from(s: &[u8], first: usize, count: u8) -> Numbers
     requires { ⌜ (count ≤ 16) × (first + count ≤ length (now s)) ⌝ }
     ensures { λ r. ⌜ numbersOf r ≡ bytesFrom (now (s .entry)) first count ⌝ }
 {
-    let n = to_index(count);
+    let n = wide(count);
     let mut items = [0u8; 16];
     let mut i: usize = 0;
     while i < n {
@@ -32,7 +32,7 @@ pub fn tuple_from(s: &[u8], first: usize, count: u8) -> [u8; 4]
     requires { ⌜ (count ≤ 4) × (first + count ≤ length (now s)) ⌝ }
     ensures { λ r. ⌜ take count r ≡ bytesFrom (now (s .entry)) first count ⌝ }
 {
-    let n = to_index(count);
+    let n = wide(count);
     let mut items = [0u8; 4];
     let mut i: usize = 0;
     while i < n {
@@ -46,7 +46,7 @@ pub fn decisions_from(s: &[u8], first: usize, count: u8) -> Decisions
     requires { ⌜ (count ≤ 64) × (first + count * 2 ≤ length (now s)) ⌝ }
     ensures { λ r. ⌜ (decisionsOf r ≡ paper.decisionsFrom (bytesFrom (now (s .entry)) first (count * 2))) × (r .count ≡ count) ⌝ }
 {
-    let n = to_index(count);
+    let n = wide(count);
     let mut edges = [0u8; 64];
     let mut verdicts = [0u8; 64];
     let mut i: usize = 0;
@@ -66,7 +66,7 @@ pub fn observations_from(s: &[u8], first: usize, count: u8) -> Observations
     requires { ⌜ (count ≤ 16) × (first + count * 2 ≤ length (now s)) ⌝ }
     ensures { λ r. ⌜ observationsOf r ≡ case.observationsFrom (bytesFrom (now (s .entry)) first (count * 2)) ⌝ }
 {
-    let n = to_index(count);
+    let n = wide(count);
     let mut values = [0u8; 16];
     let mut evidence = [0u8; 16];
     let mut i: usize = 0;

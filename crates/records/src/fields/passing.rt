@@ -22,14 +22,15 @@ pub fn at_start() -> Passing
     }
 }
 
-fn refusal(number: u8, k: usize) -> Passing
-    ensures { λ r. ⌜ (r .number ≡ number) × (r .record ≡ k) ⌝ }
+// Refused with this number, at the record that is being read.
+pub fn refused(here: Passing, number: u8) -> Passing
+    ensures { λ r. ⌜ r ≡ record { number = number; «record» = here .record; at = here .at; headed = here .headed } ⌝ }
 {
     Passing {
         number: number,
-        record: k,
-        at: 0,
-        headed: false,
+        record: here.record,
+        at: here.at,
+        headed: here.headed,
     }
 }
 
@@ -41,10 +42,10 @@ pub fn ended(s: &[u8], last: Passing) -> Passing
         return last;
     }
     if last.at < s.len() {
-        return refusal(1, last.record);
+        return refused(last, 1);
     }
     if last.record == 0 {
-        return refusal(3, 0);
+        return refused(last, 3);
     }
     last
 }

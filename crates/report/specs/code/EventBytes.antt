@@ -7,6 +7,7 @@ use lib.ListN.{length, take, drop}
 use Rattle.sets.specs.paper.Sets.{has, size, members}
 use mathlib.Core.List.{map}
 use Rattle.worlds.specs.paper.Events.{event}
+use Rattle.report.specs.paper.EventList.{eventLength}
 use Rattle.report.specs.declared.event.Event.{Event}
 
 -- the numbers of a set are below n
@@ -15,13 +16,13 @@ Below set n = (i : ℕ) → has set i ≡ true → i < n
 
 -- events written from a place on, and the place behind them; all else as it was
 pub record Writes (at : ℕ) (es : List (List ℕ)) (before after : List ℕ) (next : ℕ) : Type 0 where
-  pub bytes : after ≡ take at before ++ (flatMap (λ e. e) es ++ drop (at + 12 * length es) before)
-  pub place : next ≡ at + 12 * length es
+  pub bytes : after ≡ take at before ++ (flatMap (λ e. e) es ++ drop (at + eventLength * length es) before)
+  pub place : next ≡ at + eventLength * length es
 
 -- the first n events of a buffer
 unfoldable pub chunks : ℕ → List ℕ → List (List ℕ)
 chunks zero s = []
-chunks (suc n) s = take 12 s ∷ chunks n (drop 12 s)
+chunks (suc n) s = take eventLength s ∷ chunks n (drop eventLength s)
 
 -- how many numbers the first n sets have
 unfoldable pub sizes : ℕ → (ℕ → ℕ) → ℕ

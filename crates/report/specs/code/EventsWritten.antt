@@ -13,6 +13,7 @@ use Rattle.records.specs.declared.case.Case.{Case}
 use Rattle.expressions.specs.code.Evident.{ReadCase}
 use Rattle.expressions.specs.paper.Rules.{edgeCount, cutCount, attachmentCount, barCount, statusCount, factCount}
 use Rattle.worlds.specs.code.Tables.{row}
+use Rattle.report.specs.paper.EventList.{eventLength}
 use Rattle.report.specs.code.Happened.{happened}
 use Rattle.report.specs.code.EventBytes.{Below, sizes}
 
@@ -44,13 +45,13 @@ pub record RuleEvents (plan : Plan) (c : Case) (sums noted : List (List ℕ)) (d
   pub blocked : (i : ℕ) → Below (row noted 1 i) (edgeCount (planOf plan))
   pub clashed : (i : ℕ) → Below (row noted 2 i) (cutCount (planOf plan))
   pub facts : Below defaults (factCount (planOf plan))
-  pub fit : 12 * eventCount sums noted defaults (cutCount (planOf plan)) ≤ room
+  pub fit : eventLength * eventCount sums noted defaults (cutCount (planOf plan)) ≤ room
 
 pub record EventsWritten (P : paper.Plan) (C : case.Case) (sums noted : List (List ℕ)) (defaults : ℕ) (before after : List ℕ) : Type 0 where
-  pub bytes : after ≡ flatMap (λ e. e) (byRules P C sums noted defaults) ++ drop (12 * length (byRules P C sums noted defaults)) before
+  pub bytes : after ≡ flatMap (λ e. e) (byRules P C sums noted defaults) ++ drop (eventLength * length (byRules P C sums noted defaults)) before
   pub count : length (byRules P C sums noted defaults) ≡ eventCount sums noted defaults (cutCount P)
 
 -- with the events of kind 9 that stood at the start of the buffer behind them, and what lay behind all
 pub record AllWritten (P : paper.Plan) (C : case.Case) (sums noted : List (List ℕ)) (defaults count listed : ℕ) (before after : List ℕ) : Type 0 where
   pub bytes : count ≡ eventCount sums noted defaults (cutCount P)
-      → after ≡ flatMap (λ e. e) (byRules P C sums noted defaults) ++ (take (12 * listed) before ++ drop (12 * (count + listed)) before)
+      → after ≡ flatMap (λ e. e) (byRules P C sums noted defaults) ++ (take (eventLength * listed) before ++ drop (eventLength * (count + listed)) before)

@@ -16,6 +16,8 @@ use Rattle.expressions.specs.code.Influences.{setsOf}
 use Rattle.worlds.specs.paper.World.{World}
 use Rattle.worlds.specs.paper.View.{view}
 use Rattle.worlds.specs.code.Tables.{row}
+use Rattle.report.specs.paper.EventList.{eventLength}
+use Rattle.report.specs.paper.Line.{lineLength}
 use Rattle.report.specs.paper.Operations.{Outcome, influences, answerReady, showFrom}
 use Rattle.report.specs.code.EventBytes.{Below}
 use Rattle.report.specs.code.Kept.{Kept}
@@ -28,8 +30,8 @@ use Rattle.report.specs.declared.walk.Walked.{Walked}
 pub record Ends (plan : Plan) (c : Case) (o : Opens) (w : Walked) (noted sums : List (List ℕ)) (lines events : List ℕ) : Type 0 where
   pub sound : Sound (planOf plan)
   pub sane : SoundCase (planOf plan) (caseOf c)
-  pub room : 29 * size (c .heading .roster) ≤ length lines
-  pub listed : w .listing .count * 12 ≤ length events
+  pub room : lineLength * size (c .heading .roster) ≤ length lines
+  pub listed : w .listing .count * eventLength ≤ length events
   pub facts : (o .facts ≤ o .influence .count) × (o .facts ≤ 64) × (o .influence .count ≤ o .facts + 16) × (o .influence .count ≤ 80)
   pub edges : Below (row sums 4 4) (edgeCount (planOf plan))
   pub cuts : Below (row sums 4 5) (cutCount (planOf plan))

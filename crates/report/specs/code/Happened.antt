@@ -1,17 +1,17 @@
 -- The events of all worlds by sets of rules: the list that is written from the sets, and what the sets hold once the worlds were looked at.
 use mathlib.Core.Path.{_≡_}
-use mathlib.Core.Bool.{Bool, true, _&&_, not}
+use mathlib.Core.Bool.{true, _&&_, not}
 use mathlib.Core.List.{List, [], _∷_, _++_, map, flatMap}
 use Prim.Native.Nat.{ℕ, _<_}
 use lib.Dec.{eqb}
-use Rattle.sets.specs.paper.Sets.{has, meets, risingLess, lexLess, numbers, anyOf, All}
+use Rattle.sets.specs.paper.Sets.{has, lexLess, numbers, anyOf, All}
 use Rattle.records.specs.paper.Plan.{Plan}
 use Rattle.records.specs.paper.Case.{Case}
 use Rattle.expressions.specs.paper.Rules.{edgeCount, cutCount, attachmentCount, barCount, statusCount, factCount, edge, cut, attachment, status}
 use Rattle.expressions.specs.paper.Nodes.{on}
 use Rattle.expressions.specs.paper.Bindings.{elections, defaultOf}
-use Rattle.worlds.specs.paper.World.{World, looseComponents, standing, blockedBy, barHolds}
-use Rattle.worlds.specs.paper.Events.{event, listed, electionActor, electionEvidence, leastOfMerged}
+use Rattle.worlds.specs.paper.World.{World, looseComponents, barHolds}
+use Rattle.worlds.specs.paper.Events.{event, listed, electionActor, electionEvidence, blocks, overlaps}
 use Rattle.report.specs.paper.EventList.{numberOf, electionCitation}
 
 -- each before all that come after it
@@ -68,16 +68,10 @@ happened P C frozen applied blockings clashes moved barring excluding defaults n
 
 -- ---- what the sets hold: each rule that some world shows an event of
 
--- the earlier and the later of two merged sets that meet, each by its lowest cut
-abbrev pub overlaps : Plan → World → ℕ → ℕ → Bool
-overlaps P w c d =
-    (leastOfMerged P w c && leastOfMerged P w d) && (meets (cut P c .members) (cut P d .members) && risingLess (cut P c .members) (cut P d .members))
-
 pub record Gathered (P : Plan) (roster : ℕ) (ws : List World) (frozen applied : ℕ) (blockings clashes : ℕ → ℕ) (moved barring excluding : ℕ) (nines : List ℕ) : Type 0 where
   pub edges : (e : ℕ) → e < edgeCount P → has frozen e ≡ anyOf (λ w. on (w .active .frozen) e) ws
   pub cuts : (c : ℕ) → c < cutCount P → has applied c ≡ anyOf (λ w. on (w .applied) c) ws
-  pub blocked : (c e : ℕ) → c < cutCount P → e < edgeCount P
-      → has (blockings c) e ≡ anyOf (λ w. standing (w .kept) (w .overlapping) c && blockedBy P (w .active) c e) ws
+  pub blocked : (c e : ℕ) → c < cutCount P → e < edgeCount P → has (blockings c) e ≡ anyOf (λ w. blocks P w c e) ws
   pub overlapping : (c d : ℕ) → c < cutCount P → d < cutCount P → has (clashes c) d ≡ anyOf (λ w. overlaps P w c d) ws
   pub attachments : (i : ℕ) → i < attachmentCount P → has moved i ≡ anyOf (λ w. has (w .state .moved) i) ws
   pub bars : (i : ℕ) → i < barCount P → has barring i ≡ anyOf (λ w. barHolds P (w .active) (w .state .attached) i) ws

@@ -4,11 +4,10 @@ use mathlib.Core.List.{List}
 use Prim.Native.Nat.{ℕ}
 use lib.ListN.{take}
 use Rattle.records.specs.paper.Plan.{Plan}
-use Rattle.records.specs.code.Decoded.{caseHeadingOf}
+use Rattle.records.specs.code.Decoded.{caseHeadingOf, statusesOf}
 use Rattle.records.specs.declared.case.CaseHeading.{CaseHeading}
 use Rattle.records.specs.declared.plan.Statuses.{Statuses}
 use Rattle.expressions.specs.paper.Rules.{ruleSets, rulePersons}
-use Rattle.expressions.specs.code.Coded.{statusesOf}
 use Rattle.expressions.specs.declared.groups.Groups.{Groups}
 use Rattle.report.specs.paper.Operations.{relationOf, headingFault}
 

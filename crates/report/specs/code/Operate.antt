@@ -8,15 +8,11 @@ use Rattle.records.specs.paper.Case.{caseHeading}
 use Rattle.records.specs.code.Decoded.{planOf, caseOf}
 use Rattle.records.specs.declared.plan.Plan.{Plan}
 use Rattle.records.specs.declared.case.Case.{Case}
-use Rattle.expressions.specs.paper.Bindings.{bindings, bindable}
-use Rattle.report.specs.paper.Operations.{Opened, orStop, unlessFault, headingFault, counted, bound, Outcome, answerOpened, showOpened}
+use Rattle.report.specs.paper.Operations.{Opened, unlessFault, headingFault, bound, Outcome, answerOpened, showOpened}
 use Rattle.report.specs.declared.Answer.{Answer}
 use Rattle.report.specs.declared.run.Wanted.{Wanted}
 
--- from the refusals 5 and 10 on, and from the heading's on
-unfoldable pub judged : Plan → Case → Opened
-judged plan c = orStop (bindable (caseOf c)) (λ C. counted (planOf plan) C (bindings (planOf plan) C))
-
+-- from the heading's refusals on
 unfoldable pub headed : Plan → Case → ℕ → Opened
 headed plan c lineRoom = unlessFault (headingFault (planOf plan) (caseHeading (caseOf c)) lineRoom) (bound (planOf plan) (caseOf c))
 

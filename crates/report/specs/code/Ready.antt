@@ -20,6 +20,7 @@ use Rattle.expressions.specs.code.Influences.{setsOf}
 use Rattle.expressions.specs.declared.bindings.Bound.{Bound}
 use Rattle.expressions.specs.declared.reach.Reach.{Reach}
 use Rattle.expressions.specs.declared.influence.Influence.{Influence}
+use Rattle.report.specs.paper.Line.{lineLength}
 use Rattle.report.specs.paper.Operations.{Outcome, allWorlds, answerReady, showReady}
 use Rattle.report.specs.declared.Answer.{Answer}
 use Rattle.report.specs.declared.finish.Opens.{Opens}
@@ -41,7 +42,7 @@ pub record IsReady (plan : Plan) (c : Case) (reach : Reach) (b : Bound) (uses li
   pub bound : (f : ℕ) → boundOf (getD (b .codes) f 0) ≡ bindingAt (bindings (planOf plan) (caseOf c)) f
   pub defaulted : Defaulted (planOf plan) (caseOf c) (reach .bound) (b .defaults)
   pub few : worldCount (planOf plan) (bindings (planOf plan) (caseOf c)) ≤ 4096
-  pub room : 29 * size (c .heading .roster) ≤ length lines
+  pub room : lineLength * size (c .heading .roster) ≤ length lines
   pub zeros : lines ≡ replicate (length lines) 0
   pub none : events ≡ replicate (length events) 0
 

@@ -8,6 +8,7 @@ use Rattle.sets.specs.paper.Sets.{has, size, members, unionOf, All}
 use Rattle.expressions.specs.paper.Variables.{Influence}
 use Rattle.worlds.specs.paper.View.{View}
 use Rattle.worlds.specs.code.Tables.{row}
+use Rattle.report.specs.paper.Line.{lineLength}
 use Rattle.report.specs.paper.Line as paper
 use Rattle.report.specs.code.Summed.{SummedAt, stands}
 use Rattle.report.specs.declared.line.Line.{Line}
@@ -38,4 +39,4 @@ pub record LineBy (sums : List (List ℕ)) (p facts decisions : ℕ) (r : Line) 
 pub record LinesBy (sums : List (List ℕ)) (persons : ℕ) (facts decisions before after : List ℕ) : Type 0 where
   pub at : (first : ℕ → View) (more : ℕ → List View) → ((p : ℕ) → has persons p ≡ true → SumsOf (first p) (more p) p sums)
       → after ≡ flatMap (λ p. paper.lineBytes (paper.lineOver (record { facts = facts; decisions = decisions }) p (first p ∷ more p))) (members persons)
-      ++ drop (29 * size persons) before
+      ++ drop (lineLength * size persons) before

@@ -9,6 +9,7 @@ use Rattle.expressions.specs.paper.Rules.{factCount}
 use Rattle.expressions.specs.paper.Bindings.{elections, defaultOf, tookDefault}
 use Rattle.worlds.specs.paper.Events.{event, listed, electionActor}
 
+-- "An event is 12 bytes"
 abbrev pub eventLength : ℕ
 eventLength = 12
 

@@ -18,11 +18,12 @@ pub record Line : Type 0 where
   pub openDecisions : ℕ
   pub citations : ℕ
 
--- "person, kind, role, block mask, open facts mask (8), open decisions (2 bytes), citations mask (8)": 29 bytes
+-- "person, kind, role, block mask, open facts mask (8), open decisions (2 bytes), citations mask (8)"
 unfoldable pub lineBytes : Line → List ℕ
 lineBytes l =
     l .person ∷ l .kind ∷ l .role ∷ (littleBytes 8 (l .block) ++ (littleBytes 8 (l .openFacts) ++ (littleBytes 2 (l .openDecisions) ++ littleBytes 8 (l .citations))))
 
+-- "29 bytes"
 abbrev pub lineLength : ℕ
 lineLength = 29
 
@@ -35,7 +36,7 @@ unfoldable pub firstKind : List View → ℕ
 firstKind [] = 0
 firstKind (v ∷ vs) = cond (eqb (v .kind) 0) (firstKind vs) (v .kind)
 
--- the numbers of a list that hold the person
+-- the numbers of the sets of a list that hold the person
 unfoldable pub holding : List ℕ → ℕ → ℕ
 holding sets p = unionBelow (length sets) (λ i. only (has (getD sets i 0) p) (one i))
 

@@ -9,7 +9,7 @@ use Rattle.report.specs.paper.Line.{Line, lineLength}
 unfoldable pub lineAt : List ℕ → ℕ → List ℕ
 lineAt s k = take lineLength (drop (lineLength * k) s)
 
--- the line that 29 bytes stand for
+-- the line that so many bytes stand for
 unfoldable pub decoded : List ℕ → Line
 decoded b = record {
   person = getD b 0 0;

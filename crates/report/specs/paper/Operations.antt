@@ -90,9 +90,12 @@ unfoldable pub counted : Plan → Case → List Bound → Opened
 counted P C bs =
     cond (ltb (caseHeading C .mostWorlds) (worldCount P bs)) (stopped (tooMany (worldCount P bs) (caseHeading C .mostWorlds))) (ready P C bs)
 
+-- "Then 5 a family twice; per boolean 10 …, 5 …; 11"
+unfoldable pub boundAndCounted : Plan → Case → Opened
+boundAndCounted P C = orStop (bindable C) (λ C. counted P C (bindings P C))
+
 unfoldable pub bound : Plan → Case → Opened
-bound P C =
-    cond (eqb (length (caseHeading C .complete)) 0) (incomplete (caseHeading C .roster)) (orStop (bindable C) (λ C. counted P C (bindings P C)))
+bound P C = cond (eqb (length (caseHeading C .complete)) 0) (incomplete (caseHeading C .roster)) (boundAndCounted P C)
 
 -- "The plan's checks; on the case 1, 2, 3, then 4 …; 8; 9; 12. … Then 5 …; 10, 5; 11"
 unfoldable pub opened : List ℕ → List ℕ → ℕ → Opened

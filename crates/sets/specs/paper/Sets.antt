@@ -1,7 +1,7 @@
 -- Sets of persons. Document 01, "Plan record": "A mask is 8 bytes, bit p for person p (0–63)". A set is the mask itself, a number.
 use mathlib.Core.Bool.{Bool, true, false, _&&_, _||_, not, cond}
 use mathlib.Core.List.{List, [], _∷_, map}
-use Prim.Native.Nat.{ℕ, zero, suc, _/_, _%_, _^_}
+use Prim.Native.Nat.{ℕ, zero, suc, _+_, _/_, _%_, _^_}
 use lib.Bits.{bitAnd, bitOr, bitXor}
 use lib.Count.{onesIn, trailingZeros}
 use lib.Dec.{eqb, ltb}
@@ -40,7 +40,7 @@ meets a b = not (disjoint a b)
 unfoldable pub subset : ℕ → ℕ → Bool
 subset a b = eqb (minus a b) 0
 
--- the set where the test holds, else nobody
+-- the set where the test holds, else nobody; of an amount, the amount or 0
 abbrev pub only : Bool → ℕ → ℕ
 only b m = cond b m 0
 
@@ -134,6 +134,15 @@ anyOf f (x ∷ xs) = f x || anyOf f xs
 unfoldable pub unionOf : {A : Type 0} → (A → ℕ) → List A → ℕ
 unionOf f [] = 0
 unionOf f (x ∷ xs) = union (f x) (unionOf f xs)
+
+-- the sum of what each entry has
+unfoldable pub sumOf : {A : Type 0} → (A → ℕ) → List A → ℕ
+sumOf f [] = 0
+sumOf f (x ∷ xs) = f x + sumOf f xs
+
+-- how many entries pass the test
+unfoldable pub countOf : {A : Type 0} → (A → Bool) → List A → ℕ
+countOf f xs = sumOf (λ x. only (f x) 1) xs
 
 -- what holds of each entry
 abbrev pub All : {A : Type 0} → (A → Type 0) → List A → Type 0

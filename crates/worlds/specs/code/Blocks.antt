@@ -37,13 +37,14 @@ pub record CutInto (table : List ℕ) (applied placed : ℕ) (before after : Lis
 pub record Regrouped (persons target movers : ℕ) (before after : List ℕ) : Type 0 where
   pub at : (p : ℕ) → entry after p ≡ cond (has persons p) (cond (has target p) target (minus (entry before p) movers)) (entry before p)
 
--- blocks that everybody in them reports: the movers are in no block but the given one with them
+-- the live persons in blocks that everybody in them reports
 pub record Parted (live : ℕ) (blocks : List ℕ) : Type 0 where
   pub self : (p : ℕ) → has live p ≡ true → has (entry blocks p) p ≡ true
   pub owner : (p q : ℕ) → has (entry blocks p) q ≡ true → has live p ≡ true
   pub alive : (p q : ℕ) → has (entry blocks p) q ≡ true → has live q ≡ true
   pub agreed : (p q : ℕ) → has (entry blocks p) q ≡ true → entry blocks q ≡ entry blocks p
 
+-- the movers are in no block but the given one with them
 pub record MovedTo (block movers : ℕ) (before after : List ℕ) : Type 0 where
   pub at : (live anchor : ℕ) → Parted live before → block ≡ entry before anchor → subset movers live ≡ true
       → (p : ℕ) → entry after p ≡ cond (has (union block movers) p) (union block movers) (minus (entry before p) movers)

@@ -11,7 +11,7 @@ use Rattle.expressions.specs.paper.Rules.{edgeCount, cutCount, attachmentCount,
 use Rattle.expressions.specs.paper.Nodes.{on}
 use Rattle.expressions.specs.paper.Variables.{Values}
 use Rattle.worlds.specs.paper.Active as paper
-use Rattle.expressions.specs.code.Coded.{edgesOf}
+use Rattle.records.specs.code.Decoded.{edgesOf}
 use Rattle.records.specs.declared.plan.Edges.{Edges}
 use Rattle.worlds.specs.code.Tables.{row, TellsActive}
 use Rattle.worlds.specs.code.Laid.{Row, Same}

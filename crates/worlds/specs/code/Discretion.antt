@@ -7,11 +7,11 @@ use lib.Dec.{ltb}
 use Rattle.sets.specs.paper.Sets.{has, one, union, only, subset, size, unionOf, allOf, members, closeOf}
 use Rattle.worlds.specs.code.Over.{entry}
 
--- all to whom one of these edges leads from a person, with the person
+-- the ends of these edges that hold a person
 unfoldable pub near : List ℕ → ℕ → ℕ → ℕ
 near pairs edges p = unionOf (λ e. only (has (entry pairs e) p) (entry pairs e)) (members edges)
 
--- everybody of m is led to everybody of m
+-- everybody of m is led to everybody else of m
 unfoldable pub cliqueBy : (ℕ → ℕ) → ℕ → Bool
 cliqueBy lead m = allOf (λ q. subset m (union (one q) (lead q))) (members m)
 

@@ -6,6 +6,7 @@ use Prim.Native.Nat.{ℕ, _<_}
 use lib.Dec.{eqb, ltb}
 use Rattle.sets.specs.paper.Sets.{has, one, anyOf, All}
 use Rattle.records.specs.paper.Plan.{Plan, Edge, Cut, Attachment, Bar, Status}
+use Rattle.records.specs.promises.Sound.{Person, Citation}
 use Rattle.records.specs.declared.plan.Edges.{Edges}
 use Rattle.records.specs.declared.plan.Cuts.{Cuts}
 use Rattle.records.specs.declared.plan.Attachments.{Attachments}
@@ -13,7 +14,7 @@ use Rattle.records.specs.declared.plan.Bars.{Bars}
 use Rattle.records.specs.declared.plan.Statuses.{Statuses}
 use Rattle.expressions.specs.paper.Rules.{edgeCount, cutCount, attachmentCount, barCount, statusCount, edge, cut, attachment, bar, status, pair}
 use Rattle.expressions.specs.paper.Influence.{Open, says, openDecisions, decisionCount, openDecision}
-use Rattle.expressions.specs.code.Coded.{edgesOf, cutsOf, attachmentsOf, barsOf, statusesOf}
+use Rattle.records.specs.code.Decoded.{edgesOf, cutsOf, attachmentsOf, barsOf, statusesOf}
 use Rattle.expressions.specs.code.Undecided.{opensOf}
 use Rattle.expressions.specs.declared.decisions.Undecided.{Undecided}
 use Rattle.worlds.specs.code.Tables.{row}
@@ -33,19 +34,19 @@ pub record Same (ks : List ℕ) (before after : List (List ℕ)) : Type 0 where
 -- ---- numbers that have a place in a mask
 
 abbrev pub EdgeFits : Edge → Type 0
-EdgeFits e = (e .left < 64) × (e .right < 64) × (e .citation < 64)
+EdgeFits e = Person (e .left) × Person (e .right) × Citation (e .citation)
 
 abbrev pub CutFits : Cut → Type 0
-CutFits c = (c .citation < 64) × All (λ d. d .edge < 64) (c .decisions)
+CutFits c = Citation (c .citation) × All (λ d. d .edge < 64) (c .decisions)
 
 abbrev pub AttachmentFits : Attachment → Type 0
-AttachmentFits a = (a .anchor < 64) × (a .citation < 64)
+AttachmentFits a = Person (a .anchor) × Citation (a .citation)
 
 abbrev pub BarFits : Bar → Type 0
-BarFits b = b .citation < 64
+BarFits b = Citation (b .citation)
 
 abbrev pub StatusFits : Status → Type 0
-StatusFits s = (s .person < 64) × (s .citation < 64)
+StatusFits s = Person (s .person) × Citation (s .citation)
 
 abbrev pub OpenFits : Open → Type 0
 OpenFits o = (o .cut < 64) × (o .edge < 64)

@@ -8,13 +8,12 @@ use lib.Dec.{ltb}
 use Rattle.sets.specs.paper.Sets.{has, one, subset, closeOf}
 use Rattle.records.specs.paper.Plan as paper
 use Rattle.records.specs.promises.Sound.{Sound}
-use Rattle.records.specs.code.Decoded.{planOf}
+use Rattle.records.specs.code.Decoded.{planOf, edgesOf}
 use Rattle.records.specs.declared.plan.Edges.{Edges}
 use Rattle.records.specs.declared.plan.Plan.{Plan}
 use Rattle.expressions.specs.paper.Rules.{edgeCount, attachmentCount, barCount, statusCount, edge, chained, ruleSets, rulePersons}
 use Rattle.expressions.specs.paper.Influence.{openDecisions}
 use Rattle.expressions.specs.paper.Variables as variables
-use Rattle.expressions.specs.code.Coded.{edgesOf}
 use Rattle.expressions.specs.code.Undecided.{opensOf}
 use Rattle.expressions.specs.code.Influences.{setsOf}
 use Rattle.expressions.specs.declared.decisions.Undecided.{Undecided}

@@ -8,7 +8,7 @@ use Rattle.sets.specs.paper.Sets.{has, union, meets, setOf, risingLess, unionOf
 use Rattle.records.specs.paper.Plan.{Plan, Cut}
 use Rattle.records.specs.declared.plan.Cuts.{Cuts}
 use Rattle.expressions.specs.paper.Rules.{cutCount, cut}
-use Rattle.expressions.specs.code.Coded.{cutsOf}
+use Rattle.records.specs.code.Decoded.{cutsOf}
 use Rattle.worlds.specs.code.Over.{entry}
 use Rattle.worlds.specs.code.Tables.{row}
 use Rattle.worlds.specs.code.Laid.{Same}
@@ -35,7 +35,7 @@ pub record RelatedAt (preceded : List ℕ) (c cuts combination : ℕ) (before af
       ≡ ((has cuts d && meets (row before 1 d) (row before 1 c)) && (has (entry preceded d) c && not (has (entry preceded c) d)))
   pub clashing : (d : ℕ) → has (row after 5 c) d
       ≡ ((has cuts d && meets (row before 1 d) (row before 1 c)) && not (eqb (row before 1 c) (row before 1 d)))
-  pub earlier : (d : ℕ) → has (row after 6 c) d
+  pub later : (d : ℕ) → has (row after 6 c) d
       ≡ ((has cuts d && meets (row before 1 d) (row before 1 c)) && risingLess (row before 1 c) (row before 1 d))
   pub crossing : (e : ℕ) → has (row after 7 c) e
       ≡ ((has combination e && meets (row before 0 e) (row before 1 c)) && meets (row before 0 e) ((2 ^ 64 - 1) - row before 1 c))

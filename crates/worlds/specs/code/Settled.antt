@@ -1,16 +1,15 @@
 -- What the code settles of a world by sets, tied to document 01's steps 2 to 8.
 use mathlib.Core.Path.{_≡_}
-use mathlib.Core.Bool.{Bool, true, _&&_, _||_}
+use mathlib.Core.Bool.{Bool, true, _||_}
 use mathlib.Core.List.{List}
 use Prim.Native.Nat.{ℕ, _<_}
-use Rattle.sets.specs.paper.Sets.{has, meets, risingLess}
+use Rattle.sets.specs.paper.Sets.{has}
 use Rattle.records.specs.paper.Plan.{Plan}
-use Rattle.expressions.specs.paper.Rules.{cut}
 use Rattle.expressions.specs.paper.Nodes.{on}
 use Rattle.expressions.specs.paper.Variables.{Influence}
 use Rattle.worlds.specs.paper.Active as paper
-use Rattle.worlds.specs.paper.World.{World, worldOf, baseSets, looseComponent, standing, blockedBy, barHolds}
-use Rattle.worlds.specs.paper.Events.{leastOfMerged}
+use Rattle.worlds.specs.paper.World.{World, worldOf, baseSets, looseComponent, barHolds}
+use Rattle.worlds.specs.paper.Events.{blocks, overlaps}
 use Rattle.worlds.specs.code.Over.{entry}
 use Rattle.worlds.specs.code.Tables.{Stands, TellsActive}
 use Rattle.worlds.specs.code.Discretion.{Renewed}
@@ -18,14 +17,6 @@ use Rattle.worlds.specs.declared.tables.Common.{Common}
 use Rattle.worlds.specs.declared.tables.Active.{Active}
 use Rattle.worlds.specs.declared.tables.Settled.{Settled}
 use Rattle.worlds.specs.declared.cuts.CutsDone.{CutsDone}
-
--- which edge blocks which cut, and which cut overlaps which: the pairs of events 3 and 4
-unfoldable pub blocks : Plan → World → ℕ → ℕ → Bool
-blocks P w c e = standing (w .kept) (w .overlapping) c && blockedBy P (w .active) c e
-
-unfoldable pub clashes : Plan → World → ℕ → ℕ → Bool
-clashes P w c d =
-    (leastOfMerged P w c && leastOfMerged P w d) && (meets (cut P c .members) (cut P d .members) && risingLess (cut P c .members) (cut P d .members))
 
 -- a table of sets that took in the pairs for which a test holds
 pub record Added (test : ℕ → ℕ → Bool) (before after : List ℕ) : Type 0 where
@@ -36,7 +27,7 @@ pub record CutsAre (P : Plan) (w : World) (r : CutsDone) (blockings₀ blockings
   pub overlap : r .overlap ≡ w .marks .overlap
   pub applied : (c : ℕ) → has (r .applied) c ≡ on (w .applied) c
   pub blocked : Added (blocks P w) blockings₀ blockings₁
-  pub clashed : Added (clashes P w) clashes₀ clashes₁
+  pub clashed : Added (overlaps P w) clashes₀ clashes₁
 
 -- for every plan, influence and valuation that tables and masks stand for
 pub record CutsSettled (t : List (List ℕ)) (f : Active) (r : CutsDone) (blockings₀ blockings₁ clashes₀ clashes₁ : List ℕ) : Type 0 where
@@ -67,4 +58,4 @@ pub record Settles (t : List (List ℕ)) (k : Common) (f : Active) (s : Settled)
   pub components : (P : Plan) (I : Influence) (a : paper.Active) → Stands P I k t → TellsActive P a f → PartsAre P (k .roster) a (s .heads) parts₁
   pub renewed : Renewed (s .heads) (s .fresh) parts₀ parts₁
   pub blocked : (P : Plan) (I : Influence) (a : paper.Active) → Stands P I k t → TellsActive P a f → Added (blocks P (worldOf P (k .roster) I a)) blockings₀ blockings₁
-  pub clashed : (P : Plan) (I : Influence) (a : paper.Active) → Stands P I k t → TellsActive P a f → Added (clashes P (worldOf P (k .roster) I a)) clashes₀ clashes₁
+  pub clashed : (P : Plan) (I : Influence) (a : paper.Active) → Stands P I k t → TellsActive P a f → Added (overlaps P (worldOf P (k .roster) I a)) clashes₀ clashes₁

@@ -1,12 +1,12 @@
 -- What is made once for a case and lent to its worlds, and what of one world stands in masks.
 use mathlib.Core.Path.{_≡_}
-use mathlib.Core.Bool.{Bool, true, _&&_, _||_, not, Bool·beq}
+use mathlib.Core.Bool.{Bool, true, _&&_, _||_, not}
 use mathlib.Core.List.{List, []}
 use Prim.Native.Nat.{ℕ, _<_, _^_}
 use lib.ListN.{getD}
 use lib.Dec.{eqb, ltb}
 use Rattle.sets.specs.paper.Sets.{has, one, meets, subset, risingLess}
-use Rattle.records.specs.paper.Plan.{Plan}
+use Rattle.records.specs.paper.Plan.{Plan, oneEnd}
 use Rattle.records.specs.promises.Sound.{Sound}
 use Rattle.expressions.specs.paper.Rules.{edgeCount, cutCount, attachmentCount, barCount, statusCount, edge, cut, attachment, bar, status, pair, chained, rulePersons}
 use Rattle.expressions.specs.paper.Nodes.{on}
@@ -26,10 +26,6 @@ module _ (P : Plan) where
   abbrev pub sharing : ℕ → ℕ → Bool
   sharing c d = meets (cut P c .members) (cut P d .members)
 
-  -- one end of the edge in the cut, the other outside
-  abbrev pub crosses : ℕ → ℕ → Bool
-  crosses c e = not (Bool·beq (has (cut P c .members) (edge P e .left)) (has (cut P c .members) (edge P e .right)))
-
 -- the plan is accepted and its rules name persons of the roster; the tables hold what the plan says, rows as src/tables.rt numbers them
 pub record Stands (P : Plan) (I : Influence) (k : Common) (t : List (List ℕ)) : Type 0 where
   pub sound : Sound P
@@ -45,11 +41,11 @@ pub record Stands (P : Plan) (I : Influence) (k : Common) (t : List (List ℕ)) 
   pub lower : (c d : ℕ) → c < cutCount P → has (row t 3 c) d ≡ (ltb d c && sameMembers P c d)
   pub droppers : (c d : ℕ) → c < cutCount P → has (row t 4 c) d ≡ (ltb d (cutCount P) && (sharing P c d && (precedes P d c && not (precedes P c d))))
   pub clashing : (c d : ℕ) → c < cutCount P → has (row t 5 c) d ≡ (ltb d (cutCount P) && (sharing P c d && not (sameMembers P c d)))
-  pub earlier : (c d : ℕ) → c < cutCount P → has (row t 6 c) d ≡ (ltb d (cutCount P) && (sharing P c d && risingLess (cut P c .members) (cut P d .members)))
-  pub crossing : (c e : ℕ) → c < cutCount P → has (row t 7 c) e ≡ (ltb e (edgeCount P) && (edge P e .combination && crosses P c e))
+  pub later : (c d : ℕ) → c < cutCount P → has (row t 6 c) d ≡ (ltb d (cutCount P) && (sharing P c d && risingLess (cut P c .members) (cut P d .members)))
+  pub crossing : (c e : ℕ) → c < cutCount P → has (row t 7 c) e ≡ (ltb e (edgeCount P) && (edge P e .combination && oneEnd (cut P c) (edge P e)))
   pub said : (c e : ℕ) → c < cutCount P → has (row t 8 c) e ≡ says P c e 1
   pub opens : (c d : ℕ) → c < cutCount P → has (row t 9 c) d ≡ (ltb d (decisionCount P) && eqb (openDecision P d .cut) c)
-  pub decided : (d : ℕ) → d < decisionCount P → row t 10 d ≡ one (openDecision P d .edge)
+  pub openEdges : (d : ℕ) → d < decisionCount P → row t 10 d ≡ one (openDecision P d .edge)
   pub movers : (i : ℕ) → i < attachmentCount P → row t 11 i ≡ attachment P i .members
   pub anchors : (i : ℕ) → i < attachmentCount P → row t 12 i ≡ one (attachment P i .anchor)
   pub barred : (i : ℕ) → i < barCount P → row t 13 i ≡ bar P i .members

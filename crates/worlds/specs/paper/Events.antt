@@ -36,6 +36,15 @@ electionEvidence C (e ∷ es) = evidenceOf C (e .fact)
 unfoldable pub leastOfMerged : Plan → World → ℕ → Bool
 leastOfMerged P w c = on (w .kept) c && not (anyBelow c (λ d. on (w .kept) d && sameMembers P c d))
 
+-- the cut that is left after step 4, and the edge that blocks it
+unfoldable pub blocks : Plan → World → ℕ → ℕ → Bool
+blocks P w c e = standing (w .kept) (w .overlapping) c && blockedBy P (w .active) c e
+
+-- the earlier and the later of two merged sets that meet, each by its lowest cut; "Sets are ordered as rising person lists"
+unfoldable pub overlaps : Plan → World → ℕ → ℕ → Bool
+overlaps P w c d =
+    (leastOfMerged P w c && leastOfMerged P w d) && (meets (cut P c .members) (cut P d .members) && risingLess (cut P c .members) (cut P d .members))
+
 module _ (P : Plan) (C : Case) (roster : ℕ) (w : World) where
   -- "1 frozen: rule, left, right"
   unfoldable pub frozenEvents : List (List ℕ)
@@ -49,15 +58,12 @@ module _ (P : Plan) (C : Case) (roster : ℕ) (w : World) where
   -- "3 blocked: each blocking cut, edge, actor, evidence"
   unfoldable pub blockedEvents : List (List ℕ)
   blockedEvents =
-      flatMap (λ c. listed (edgeCount P) (λ e. standing (w .kept) (w .overlapping) c && blockedBy P (w .active) c e)
+      flatMap (λ c. listed (edgeCount P) (blocks P w c)
       (λ e. event 3 c e (electionActor (cut P c .election)) (electionEvidence C (cut P c .election)))) (numbers (cutCount P) 0)
 
-  -- "4 overlap: lowest cut of the earlier set, then of the later"; "Sets are ordered as rising person lists"
+  -- "4 overlap: lowest cut of the earlier set, then of the later"
   unfoldable pub overlapEvents : List (List ℕ)
-  overlapEvents =
-      flatMap (λ c. listed (cutCount P)
-      (λ d. (leastOfMerged P w c && leastOfMerged P w d) && (meets (cut P c .members) (cut P d .members) && risingLess (cut P c .members) (cut P d .members)))
-      (λ d. event 4 c d 0 0)) (numbers (cutCount P) 0)
+  overlapEvents = flatMap (λ c. listed (cutCount P) (overlaps P w c) (λ d. event 4 c d 0 0)) (numbers (cutCount P) 0)
 
   -- "5 attachment: rule, anchor, actor, evidence"
   unfoldable pub attachmentEvents : List (List ℕ)

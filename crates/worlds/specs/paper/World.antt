@@ -1,11 +1,11 @@
 -- One world. Document 01, "World", steps 2 to 8. Rules go by number: "merged" cuts are cuts with equal members.
-use mathlib.Core.Bool.{Bool, _&&_, not, cond, Bool·beq}
+use mathlib.Core.Bool.{Bool, _&&_, not, cond}
 use mathlib.Core.List.{List, _++_}
 use Prim.Native.Nat.{ℕ}
 use lib.ListN.{getD}
 use lib.Dec.{eqb, ltb}
 use Rattle.sets.specs.paper.Sets.{has, one, union, minus, only, meets, subset, size, setOf, members, closeOf, below, anyBelow, unionBelow, foldBelow, allOf, unionOf}
-use Rattle.records.specs.paper.Plan.{Plan}
+use Rattle.records.specs.paper.Plan.{Plan, oneEnd}
 use Rattle.expressions.specs.paper.Rules.{edgeCount, cutCount, attachmentCount, barCount, statusCount, edge, cut, attachment, bar, status, pair, ruleSets, chained}
 use Rattle.expressions.specs.paper.Nodes.{on}
 use Rattle.expressions.specs.paper.Variables.{Influence}
@@ -80,7 +80,7 @@ overlappingCuts P kept = below (cutCount P) (overlappingCut P kept)
 unfoldable pub blockedBy : Plan → Active → ℕ → ℕ → Bool
 blockedBy P a c e =
     (on (a .frozen) e && edge P e .combination)
-    && (not (Bool·beq (has (cut P c .members) (edge P e .left)) (has (cut P c .members) (edge P e .right))) && blocksEdge P a c e)
+    && (oneEnd (cut P c) (edge P e) && blocksEdge P a c e)
 
 -- a cut that is left after step 4
 abbrev pub standing : List Bool → List Bool → ℕ → Bool

@@ -3,13 +3,15 @@
 use std::hint::black_box;
 use std::process::{Command, exit};
 
-use inputs::classes::{ALL, Class};
+use inputs::classes::Class;
 use judge::compare::{Covered, MODEL, Voice, compare_voices};
 use judge::measured::{Measured, inputs_of};
 use judge::rust::Oracle;
 use model::Citing;
 use model::report::{EVENT, LINE};
 use port::Port;
+use port::clock::{Clock, median};
+use port::settings::{fail, settings};
 
 const HELP: &str = "tools/bench [--class NAME] [--rounds N]
 
@@ -28,97 +30,8 @@ that the port copies and clears for an answer, mean of the inputs, counted apart
 Compare ratios within one run, not times between runs.
 ";
 
-/// Nanoseconds that a sample takes at least; short calls are timed together.
-const SAMPLE: f64 = 1e6;
-
-/// Nanoseconds after which an engine is not timed on an input again.
-const MOST: f64 = 3e9;
-
 /// The lister's buffers.
 const LENT: (usize, usize) = (64 * LINE, 4096 * EVENT);
-
-struct Settings {
-    classes: Vec<&'static Class>,
-    rounds: u32,
-}
-
-fn fail(what: &str) -> ! {
-    eprintln!("bench: {what}; bench --help says more");
-    exit(2)
-}
-
-fn class_of(name: &str) -> &'static Class {
-    let names: Vec<&str> = ALL.iter().map(|class| class.name).collect();
-    let found = ALL.iter().find(|class| class.name == name);
-    found.unwrap_or_else(|| fail(&format!("no class {name}; there are {}", names.join(", "))))
-}
-
-fn settings() -> Settings {
-    let mut words = std::env::args().skip(1);
-    let (mut classes, mut rounds) = (Vec::new(), 15);
-    while let Some(word) = words.next() {
-        match word.as_str() {
-            "--help" => {
-                println!("{HELP}\nClasses:");
-                ALL.iter()
-                    .for_each(|class| println!("  {:<10} {}", class.name, class.what));
-                exit(0)
-            }
-            "--class" => classes.push(class_of(&words.next().unwrap_or_default())),
-            "--rounds" => match words.next().and_then(|number| number.parse().ok()) {
-                Some(number) if number > 0 => rounds = number,
-                _ => fail("--rounds needs a number from 1 on"),
-            },
-            _ => fail(&format!("unknown word {word}")),
-        }
-    }
-    if classes.is_empty() {
-        classes = ALL.iter().collect();
-    }
-    Settings { classes, rounds }
-}
-
-unsafe extern "C" {
-    /// Seconds and nanoseconds of a clock of Linux.
-    fn clock_gettime(clock: i32, time: &mut [i64; 2]) -> i32;
-}
-
-/// Nanoseconds that this thread had the processor: other programs on a shared machine do not count.
-fn now() -> f64 {
-    const THREAD: i32 = 3;
-    let mut time = [0; 2];
-    // It writes the two numbers and keeps nothing.
-    let done = unsafe { clock_gettime(THREAD, &mut time) };
-    assert_eq!(done, 0, "Linux has a clock for each thread");
-    time[0] as f64 * 1e9 + time[1] as f64
-}
-
-/// The best time of a call so far.
-struct Clock {
-    best: f64,
-    spent: f64,
-}
-
-impl Clock {
-    fn new() -> Clock {
-        Clock {
-            best: f64::INFINITY,
-            spent: 0.0,
-        }
-    }
-
-    fn sample(&mut self, mut call: impl FnMut()) {
-        if self.spent > MOST {
-            return;
-        }
-        let calls = (SAMPLE / self.best).clamp(1.0, 10_000.0) as u32;
-        let start = now();
-        (0..calls).for_each(|_| call());
-        let taken = now() - start;
-        self.spent += taken;
-        self.best = self.best.min(taken / f64::from(calls));
-    }
-}
 
 /// An input, the buffers lent for it, and its times.
 struct Timed {
@@ -192,12 +105,6 @@ fn compare(class: &Class, plan: &[u8], case: &[u8]) {
     }
 }
 
-fn median(inputs: &[Timed], time: fn(&Timed) -> f64) -> f64 {
-    let mut all: Vec<f64> = inputs.iter().map(time).collect();
-    all.sort_by(f64::total_cmp);
-    all[all.len() / 2]
-}
-
 /// Kilobytes that an answer copies and clears. Counting takes time, so another program counts, which is built beside this one.
 fn touched(class: &Class) -> u64 {
     let own = std::env::current_exe().expect("the system knows this program's file");
@@ -211,7 +118,7 @@ fn touched(class: &Class) -> u64 {
     });
     match told {
         Ok(Ok(bytes)) => bytes / 1000,
-        _ => fail("the program copies, which counts, does not run"),
+        _ => fail("bench", "the program copies, which counts, does not run"),
     }
 }
 
@@ -223,11 +130,11 @@ fn row(class: &Class, rounds: u32) {
     for _ in 0..rounds {
         inputs.iter_mut().for_each(Timed::round);
     }
-    let rust = median(&inputs, |input| input.rust.best);
-    let model = median(&inputs, |input| input.model.best);
-    let port = median(&inputs, |input| input.port.best);
-    let model_check = median(&inputs, |input| input.model_check.best);
-    let port_check = median(&inputs, |input| input.port_check.best);
+    let rust = median(inputs.iter().map(|input| input.rust.best));
+    let model = median(inputs.iter().map(|input| input.model.best));
+    let port = median(inputs.iter().map(|input| input.port.best));
+    let model_check = median(inputs.iter().map(|input| input.model_check.best));
+    let port_check = median(inputs.iter().map(|input| input.port_check.best));
     let worlds: u64 = inputs.iter().map(|input| input.worlds).sum();
     let seconds: f64 = inputs.iter().map(|input| input.port.best / 1e9).sum();
     println!(
@@ -243,7 +150,7 @@ fn row(class: &Class, rounds: u32) {
 }
 
 fn main() {
-    let settings = settings();
+    let settings = settings("bench", HELP, std::env::args().skip(1));
     println!("median nanoseconds, best of {} rounds", settings.rounds);
     println!(
         "{:<10} {:>6} {:>13} {:>11} {:>11} {:>9} {:>10} {:>10} {:>9} {:>10} {:>10}",

@@ -33,7 +33,7 @@ unfolding checkedOf familyOf
 returns c =
     let w = c .before .before .before .before .before .loop .inv in
     let l = c .before .before .before .before .loop-test .taken in
-    judging-stop w l _ 4 (ap (λ (b : Bool). fault 5 (not b)) (sym (judging-twice w l _ (c .before .appears .ensures)) ∙ c .if1 .taken)) ∙ families-whole _ _
+    judging-stop w l _ 5 (λ z. absurd (omega (arith, z))) (ap (λ (b : Bool). fault 5 (not b)) (sym (judging-twice w l _ (c .before .appears .ensures)) ∙ c .if1 .taken)) ∙ families-whole _ _
 
 loop-again : tie.Need-loop-again Inv-loop μ-loop
 unfolding familyOf

@@ -9,7 +9,6 @@ use lib.ListN.{length, getD, take, length-map, length-set}
 use borrow.Author.Needs.{needs}
 use Rattle.sets.specs.paper.Sets.{has, one, union, only, unionBelow}
 use Rattle.records.specs.code.Decoded.{planOf, caseOf, familyOf}
-use Rattle.expressions.specs.code.Coded.{cutsOf, attachmentsOf}
 use Rattle.expressions.specs.code.Told.{TellsFact, bindingFrom, defaultFrom}
 use Rattle.sets.proofs.UnionLaws.{joined-if, left-if}
 use Rattle.sets.proofs.MaskLaws.{built, built-next}
@@ -40,7 +39,7 @@ loop-again c =
     let scope = c .before .before .before .before .before .before .before .before .before .before .before .before .before .before .scope-of .result in
     let sights = c .before .before .before .before .before .before .before .before .before .before .before .before .before .sights-of .result in
     let said = c .before .before .before .before .before .before .before .before .before .before .before .before .said-unknown .result in
-    let elected = c .before .before .before .before .before .before .before .before .before .before .before .elect .result in
+    let elected = c .before .before .before .before .before .before .before .before .before .before .before .election-policies .result in
     let set = c .before .before .before .before .before .before .before .before .before .before .before .before .before .before .before .before .before .before .before .before .before .args .set in
     let i = l .loop .i in
     let code = codeAt set facts families scope sights said elected in
@@ -59,22 +58,22 @@ loop-again c =
     )
 
 returns : tie.Need-returns Inv-loop μ-loop
-unfolding caseOf planOf cutsOf attachmentsOf
+unfolding caseOf planOf
 returns c =
     let l = c .before in
     let s = c .before .before .before .before .before .before .before .before .before .before .before .before .before in
     let p = s .args .plan in
     let e : l .loop .i ≡ c .before .before .upto .result = omega (arith, c .loop-test .left, l .loop .inv .1) in
     let long : length (p .facts .items) ≡ 64 = simp length-map at (s .good .0 .1 .1 .1 .1 .1 .1 .0 .1 .1 .1 .0 .1 .0 .1) in
-    let code = codeAt (s .args .set) (p .facts) (s .args .case .families) (c .before .before .before .before .before .before .scope-of .result) (c .before .before .before .before .before .sights-of .result) (c .before .before .before .before .said-unknown .result) (c .before .before .before .elect .result) in
-    let test = defaultAt (s .args .set) (p .facts) (c .before .before .before .before .before .sights-of .result) (c .before .before .before .before .said-unknown .result) (c .before .before .before .elect .result) in
-    let tells : (f : ℕ) → f < 64 → TellsFact (planOf p) (caseOf (s .args .case)) f (toldAt (c .before .before .before .before .before .sights-of .result) (c .before .before .before .before .said-unknown .result) (c .before .before .before .elect .result) f) = λ f h. record { seen = c .before .before .before .before .before .sights-of .ensures f h; unknown = c .before .before .before .before .said-unknown .ensures f h; election = c .before .before .before .elect .ensures (planOf p) refl refl .at f h } in
+    let code = codeAt (s .args .set) (p .facts) (s .args .case .families) (c .before .before .before .before .before .before .scope-of .result) (c .before .before .before .before .before .sights-of .result) (c .before .before .before .before .said-unknown .result) (c .before .before .before .election-policies .result) in
+    let test = defaultAt (s .args .set) (p .facts) (c .before .before .before .before .before .sights-of .result) (c .before .before .before .before .said-unknown .result) (c .before .before .before .election-policies .result) in
+    let tells : (f : ℕ) → f < 64 → TellsFact (planOf p) (caseOf (s .args .case)) f (toldAt (c .before .before .before .before .before .sights-of .result) (c .before .before .before .before .said-unknown .result) (c .before .before .before .election-policies .result) f) = λ f h. record { seen = c .before .before .before .before .before .sights-of .ensures f h; unknown = c .before .before .before .before .said-unknown .ensures f h; election = c .before .before .before .election-policies .ensures (planOf p) refl refl .at f h } in
     record {
-      codes = codes-made p (s .args .case) (s .args .set) (c .before .before .upto .result) (c .before .before .before .before .before .before .scope-of .result) (c .before .before .before .before .said-unknown .result) (c .before .before .before .before .before .sights-of .result) (c .before .before .before .elect .result) long (c .before .before .upto .ensures .0) (c .before .before .before .before .before .before .scope-of .ensures) tells (l .loop .codes)
+      codes = codes-made p (s .args .case) (s .args .set) (c .before .before .upto .result) (c .before .before .before .before .before .before .scope-of .result) (c .before .before .before .before .said-unknown .result) (c .before .before .before .before .before .sights-of .result) (c .before .before .before .election-policies .result) long (c .before .before .upto .ensures .0) (c .before .before .before .before .before .before .scope-of .ensures) tells (l .loop .codes)
           (subst (Filled code (l .loop .codes)) e (l .loop .inv .2));
       defaults = record {
         at = λ f. ap (λ (m : ℕ). has m f) (l .loop .inv .3 ∙ ap (built test) e)
-            ∙ defaults-made p (s .args .case) (s .args .set) (c .before .before .upto .result) (c .before .before .before .before .before .before .scope-of .result) (c .before .before .before .before .said-unknown .result) (c .before .before .before .before .before .sights-of .result) (c .before .before .before .elect .result) long (c .before .before .upto .ensures .0) (c .before .before .before .before .before .before .scope-of .ensures) tells f;
+            ∙ defaults-made p (s .args .case) (s .args .set) (c .before .before .upto .result) (c .before .before .before .before .before .before .scope-of .result) (c .before .before .before .before .said-unknown .result) (c .before .before .before .before .before .sights-of .result) (c .before .before .before .election-policies .result) long (c .before .before .upto .ensures .0) (c .before .before .before .before .before .before .scope-of .ensures) tells f;
       };
     }
 

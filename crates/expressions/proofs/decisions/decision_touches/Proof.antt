@@ -6,7 +6,7 @@ use Rattle.sets.specs.paper.Sets.{All}
 use Rattle.records.specs.code.Decoded.{planOf}
 use Rattle.expressions.specs.paper.Rules.{cutCount, edgeCount}
 use Rattle.expressions.specs.paper.Influence.{openDecisions, openTouch}
-use Rattle.expressions.specs.code.Coded.{Holds, cutsOf, edgesOf}
+use Rattle.expressions.specs.code.Coded.{Holds}
 use Rattle.expressions.specs.code.Undecided.{Named}
 use Rattle.expressions.proofs.FitLaws.{edges-fit}
 use Rattle.expressions.proofs.OpenLaws.{opens-number, open-few, all-named, open-touches}
@@ -14,7 +14,7 @@ use Rattle.expressions.proofs.decisions.decision_touches.Statement.{sta
 use Rattle.expressions.proofs.decisions.decision_touches.Tie as tie
 
 touches-over-requires : tie.Need-touches-over-requires
-unfolding cutsOf edgesOf planOf
+unfolding planOf
 touches-over-requires c κs =
     let s = c .before .before in
     let P = planOf (s .args .plan) in (
@@ -24,7 +24,7 @@ touches-over-requires c κs =
     )
 
 returns : tie.Need-returns
-unfolding cutsOf edgesOf planOf
+unfolding planOf
 returns c =
     let s = c .before .before .before in
     let P = planOf (s .args .plan) in

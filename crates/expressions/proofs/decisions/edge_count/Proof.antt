@@ -4,13 +4,11 @@ use lib.ListN.{length, length-map}
 use borrow.Author.Needs.{needs}
 use Rattle.records.proofs.plan.Edge.{the-type}
 use Rattle.records.specs.code.Decoded.{edgeOf}
-use Rattle.expressions.specs.code.Coded.{edgesOf}
 use Rattle.expressions.proofs.ListLaws.{made-length}
 use Rattle.expressions.proofs.decisions.edge_count.Statement.{statement}
 use Rattle.expressions.proofs.decisions.edge_count.Tie as tie
 
 returns : tie.Need-returns
-unfolding edgesOf
 returns c =
     let s = c .before in
     let long : length (s .args .edges .items) ≡ 64 = sym (length-map (s .args .edges .items) (the-type .to)) ∙ s .good .0 .1 .1 .1 .0 .1 .0 .1 in

@@ -9,9 +9,8 @@ use borrow.Author.Needs.{needs}
 use Rattle.records.proofs.plan.Cut.{the-type}
 use Rattle.sets.specs.paper.Sets.{below, numbers}
 use Rattle.records.specs.paper.Plan.{Cut}
-use Rattle.records.specs.code.Decoded.{cutOf, decisionsOf}
+use Rattle.records.specs.code.Decoded.{cutOf, decisionsOf, cutsOf}
 use Rattle.expressions.specs.paper.Influence.{Open, openIn, openBelow}
-use Rattle.expressions.specs.code.Coded.{cutsOf}
 use Rattle.expressions.specs.code.Undecided.{opensOf}
 use Rattle.expressions.proofs.ListLaws.{made-at, made-length}
 use Rattle.expressions.proofs.OpenLaws.{all-next, room-all}
@@ -44,7 +43,7 @@ next : (c : tie.After-decisions Inv-loop μ-loop) →
     let s = l .before .before in
     openBelow (cutsOf (s .args .t1)) (s .args .edges) (l .loop .i + 1)
     ≡ openBelow (cutsOf (s .args .t1)) (s .args .edges) (l .loop .i) ++ openIn (decisionsOf (getD (s .args .t1 .items) (l .loop .i) none .decisions)) (l .loop .i) (s .args .edges)
-unfolding cutsOf cutOf
+unfolding cutOf
 next c =
     let l = c .before .before .before in
     let a = l .before in
@@ -58,7 +57,6 @@ unfolding opensOf openBelow below numbers
 loop-holds c = (search needs, refl)
 
 open-in-requires : tie.Need-open-in-requires Inv-loop μ-loop
-unfolding cutsOf
 open-in-requires c κs =
     let l = c .before .before .before in
     let a = l .before in
@@ -75,7 +73,6 @@ loop-again c =
     (search needs, c .open-in .ensures ∙ ap (λ (os : List Open). os ++ new) (l .loop .inv .1) ∙ sym (next (c .before)))
 
 returns : tie.Need-returns Inv-loop μ-loop
-unfolding cutsOf
 returns c =
     let l = c .before in
     let a = l .before in

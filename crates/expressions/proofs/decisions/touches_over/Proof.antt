@@ -8,13 +8,13 @@ use lib.ListN.{length, getD, length-map, length-set}
 use borrow.Author.Needs.{needs}
 use Rattle.sets.specs.paper.Sets.{union, below, numbers}
 use Rattle.records.specs.paper.Plan.{Plan}
-use Rattle.records.specs.code.Decoded.{edgeOf}
+use Rattle.records.specs.code.Decoded.{edgeOf, cutsOf, edgesOf}
 use Rattle.records.specs.declared.plan.Cut.{Cut}
 use Rattle.records.specs.declared.plan.Edge.{Edge}
 use Rattle.records.proofs.plan.Cut.{the-type as cut-type}
 use Rattle.records.proofs.plan.Edge.{the-type as edge-type}
 use Rattle.expressions.specs.paper.Influence.{Open, openTouch}
-use Rattle.expressions.specs.code.Coded.{Holds, EndsFit, cutsOf, edgesOf}
+use Rattle.expressions.specs.code.Coded.{Holds, EndsFit}
 use Rattle.expressions.specs.paper.Rules.{endsOf}
 use Rattle.expressions.specs.code.Undecided.{openAt, opensOf}
 use Rattle.expressions.proofs.ListLaws.{holds-none, fill-next, below-map, made-each}
@@ -65,7 +65,6 @@ element-copy-out-edge c =
     omega (arith, c .wide2 .ensures .0, edge-in (s .args .t1) (s .args .t2) (s .args .t3) (c .before .before .before .before .before .before .loop .i) h (s .pre .1) (deep s))
 
 ends-requires : tie.Need-ends-requires Inv-loop μ-loop
-unfolding edgesOf
 ends-requires c κs =
     let s = c .before .before .before .before .before .before .before .before .before in
     let h : c .before .before .before .before .before .before .before .loop .i < s .args .t3 .count = omega (arith, c .before .before .before .before .before .before .before .before .upto .ensures .0, c .before .before .before .before .before .before .loop-test .taken) in

@@ -23,14 +23,14 @@ Inv-loop known₀ at groups touches wanted i₀ known i =
 abbrev μ-loop : tie.MeasureT-loop
 μ-loop known₀ at groups touches wanted i₀ known i = length touches - i
 
-whole-requires : tie.Need-whole-requires Inv-loop μ-loop
-whole-requires c κs = tt
+whole-80-words-requires : tie.Need-whole-80-words-requires Inv-loop μ-loop
+whole-80-words-requires c κs = tt
 
 loop-holds : tie.Need-loop-holds Inv-loop μ-loop
 unfolding below numbers
 loop-holds c =
     let a = c .before .before .before .before .args in
-    (search needs, c .whole .ensures, ap (λ (k : ℕ). take k (a .known .now)) (add-zero (a .at)) ∙ sym (append-nil (take (a .at) (a .known .now))))
+    (search needs, c .whole-80-words .ensures, ap (λ (k : ℕ). take k (a .known .now)) (add-zero (a .at)) ∙ sym (append-nil (take (a .at) (a .known .now))))
 
 add-known : tie.Need-add-known Inv-loop μ-loop
 add-known c = omega (arith, c .before .before .loop-test .taken, c .before .before .before .before .before .before .before .before .pre)
@@ -72,7 +72,7 @@ close-each-spec =
     (tie.spec
     Inv-loop
     μ-loop
-    whole-requires
+    whole-80-words-requires
     loop-holds
     (λ c. search needs)
     (λ c κs. search needs)

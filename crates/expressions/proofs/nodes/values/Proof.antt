@@ -8,9 +8,9 @@ use lib.ListN.{length, take, set, length-map, length-set}
 use borrow.Author.Needs.{needs}
 use Rattle.records.specs.paper.Plan.{Node}
 use Rattle.records.proofs.plan.Node.{the-type}
-use Rattle.records.specs.code.Decoded.{nodeOf}
+use Rattle.records.specs.code.Decoded.{nodeOf, nodesOf}
 use Rattle.expressions.specs.paper.Nodes.{valuesFrom}
-use Rattle.expressions.specs.code.Coded.{Holds, nodesOf}
+use Rattle.expressions.specs.code.Coded.{Holds}
 use Rattle.expressions.proofs.ListLaws.{made-next, made-part, made-all, holds-none}
 use Rattle.expressions.proofs.NodeLaws.{values-next}
 use Rattle.expressions.proofs.nodes.values.Statement.{statement}
@@ -26,11 +26,10 @@ long : (c : tie.Start Inv-loop μ-loop) → length (c .args .t1 .items) ≡ 256
 long c = sym (length-map (c .args .t1 .items) (the-type .to)) ∙ c .good .0 .1 .1 .1 .0 .1 .0 .1
 
 loop-holds : tie.Need-loop-holds Inv-loop μ-loop
-unfolding nodesOf valuesFrom
+unfolding valuesFrom
 loop-holds c = (refl, search needs, holds-none 256 false)
 
 loop-again : tie.Need-loop-again Inv-loop μ-loop
-unfolding nodesOf
 loop-again c =
     let l = c .before .before .before .before in
     let a = l .before in
@@ -43,7 +42,6 @@ loop-again c =
     (simp length-set (l .loop .inv .0), more, subst (λ (ns : List Node). Holds false (set (l .loop .out) (l .loop .i) (c .value .result)) (valuesFrom (s .args .facts) ns [])) (sym next) (values-next (s .args .facts) _ _ (l .loop .out) (l .loop .i) (c .value .result) part (omega arith) (l .loop .inv .2) (c .value .ensures)))
 
 returns : tie.Need-returns Inv-loop μ-loop
-unfolding nodesOf
 returns c =
     let a = c .before .before in
     let s = a .before in

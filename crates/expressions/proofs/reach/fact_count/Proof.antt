@@ -4,13 +4,11 @@ use lib.ListN.{length, length-map}
 use borrow.Author.Needs.{needs}
 use Rattle.records.proofs.plan.Fact.{the-type}
 use Rattle.records.specs.code.Decoded.{factOf}
-use Rattle.expressions.specs.code.Coded.{factsOf}
 use Rattle.expressions.proofs.ListLaws.{made-length}
 use Rattle.expressions.proofs.reach.fact_count.Statement.{statement}
 use Rattle.expressions.proofs.reach.fact_count.Tie as tie
 
 returns : tie.Need-returns
-unfolding factsOf
 returns c =
     let s = c .before in
     let long : length (s .args .facts .items) ≡ 64 = sym (length-map (s .args .facts .items) (the-type .to)) ∙ s .good .0 .1 .1 .1 .0 .1 .0 .1 in

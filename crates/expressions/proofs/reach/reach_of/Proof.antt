@@ -10,7 +10,7 @@ use Rattle.sets.specs.paper.Sets.{union, unionOf}
 use Rattle.records.specs.code.Decoded.{planOf}
 use Rattle.expressions.specs.paper.Nodes.{nodeUses}
 use Rattle.expressions.specs.paper.Influence.{usesAt, constraintUses, boundFacts, openDecisions, decisionTouches}
-use Rattle.expressions.specs.code.Coded.{nodesOf, factsOf, frameBy}
+use Rattle.expressions.specs.code.Coded.{frameBy}
 use Rattle.expressions.specs.code.Listed.{usedAt, ruleUses}
 use Rattle.expressions.proofs.FitLaws.{facts-fit}
 use Rattle.expressions.proofs.OpenLaws.{opens-number, open-few}
@@ -55,7 +55,7 @@ slice-aggregate-touches-2 : tie.Need-slice-aggregate-touches-2
 slice-aggregate-touches-2 c = sym (length-take-le _ _ (omega (arith, c .before .before .before .before .before .before .before .all-rules .ensures .few, c .before .before .before .before .before .before .before .all-rules .ensures .room .1)))
 
 touches-requires : tie.Need-touches-requires
-unfolding factsOf planOf
+unfolding planOf
 touches-requires c κs =
     let rules = c .before .before .before .before .before .before .before .all-rules in
     (facts-fit (planOf (c .before .before .before .before .before .before .before .before .before .before .before .before .before .before .before .args .plan)) (c .before .before .before .before .before .before .before .before .before .before .before .before .before .before .before .pre .0), length-take-le (rules .result) _ (omega (arith, rules .ensures .few, rules .ensures .room .0)) ∙ sym (length-take-le (rules .result) _ (omega (arith, rules .ensures .few, rules .ensures .room .1))))
@@ -67,7 +67,7 @@ decision-touches-requires : tie.Need-decision-touches-requires
 decision-touches-requires c κs = (c .before .before .before .before .before .before .before .before .before .before .before .before .before .before .before .before .before .pre .0, c .open-decisions .ensures)
 
 returns : tie.Need-returns
-unfolding nodesOf factsOf planOf nodeUses frameBy constraintUses decisionTouches
+unfolding planOf nodeUses frameBy constraintUses decisionTouches
 returns c =
     let s = c .before .before .before .before .before .before .before .before .before .before .before .before .before .before .before .before .before .before in
     let P = planOf (s .args .plan) in

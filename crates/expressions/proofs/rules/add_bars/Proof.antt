@@ -5,7 +5,6 @@ use native.Mathlib.Omega.{arith}
 use lib.ListN.{length-map}
 use borrow.Author.Needs.{needs}
 use Rattle.records.specs.code.Decoded.{barOf}
-use Rattle.expressions.specs.code.Coded.{barsOf}
 use Rattle.expressions.specs.code.Listed.{usedAt, barUsed, heldByBar}
 use Rattle.expressions.proofs.RuleLaws.{Adding, adding-none, adding-next, adding-end}
 use Rattle.expressions.proofs.rules.add_bars.Statement.{statement}
@@ -35,7 +34,6 @@ add-result : tie.Need-add-result Inv-loop μ-loop
 add-result c = omega (arith, c .before .before .upto .ensures .1, c .before .before .before .pre)
 
 returns : tie.Need-returns Inv-loop μ-loop
-unfolding barsOf
 returns c = (adding-end (c .before .loop .inv) (c .loop-test .left), omega (arith, c .before .before .upto .ensures .1))
 
 pub add-bars-spec : {M : Type 1} → statement M

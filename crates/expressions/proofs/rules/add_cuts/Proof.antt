@@ -5,7 +5,6 @@ use native.Mathlib.Omega.{arith}
 use lib.ListN.{length-map}
 use borrow.Author.Needs.{needs}
 use Rattle.records.specs.code.Decoded.{cutOf}
-use Rattle.expressions.specs.code.Coded.{cutsOf}
 use Rattle.expressions.specs.code.Listed.{usedAt, cutUsed, heldByCut}
 use Rattle.expressions.proofs.RuleLaws.{Adding, adding-none, adding-next, adding-end}
 use Rattle.expressions.proofs.rules.add_cuts.Statement.{statement}
@@ -35,7 +34,6 @@ add-result : tie.Need-add-result Inv-loop μ-loop
 add-result c = omega (arith, c .before .before .upto .ensures .1, c .before .before .before .pre)
 
 returns : tie.Need-returns Inv-loop μ-loop
-unfolding cutsOf
 returns c = (adding-end (c .before .loop .inv) (c .loop-test .left), omega (arith, c .before .before .upto .ensures .1))
 
 pub add-cuts-spec : {M : Type 1} → statement M

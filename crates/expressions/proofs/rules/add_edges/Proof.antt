@@ -4,7 +4,7 @@ use native.Mathlib.Omega.{arith}
 use lib.ListN.{length-map}
 use borrow.Author.Needs.{needs}
 use Rattle.records.specs.code.Decoded.{edgeOf}
-use Rattle.expressions.specs.code.Coded.{edgesOf, EndsFit}
+use Rattle.expressions.specs.code.Coded.{EndsFit}
 use Rattle.expressions.specs.paper.Rules.{endsOf}
 use Rattle.expressions.specs.paper.Influence.{edgeUsed}
 use Rattle.expressions.specs.code.Listed.{usedAt}
@@ -23,7 +23,7 @@ loop-holds : tie.Need-loop-holds Inv-loop μ-loop
 loop-holds c = adding-none (simp length-map at (c .before .good .1 .1 .1 .0 .1 .1 .1 .0 .1 .0 .1)) (c .upto .ensures .0)
 
 ends-requires : tie.Need-ends-requires Inv-loop μ-loop
-unfolding edgesOf edgeOf
+unfolding edgeOf
 ends-requires c κs = adding-each (c .before .before .before .loop .inv) EndsFit _ (c .before .before .loop-test .taken) (c .before .before .before .before .before .pre .1)
 
 add-push : tie.Need-add-push Inv-loop μ-loop
@@ -40,7 +40,6 @@ add-result : tie.Need-add-result Inv-loop μ-loop
 add-result c = omega (arith, c .before .before .upto .ensures .1, c .before .before .before .pre .0)
 
 returns : tie.Need-returns Inv-loop μ-loop
-unfolding edgesOf
 returns c = (adding-end (c .before .loop .inv) (c .loop-test .left), omega (arith, c .before .before .upto .ensures .1))
 
 pub add-edges-spec : {M : Type 1} → statement M

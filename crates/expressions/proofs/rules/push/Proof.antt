@@ -15,8 +15,8 @@ returns c =
     let i = s .args .at in
     let us = s .args .uses .now in
     let ps = s .args .persons .now in
-    let h : i < length us = omega (arith, c .before .before .whole .ensures, s .pre) in
-    let k : i < length ps = omega (arith, c .whole2 .ensures, s .pre) in
+    let h : i < length us = omega (arith, c .before .before .whole-176-words .ensures, s .pre) in
+    let k : i < length ps = omega (arith, c .whole-176-words2 .ensures, s .pre) in
     record {
       count = refl;
       uses = ap (λ (n : ℕ). take n (set us i (s .args .used))) (add-one i) ∙ take-suc-set us i (s .args .used) h;

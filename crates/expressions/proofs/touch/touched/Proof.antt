@@ -8,8 +8,8 @@ use Rattle.expressions.specs.code.Listed.{touchedBy}
 use Rattle.expressions.proofs.touch.touched.Statement.{statement}
 use Rattle.expressions.proofs.touch.touched.Tie as tie
 
-named-requires : tie.Need-named-requires
-named-requires c κs = c .before .before .before .before .pre .0
+named-persons-requires : tie.Need-named-persons-requires
+named-persons-requires c κs = c .before .before .before .before .pre .0
 
 users-requires : tie.Need-users-requires
 users-requires c κs = c .before .before .before .before .before .pre .1
@@ -22,14 +22,14 @@ returns c =
     let found = sym (c .before .before .before .before .before .contains .ensures) in
     let all : j .if1 .all ≡ only (has (s .args .constraints) (s .args .f)) (s .args .roster) =
     ⊎-elim (λ w. w .1 ∙ sym (ap (λ (b : Bool). only b (s .args .roster)) (found ∙ w .0 .taken))) (λ w. w .1 ∙ sym (ap (λ (b : Bool). only b (s .args .roster)) (found ∙ w .0 .left))) (j .if1 .came) in
-    c .union2 .ensures ∙ ap₂ union (c .before .before .before .named .ensures) (c .before .union .ensures ∙ ap₂ union all (c .before .before .users .ensures))
+    c .union2 .ensures ∙ ap₂ union (c .before .before .before .named-persons .ensures) (c .before .union .ensures ∙ ap₂ union all (c .before .before .users .ensures))
 
 pub touched-spec : {M : Type 1} → statement M
 touched-spec =
     tie.close
     (tie.spec
     (λ c κs. search needs)
-    named-requires
+    named-persons-requires
     users-requires
     (λ c κs. search needs)
     (λ c κs. search needs)

@@ -10,8 +10,8 @@ use borrow.Author.Needs.{needs}
 use Rattle.records.proofs.plan.Fact.{the-type}
 use Rattle.sets.specs.paper.Sets.{has, only, below, numbers}
 use Rattle.records.specs.paper.Plan.{Fact}
-use Rattle.records.specs.code.Decoded.{factOf}
-use Rattle.expressions.specs.code.Coded.{Holds, TupleFits, factsOf}
+use Rattle.records.specs.code.Decoded.{factOf, factsOf}
+use Rattle.expressions.specs.code.Coded.{Holds, TupleFits}
 use Rattle.expressions.specs.code.Listed.{touchedBy, touchBy, touchesBy}
 use Rattle.expressions.proofs.ListLaws.{made-length, made-at, made-each, holds-none, fill-next}
 use Rattle.expressions.proofs.touch.touches.Statement.{statement}
@@ -32,7 +32,6 @@ unfolding below numbers
 loop-holds c = (refl, search needs, holds-none 64 0)
 
 touched-requires : tie.Need-touched-requires Inv-loop μ-loop
-unfolding factsOf
 touched-requires c κs =
     let l = c .before .before .before .before in
     let a = c .before .before .before .before .before in
@@ -40,7 +39,7 @@ touched-requires c κs =
     (made-each factOf (s .args .t1 .items) (s .args .t1 .count) 64 (a .upto .result) (long s) (a .upto .ensures .0) TupleFits (l .loop .i) _ (search needs) (s .pre .0), s .pre .1)
 
 loop-again : tie.Need-loop-again Inv-loop μ-loop
-unfolding factsOf touchBy
+unfolding touchBy
 loop-again c =
     let l = c .before .before .before .before in
     let a = c .before .before .before .before .before in
@@ -57,7 +56,7 @@ loop-again c =
     (simp length-set (l .loop .inv .0), more, fill-next 0 (touchBy (g .uses .now) (g .persons .now) (g .constraints) (g .roster) (g .bound) (factsOf (g .t1))) (l .loop .out) i (c .if1 .t) (omega arith) (l .loop .inv .2) new)
 
 returns : tie.Need-returns Inv-loop μ-loop
-unfolding factsOf touchesBy
+unfolding touchesBy
 returns c =
     let l = c .before in
     let a = c .before .before in

@@ -7,9 +7,9 @@ use lib.ListN.{length, take, set, length-map, length-set}
 use borrow.Author.Needs.{needs}
 use Rattle.records.specs.paper.Plan.{Node}
 use Rattle.records.proofs.plan.Node.{the-type}
-use Rattle.records.specs.code.Decoded.{nodeOf}
+use Rattle.records.specs.code.Decoded.{nodeOf, nodesOf}
 use Rattle.expressions.specs.paper.Nodes.{usesFrom}
-use Rattle.expressions.specs.code.Coded.{Holds, FactFits, nodesOf}
+use Rattle.expressions.specs.code.Coded.{Holds, FactFits}
 use Rattle.expressions.proofs.ListLaws.{made-each, made-next, made-part, made-all, holds-none}
 use Rattle.expressions.proofs.NodeLaws.{uses-next}
 use Rattle.expressions.proofs.uses.node_uses.Statement.{statement}
@@ -25,11 +25,10 @@ long : (c : tie.Start Inv-loop μ-loop) → length (c .args .t1 .items) ≡ 256
 long c = sym (length-map (c .args .t1 .items) (the-type .to)) ∙ c .good .0 .1 .1 .1 .0 .1 .0 .1
 
 loop-holds : tie.Need-loop-holds Inv-loop μ-loop
-unfolding nodesOf usesFrom
+unfolding usesFrom
 loop-holds c = (refl, search needs, holds-none 256 0)
 
 node-use-requires : tie.Need-node-use-requires Inv-loop μ-loop
-unfolding nodesOf
 node-use-requires c κs =
     let l = c .before .before .before in
     let a = l .before in
@@ -37,7 +36,6 @@ node-use-requires c κs =
     made-each nodeOf (s .args .t1 .items) (s .args .t1 .count) 256 (a .upto .result) (long s) (a .upto .ensures .0) FactFits (l .loop .i) _ (search needs) (s .pre)
 
 loop-again : tie.Need-loop-again Inv-loop μ-loop
-unfolding nodesOf
 loop-again c =
     let l = c .before .before .before .before in
     let a = l .before in
@@ -50,7 +48,6 @@ loop-again c =
     (simp length-set (l .loop .inv .0), more, subst (λ (ns : List Node). Holds 0 (set (l .loop .out) (l .loop .i) (c .node-use .result)) (usesFrom ns [])) (sym next) (uses-next _ _ (l .loop .out) (l .loop .i) (c .node-use .result) part (omega arith) (l .loop .inv .2) (c .node-use .ensures)))
 
 returns : tie.Need-returns Inv-loop μ-loop
-unfolding nodesOf
 returns c =
     let a = c .before .before in
     let s = a .before in

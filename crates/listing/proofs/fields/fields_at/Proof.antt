@@ -1,9 +1,10 @@
--- `fields::fields_at`: the 29 bytes at a line's place.
+-- `fields::fields_at`: the bytes at a line's place.
 use mathlib.Core.Path.{_≡_, subst}
 use Prim.Native.Nat.{ℕ, _+_, _*_, _-_}
 use native.Mathlib.Omega.{arith}
 use lib.ListN.{take, drop}
 use denote.Ref.{now}
+use Rattle.report.specs.paper.Line.{lineLength}
 use Rattle.report.specs.paper.LineAt.{lineAt, decoded}
 use Rattle.listing.specs.Shown.{Shows}
 use borrow.Author.Needs.{needs}
@@ -14,8 +15,8 @@ returns : tie.Need-returns
 unfolding lineAt
 returns c =
     let a = c .before .before .before .args in
-    let e : 29 * a .k + 29 - 29 * a .k ≡ 29 = omega arith in
-    subst (λ (n : ℕ). Shows (decoded (take n (drop (29 * a .k) (now (a .lines))))) (c .fields-of .result)) e (c .fields-of .ensures)
+    let e : lineLength * a .k + lineLength - lineLength * a .k ≡ lineLength = omega arith in
+    subst (λ (n : ℕ). Shows (decoded (take n (drop (lineLength * a .k) (now (a .lines))))) (c .fields-of .result)) e (c .fields-of .ensures)
 
 pub fields-at-spec : {M : Type 1} → statement M
 fields-at-spec =

@@ -5,7 +5,7 @@ use Rattle.listing.proofs.rows.put_cell.Statement.{statement}
 use Rattle.listing.proofs.rows.put_cell.Tie as tie
 
 returns : tie.Need-returns
-returns c = cell-put _ _ _ _ _ (c .before .before .before .before .before .before .before .to-index .ensures .0) (c .before .before .before .before .before .before .put-number .ensures) (c .before .before .put .ensures)
+returns c = cell-put _ _ _ _ _ (c .before .before .before .before .before .before .before .wide .ensures .0) (c .before .before .before .before .before .before .put-number .ensures) (c .before .before .put .ensures)
 
 pub put-cell-spec : {M : Type 1} → statement M
 put-cell-spec =

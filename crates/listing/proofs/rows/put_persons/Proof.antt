@@ -1,42 +1,47 @@
--- `rows::put_persons`: with the persons from p on put, the block is put.
+-- `rows::put_persons`: with the persons left put, the block is put.
 use mathlib.Core.Path.{_≡_, refl, ap, _∙_}
-use mathlib.Core.Logic.{⊎-elim}
-use Prim.Native.Nat.{_≤_, _-_, zero-le}
+use mathlib.Core.Bool.{false}
 use lib.ListN.{length}
 use borrow.Author.Needs.{needs}
 use Rattle.sets.specs.paper.Sets.{members}
 use Rattle.listing.specs.Text.{persons}
 use Rattle.listing.specs.Page.{Page, puts}
-use Rattle.listing.proofs.PageLaws.{puts-length, page}
-use Rattle.listing.proofs.PersonLaws.{pending, from, turn-in, turn-out, none-put, all-put}
+use Rattle.listing.proofs.PageLaws.{puts-length}
+use Rattle.listing.proofs.PersonLaws.{pending, turn-put, none-put, all-put}
 use Rattle.listing.proofs.rows.put_persons.Statement.{statement}
 use Rattle.listing.proofs.rows.put_persons.Tie as tie
 
 abbrev Inv-loop : tie.InvT-loop
-Inv-loop out₀ at block next₀ rest₀ p₀ first₀ out next rest p first = (p ≤ 64) × (length out ≡ length out₀) × (_≡_ {A = Page} (puts (record { count = next; out = out }) (pending first (from p rest))) (puts (record { count = at; out = out₀ }) (persons (members block))))
+Inv-loop out₀ at block next₀ m₀ first₀ out next m first = (length out ≡ length out₀) × (_≡_ {A = Page} (puts (record { count = next; out = out }) (pending first (members m))) (puts (record { count = at; out = out₀ }) (persons (members block))))
 
 abbrev μ-loop : tie.MeasureT-loop
-μ-loop out₀ at block next₀ rest₀ p₀ first₀ out next rest p first = 64 - p
+μ-loop out₀ at block next₀ m₀ first₀ out next m first = m
 
 loop-holds : tie.Need-loop-holds Inv-loop μ-loop
-unfolding members
-loop-holds c = (zero-le, refl, refl)
+loop-holds c = (refl, refl)
+
+low-requires : tie.Need-low-requires Inv-loop μ-loop
+low-requires c κs = c .before .loop-test .taken
+
+others-requires : tie.Need-others-requires Inv-loop μ-loop
+others-requires c κs = c .before .before .before .before .before .loop-test .taken
+
+loop-less : tie.Need-loop-less Inv-loop μ-loop
+loop-less c = c .others .ensures .1
 
 loop-again : tie.Need-loop-again Inv-loop μ-loop
 loop-again c =
-    let l = c .before .before .loop in
-    let h = c .before .loop-test .taken in (
-      search needs,
-      ⊎-elim (λ w. ap (λ (p : Page). length (p .out)) (page (w .6) (w .5) ∙ w .2 .ensures) ∙ puts-length _ _ ∙ l .inv .1) (λ w. ap length (w .1) ∙ l .inv .1) (c .if1 .came),
-      ⊎-elim (λ w. turn-in _ _ (l .first) (c .if1 .first) (l .p) (l .rest) h (w .0 .taken) (page (w .6) (w .5) ∙ w .2 .ensures) (w .7) ∙ l .inv .2)
-          (λ w. turn-out _ _ (l .first) (c .if1 .first) (l .p) (l .rest) h (w .0 .left) (page (w .2) (w .1)) (w .3) ∙ l .inv .2) (c .if1 .came),
+    let l = c .before .before .before .before .before .before .before .loop in
+    let put = c .before .before .before .put-person in (
+      ap (λ (p : Page). length (p .out)) (put .ensures) ∙ puts-length _ _ ∙ l .inv .0,
+      turn-put _ _ (l .first) false _ (l .m) _ (c .before .before .before .before .low .ensures .0) (c .others .ensures .0) (put .ensures) refl ∙ l .inv .1,
     )
 
 returns : tie.Need-returns Inv-loop μ-loop
-returns c = let l = c .before .before .before .before .before .before .loop in none-put _ _ _ _ (l .p) (l .rest) (c .before .before .before .before .before .loop-test .left) (c .before .before .before .before .if2 .taken) (c .before .before .put .ensures) (l .inv .2)
+returns c = let l = c .before .before .before .before .before .before .loop in none-put _ _ _ (l .first) (l .m) (c .before .before .before .before .before .loop-test .left) (c .before .before .before .before .if1 .taken) (c .before .before .put .ensures) (l .inv .1)
 
 returns-2 : tie.Need-returns-2 Inv-loop μ-loop
-returns-2 c = let l = c .before .before .loop in all-put _ _ _ (l .p) (l .rest) (c .before .loop-test .left) (c .if2 .left) (l .inv .2)
+returns-2 c = let l = c .before .before .loop in all-put _ _ (l .first) (l .m) (c .before .loop-test .left) (c .if1 .left) (l .inv .1)
 
 pub put-persons-spec : {M : Type 1} → statement M
 put-persons-spec =
@@ -45,9 +50,10 @@ put-persons-spec =
     Inv-loop
     μ-loop
     loop-holds
+    low-requires
     (λ c κs. search needs)
-    (λ c. search needs)
-    (λ c. search needs)
+    others-requires
+    loop-less
     loop-again
     (λ c κs. search needs)
     (λ c. search needs)

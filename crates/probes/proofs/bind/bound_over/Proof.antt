@@ -6,7 +6,6 @@ use borrow.Author.Needs.{needs}
 use Rattle.records.specs.code.Decoded.{planOf, caseOf}
 use Rattle.expressions.specs.paper.Bindings.{bindings, bindingAt}
 use Rattle.expressions.specs.code.Codes.{boundOf}
-use Rattle.expressions.specs.code.Coded.{nodesOf}
 use Rattle.expressions.specs.declared.variables.Count.{Count}
 use Rattle.expressions.proofs.FitLaws.{nodes-fit}
 use Rattle.probes.specs.Entries.{refusalBy}
@@ -16,7 +15,7 @@ use Rattle.probes.proofs.bind.bound_over.Statement.{statement}
 use Rattle.probes.proofs.bind.bound_over.Tie as tie
 
 node-uses-requires : tie.Need-node-uses-requires
-unfolding nodesOf planOf
+unfolding planOf
 node-uses-requires c κs = let s = c .before .before in nodes-fit (planOf (s .args .plan)) (s .pre .0)
 
 reach-of-requires : tie.Need-reach-of-requires
@@ -49,7 +48,7 @@ returns c =
     let count = worlds-counted (s .args .plan) (s .args .case) (s .pre .0) (s .pre .1) (r .result) (r .ensures) (b .bindings .result) coded (w .count-worlds .result) (w .count-worlds .ensures) in
     record {
       codes = coded;
-      influence = i .influence-of .ensures
+      influence = i .influence-sets .ensures
           ∙ listed-sets (s .args .plan) (s .args .case) (s .pre .0) (s .pre .1) (r .result) (r .ensures) (b .bindings .result) coded (m .variables-of .result) (m .variables-of .ensures);
       order = v .variable-order .ensures
           ∙ in-order (s .args .plan) (s .args .case) (s .pre .0) (s .pre .1) (r .result) (r .ensures) (n .boolean-count .result) (n .boolean-count .ensures .0);

@@ -24,17 +24,17 @@ add-t12 : tie.Need-add-t12
 add-t12 c =
     let a = c .before .before .before .before .before .before .before .before .before .args in
     let rs = upTo (a .top) ∷ [] in
-    let n = c .before .before .to-index .ensures .0 in
+    let n = c .before .before .wide .ensures .0 in
     let h = list-stands (now (a .s)) (a .at) (a .limit) rs (seen fieldRead (c .before .before .before .before .before .before .byte-at .ensures) (c .before .before .before .before .count .given .1))
     (sym (c .if2 .taken) ∙ c .before .entries-stand .ensures ∙ ap (λ (k : ℕ). isGot (bytesAt (now (a .s)) (c .before .before .before .before .count .given .0 .1 .0) (repeat k rs))) n) in
-    let z : c .before .before .before .before .count .given .0 .1 .0 + c .before .before .to-index .result ≤ length (now (a .s)) = omega (arith, n, h .2) in
+    let z : c .before .before .before .before .count .given .0 .1 .0 + c .before .before .wide .result ≤ length (now (a .s)) = omega (arith, n, h .2) in
     search (needs, z)
 
 returns-3 : tie.Need-returns-3
 returns-3 c =
     let a = c .before .before .before .before .before .before .before .before .before .args in
     let rs = upTo (a .top) ∷ [] in
-    let n = c .before .before .to-index .ensures .0 in
+    let n = c .before .before .wide .ensures .0 in
     let h = list-stands (now (a .s)) (a .at) (a .limit) rs (seen fieldRead (c .before .before .before .before .before .before .byte-at .ensures) (c .before .before .before .before .count .given .1))
     (sym (c .if2 .taken) ∙ c .before .entries-stand .ensures ∙ ap (λ (k : ℕ). isGot (bytesAt (now (a .s)) (c .before .before .before .before .count .given .0 .1 .0) (repeat k rs))) n) in
     (rw (not-false (a .present) (c .before .before .before .before .before .before .before .if1 .left)) (ap₂ (λ (k m : ℕ). got (bytesFrom (now (a .s)) (c .before .before .before .before .count .given .0 .1 .0) k) m) (omega arith) (omega (arith, n)) ∙ h .0), (h .1, omega (arith, h .2)))
@@ -43,7 +43,7 @@ returns-4 : tie.Need-returns-4
 returns-4 c =
     let a = c .before .before .before .before .before .before .before .before .before .args in
     let rs = upTo (a .top) ∷ [] in
-    let n = c .before .before .to-index .ensures .0 in (
+    let n = c .before .before .wide .ensures .0 in (
       rw (not-false (a .present) (c .before .before .before .before .before .before .before .if1 .left)) (list-stands-not (now (a .s)) (a .at) (a .limit) rs (seen fieldRead (c .before .before .before .before .before .before .byte-at .ensures) (c .before .before .before .before .count .given .1))
           (sym (c .if2 .left) ∙ c .before .entries-stand .ensures ∙ ap (λ (k : ℕ). isGot (bytesAt (now (a .s)) (c .before .before .before .before .count .given .0 .1 .0) (repeat k rs))) n)),
       tt,

@@ -26,23 +26,23 @@ stand : (c : tie.After-pairs-stand) → let a = c .before .before .before .befor
 stand c =
     let a = c .before .before .before .before .before .before .before .before .args in
     c .pairs-stand .ensures
-    ∙ ap (λ (k : ℕ). isGot (bytesAt (now (a .s)) (c .before .before .before .count .given .0 .1 .0) (repeat k (upTo (a .top) ∷ record { low = a .low; top = a .high } ∷ [])))) (c .before .to-index .ensures .0)
+    ∙ ap (λ (k : ℕ). isGot (bytesAt (now (a .s)) (c .before .before .before .count .given .0 .1 .0) (repeat k (upTo (a .top) ∷ record { low = a .low; top = a .high } ∷ [])))) (c .before .wide .ensures .0)
 
 add-t15 : tie.Need-add-t15
 add-t15 c =
     let a = c .before .before .before .before .before .before .before .before .before .args in
     let rs = upTo (a .top) ∷ record { low = a .low; top = a .high } ∷ [] in
-    let n = c .before .before .to-index .ensures .0 in
+    let n = c .before .before .wide .ensures .0 in
     let h = list-stands (now (a .s)) (a .at) (a .limit) rs (seen fieldRead (c .before .before .before .before .before .before .byte-at .ensures) (c .before .before .before .before .count .given .1))
     (sym (c .if2 .taken) ∙ stand (c .before)) in
-    let z : c .before .before .before .before .count .given .0 .1 .0 + c .before .before .to-index .result * 2 ≤ length (now (a .s)) = omega (arith, n, h .2) in
+    let z : c .before .before .before .before .count .given .0 .1 .0 + c .before .before .wide .result * 2 ≤ length (now (a .s)) = omega (arith, n, h .2) in
     search (needs, z)
 
 returns-3 : tie.Need-returns-3
 returns-3 c =
     let a = c .before .before .before .before .before .before .before .before .before .args in
     let rs = upTo (a .top) ∷ record { low = a .low; top = a .high } ∷ [] in
-    let n = c .before .before .to-index .ensures .0 in
+    let n = c .before .before .wide .ensures .0 in
     let h = list-stands (now (a .s)) (a .at) (a .limit) rs (seen fieldRead (c .before .before .before .before .before .before .byte-at .ensures) (c .before .before .before .before .count .given .1))
     (sym (c .if2 .taken) ∙ stand (c .before)) in
     (rw (not-false (a .present) (c .before .before .before .before .before .before .before .if1 .left)) (ap (got (bytesFrom (now (a .s)) (c .before .before .before .before .count .given .0 .1 .0) (c .before .before .before .before .count .given .0 .0 * 2))) (omega (arith, n)) ∙ h .0), (h .1, h .2))
@@ -51,7 +51,7 @@ returns-4 : tie.Need-returns-4
 returns-4 c =
     let a = c .before .before .before .before .before .before .before .before .before .args in
     let rs = upTo (a .top) ∷ record { low = a .low; top = a .high } ∷ [] in
-    let n = c .before .before .to-index .ensures .0 in (
+    let n = c .before .before .wide .ensures .0 in (
       rw (not-false (a .present) (c .before .before .before .before .before .before .before .if1 .left)) (list-stands-not (now (a .s)) (a .at) (a .limit) rs (seen fieldRead (c .before .before .before .before .before .before .byte-at .ensures) (c .before .before .before .before .count .given .1))
           (sym (c .if2 .left) ∙ stand (c .before))),
       tt,

@@ -2,6 +2,7 @@
 use crate::case::Boolean;
 use crate::case::Booleans;
 use crate::case::Observations;
+use crate::fields::EVIDENCE;
 use crate::fields::Field;
 use crate::fields::Listed;
 use crate::fields::byte_at;
@@ -10,16 +11,18 @@ use crate::fields::lists::observations_from;
 use crate::fields::opt_at;
 use crate::fields::pairs_at;
 use crate::fields::passing::Passing;
+use crate::fields::passing::refused;
 ghost use mathlib.Core.Path.{_≡_};
 ghost use mathlib.Core.List.{[]};
-ghost use Prim.Native.Nat.{_≤_, _+_};
+ghost use Prim.Native.Nat.{_≤_, _+_, _*_, _/_, _%_};
 ghost use lib.ListN.{length};
+ghost use lib.Dec.{eqb};
 ghost use Rattle.records.specs.paper.Case.{caseFormats};
-ghost use Rattle.records.specs.code.Readers.{mapRead};
+ghost use Rattle.records.specs.code.Readers.{mapRead, bytesFrom};
 ghost use Rattle.records.specs.code.Passes.{rawOf, withBits, Passed};
-ghost use Rattle.records.specs.paper.Case.{booleanFrom};
+ghost use Rattle.records.specs.paper.Case.{booleanFrom, observationsFrom};
 ghost use Rattle.records.specs.code.CasePasses.{caseReading, booleanRead, booleanFits, withBooleans};
-ghost use Rattle.records.specs.code.Decoded.{booleansOf};
+ghost use Rattle.records.specs.code.Decoded.{ifGiven, booleanOf, booleansOf};
 
 // The bits, the fact, the evidence of its being unknown, where the observations stand and how many there are, and the place after them.
 pub enum BooleanSeen {
@@ -36,16 +39,31 @@ pub fn boolean_at(s: &[u8], at: usize) -> BooleanSeen
     let Field::Got(fact, p0) = opt_at(s, p, bits % 2 == 1, 0, 255) else {
         return BooleanSeen::Bad;
     };
-    let Field::Got(evidence, p1) = opt_at(s, p0, bits / 2 % 2 == 1, 0, 63) else {
+    let Field::Got(evidence, p1) = opt_at(s, p0, bits / 2 % 2 == 1, 0, EVIDENCE) else {
         return BooleanSeen::Bad;
     };
-    let Listed::Got(first, count, next) = pairs_at(s, p1, bits / 4 % 2 == 1, 16, 1, 0, 63) else {
+    let Listed::Got(first, count, next) = pairs_at(s, p1, bits / 4 % 2 == 1, 16, 1, 0, EVIDENCE)
+    else {
         return BooleanSeen::Bad;
     };
     if bits / 8 == 0 {
         return BooleanSeen::Got(bits, fact, evidence, first, count, next);
     }
     BooleanSeen::Bad
+}
+
+fn boolean_from(s: &[u8], bits: u8, fact: u8, evidence: u8, first: usize, count: u8) -> Boolean
+    requires { ⌜ (count ≤ 16) × (first + count * 2 ≤ length (now s)) ⌝ }
+    ensures { λ r.
+        ⌜ booleanOf r ≡ record { fact = fact; unknown = ifGiven (eqb (bits / 2 % 2) 1) evidence; observations = observationsFrom (bytesFrom (now (s .entry)) first (count * 2)) } ⌝ }
+{
+    let observations = observations_from(s, first, count);
+    Boolean {
+        fact: fact,
+        unknown: bits / 2 % 2 == 1,
+        evidence: evidence,
+        observations: observations,
+    }
 }
 
 pub struct BooleansRead {
@@ -88,21 +106,17 @@ pub fn read_booleans(s: &[u8], from: Passing) -> BooleansRead
         }
         let BooleanSeen::Got(bits, fact, evidence, first, count, next) = boolean_at(s, at + 1)
         else {
-            here.number = 1;
-            break;
+            return BooleansRead {
+                next: refused(here, 1),
+                booleans: booleans,
+            };
         };
         let n = booleans.count;
-        here.number = judged(n, 64, false, bits & 1 == 1, from.headed, true);
+        here.number = judged(n, 64, bits & 1 == 1, from.headed);
         if here.number != 0 {
             break;
         }
-        let observations = observations_from(s, first, count);
-        booleans.items[n] = Boolean {
-            fact: fact,
-            unknown: bits / 2 % 2 == 1,
-            evidence: evidence,
-            observations: observations,
-        };
+        booleans.items[n] = boolean_from(s, bits, fact, evidence, first, count);
         booleans.count = n + 1;
         here.at = next;
         here.record = here.record + 1;

@@ -5,6 +5,7 @@ use crate::fields::byte_at;
 use crate::fields::judge::judged;
 use crate::fields::opt_at;
 use crate::fields::passing::Passing;
+use crate::fields::passing::refused;
 ghost use mathlib.Core.Path.{_≡_};
 ghost use mathlib.Core.List.{[]};
 ghost use Prim.Native.Nat.{_≤_, _+_};
@@ -65,11 +66,13 @@ pub fn read_constraints(s: &[u8], from: Passing) -> ConstraintsRead
             break;
         }
         let ConstraintSeen::Got(bits, node, next) = constraint_at(s, at + 1) else {
-            here.number = 1;
-            break;
+            return ConstraintsRead {
+                next: refused(here, 1),
+                constraints: constraints,
+            };
         };
         let n = constraints.count;
-        here.number = judged(n, 16, false, bits & 1 == 1, from.headed, true);
+        here.number = judged(n, 16, bits & 1 == 1, from.headed);
         if here.number != 0 {
             break;
         }

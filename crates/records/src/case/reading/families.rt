@@ -1,11 +1,13 @@
 // Families: one record from its bit map on, and the pass over all of them.
 use crate::case::Families;
 use crate::case::Family;
+use crate::fields::EVIDENCE;
 use crate::fields::Field;
 use crate::fields::byte_at;
 use crate::fields::judge::judged;
 use crate::fields::opt_at;
 use crate::fields::passing::Passing;
+use crate::fields::passing::refused;
 ghost use mathlib.Core.Path.{_≡_};
 ghost use mathlib.Core.List.{[]};
 ghost use Prim.Native.Nat.{_≤_, _+_};
@@ -35,7 +37,7 @@ pub fn family_at(s: &[u8], at: usize) -> FamilySeen
     let Field::Got(scope, p1) = opt_at(s, p0, bits / 2 % 2 == 1, 0, 255) else {
         return FamilySeen::Bad;
     };
-    let Field::Got(evidence, next) = opt_at(s, p1, bits / 4 % 2 == 1, 0, 63) else {
+    let Field::Got(evidence, next) = opt_at(s, p1, bits / 4 % 2 == 1, 0, EVIDENCE) else {
         return FamilySeen::Bad;
     };
     if bits / 8 == 0 {
@@ -84,11 +86,13 @@ pub fn read_families(s: &[u8], from: Passing) -> FamiliesRead
             break;
         }
         let FamilySeen::Got(bits, family, next) = family_at(s, at + 1) else {
-            here.number = 1;
-            break;
+            return FamiliesRead {
+                next: refused(here, 1),
+                families: families,
+            };
         };
         let n = families.count;
-        here.number = judged(n, 16, false, bits & 1 == 1, from.headed, true);
+        here.number = judged(n, 16, bits & 1 == 1, from.headed);
         if here.number != 0 {
             break;
         }

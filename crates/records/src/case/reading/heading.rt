@@ -1,5 +1,6 @@
 // The heading of a case: one record from its bit map on, and the pass over all of them.
 use crate::case::CaseHeading;
+use crate::fields::EVIDENCE;
 use crate::fields::Field;
 use crate::fields::Short;
 use crate::fields::Wide;
@@ -9,6 +10,7 @@ use crate::fields::mask_at;
 use crate::fields::opt_at;
 use crate::fields::passing::Passing;
 use crate::fields::passing::at_start;
+use crate::fields::passing::refused;
 use crate::fields::short_at;
 ghost use mathlib.Core.Path.{_≡_};
 ghost use Prim.Native.Nat.{_≤_};
@@ -43,7 +45,7 @@ pub fn heading_at(s: &[u8], at: usize) -> HeadingSeen
     let Wide::Got(roster, p4) = mask_at(s, p2, bits / 16 % 2 == 1) else {
         return HeadingSeen::Bad;
     };
-    let Field::Got(evidence, p5) = opt_at(s, p4, bits / 32 % 2 == 1, 0, 63) else {
+    let Field::Got(evidence, p5) = opt_at(s, p4, bits / 32 % 2 == 1, 0, EVIDENCE) else {
         return HeadingSeen::Bad;
     };
     let Short::Got(most, next) = short_at(s, p5, bits / 64 % 2 == 1) else {
@@ -101,10 +103,13 @@ pub fn read_case_heading(s: &[u8]) -> CaseHeadingRead
             break;
         }
         let HeadingSeen::Got(bits, seen, next) = heading_at(s, at + 1) else {
-            here.number = 1;
-            break;
+            return CaseHeadingRead {
+                next: refused(here, 1),
+                headings: headings,
+                heading: heading,
+            };
         };
-        here.number = judged(headings, 1, false, bits & 81 == 81, true, true);
+        here.number = judged(headings, 1, bits & 81 == 81, true);
         if here.number != 0 {
             break;
         }

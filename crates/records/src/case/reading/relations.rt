@@ -1,11 +1,13 @@
 // Relations: one record from its bit map on, and the pass over all of them.
 use crate::case::Relation;
 use crate::case::Relations;
+use crate::fields::EVIDENCE;
 use crate::fields::Field;
 use crate::fields::byte_at;
 use crate::fields::judge::judged;
 use crate::fields::opt_at;
 use crate::fields::passing::Passing;
+use crate::fields::passing::refused;
 ghost use mathlib.Core.Path.{_≡_};
 ghost use mathlib.Core.List.{[]};
 ghost use Prim.Native.Nat.{_≤_, _+_};
@@ -35,7 +37,7 @@ pub fn relation_at(s: &[u8], at: usize) -> RelationSeen
     let Field::Got(value, p1) = opt_at(s, p0, bits / 2 % 2 == 1, 0, 1) else {
         return RelationSeen::Bad;
     };
-    let Field::Got(evidence, next) = opt_at(s, p1, bits / 4 % 2 == 1, 0, 63) else {
+    let Field::Got(evidence, next) = opt_at(s, p1, bits / 4 % 2 == 1, 0, EVIDENCE) else {
         return RelationSeen::Bad;
     };
     if bits / 8 == 0 {
@@ -82,11 +84,13 @@ pub fn read_relations(s: &[u8], from: Passing) -> RelationsRead
             break;
         }
         let RelationSeen::Got(bits, relation, next) = relation_at(s, at + 1) else {
-            here.number = 1;
-            break;
+            return RelationsRead {
+                next: refused(here, 1),
+                relations: relations,
+            };
         };
         let n = relations.count;
-        here.number = judged(n, 256, false, bits & 7 == 7, from.headed, true);
+        here.number = judged(n, 256, bits & 7 == 7, from.headed);
         if here.number != 0 {
             break;
         }

@@ -1,6 +1,6 @@
 // The decisions of a cut: whether an edge is decided twice, and how many are unresolved.
-use crate::fields::to_index;
 use crate::plan::Decisions;
+use sets::numbers::wide;
 ghost use mathlib.Core.Path.{_≡_};
 ghost use Prim.Native.Nat.{_≤_, _-_, _+_};
 ghost use lib.Dec.{eqb};
@@ -14,7 +14,7 @@ fn decided_from(d: Decisions, edge: u8, i: usize) -> bool
     requires { ⌜ (d .count ≤ 64) × (i ≤ d .count) ⌝ }
     ensures { λ r. ⌜ r ≡ anyOf (λ e. eqb (e .edge) edge) (decisionsLeft d i) ⌝ }
 {
-    let n = to_index(d.count);
+    let n = wide(d.count);
     let mut j = i;
     while j < n {
         if d.edges[j] == edge {
@@ -29,7 +29,7 @@ pub fn decided_once(d: Decisions) -> bool
     requires { ⌜ d .count ≤ 64 ⌝ }
     ensures { λ r. ⌜ r ≡ decidedOnce (decisionsOf d) ⌝ }
 {
-    let n = to_index(d.count);
+    let n = wide(d.count);
     let mut i: usize = 0;
     while i < n {
         if decided_from(d, d.edges[i], i + 1) {
@@ -44,7 +44,7 @@ pub fn unresolved_in(d: Decisions) -> usize
     requires { ⌜ d .count ≤ 64 ⌝ }
     ensures { λ r. ⌜ (r ≡ unresolvedIn (decisionsOf d)) × (r ≤ 64) ⌝ }
 {
-    let n = to_index(d.count);
+    let n = wide(d.count);
     let mut total: usize = 0;
     let mut i: usize = 0;
     while i < n {

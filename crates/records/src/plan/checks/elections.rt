@@ -9,7 +9,7 @@ use crate::plan::Election;
 use crate::plan::Plan;
 use crate::plan::counts::Counts;
 use crate::plan::counts::count_records;
-use crate::plan::counts::wide;
+use sets::numbers::wide;
 ghost use mathlib.Core.Path.{_≡_};
 ghost use mathlib.Core.Bool.{cond};
 ghost use Rattle.records.specs.paper.Fields.{fine, firstFault};

@@ -1,6 +1,6 @@
 // The order of facts: booleans first, then rising by family and tuple, a prefix first.
-use crate::fields::to_index;
 use crate::plan::Fact;
+use sets::numbers::wide;
 ghost use mathlib.Core.Path.{_≡_};
 ghost use mathlib.Core.Bool.{true};
 ghost use Prim.Native.Nat.{_≤_};
@@ -13,8 +13,8 @@ pub fn tuple_less(a: [u8; 4], m: u8, b: [u8; 4], n: u8) -> bool
     requires { ⌜ (m ≤ 4) × (n ≤ 4) ⌝ }
     ensures { λ r. ⌜ r ≡ lexLess (take m a) (take n b) ⌝ }
 {
-    let j = to_index(m);
-    let k = to_index(n);
+    let j = wide(m);
+    let k = wide(n);
     let mut i: usize = 0;
     while i < j {
         if k <= i {

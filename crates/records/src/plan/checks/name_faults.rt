@@ -14,8 +14,8 @@ use crate::plan::checks::naming::edge_sound;
 use crate::plan::checks::naming::node_sound;
 use crate::plan::counts::Counts;
 use crate::plan::counts::count_records;
-use crate::plan::counts::least;
-use crate::plan::counts::wide;
+use sets::numbers::upto;
+use sets::numbers::wide;
 ghost use mathlib.Core.Path.{_≡_};
 ghost use Prim.Native.Nat.{_≤_};
 ghost use Rattle.records.specs.paper.Fields.{fine, firstFault};
@@ -28,7 +28,7 @@ fn node_faults(facts: usize, nodes: Nodes, first: usize) -> Checked
     requires { ⌜ first ≤ 1000 ⌝ }
     ensures { λ r. ⌜ NodesNamed facts nodes first r ⌝ }
 {
-    let count = least(nodes.count, 256);
+    let count = upto(nodes.count, 256);
     let mut k: usize = 0;
     while k < count {
         if !node_sound(facts, k, nodes.items[k]) {
@@ -46,7 +46,7 @@ fn edge_faults(nodes: usize, edges: Edges, first: usize) -> Checked
     requires { ⌜ first ≤ 1000 ⌝ }
     ensures { λ r. ⌜ EdgesNamed nodes edges first r ⌝ }
 {
-    let count = least(edges.count, 64);
+    let count = upto(edges.count, 64);
     let mut k: usize = 0;
     while k < count {
         if !edge_sound(nodes, edges.items[k]) {
@@ -64,7 +64,7 @@ fn cut_faults(booleans: u64, counts: Counts, cuts: Cuts, first: usize) -> Checke
     requires { ⌜ first ≤ 1000 ⌝ }
     ensures { λ r. ⌜ CutsNamed booleans counts cuts first r ⌝ }
 {
-    let count = least(cuts.count, 16);
+    let count = upto(cuts.count, 16);
     let mut k: usize = 0;
     while k < count {
         if !cut_sound(booleans, counts, cuts.items[k]) {
@@ -82,7 +82,7 @@ fn attachment_faults(booleans: u64, nodes: usize, attachments: Attachments, firs
     requires { ⌜ first ≤ 1000 ⌝ }
     ensures { λ r. ⌜ AttachmentsNamed booleans nodes attachments first r ⌝ }
 {
-    let count = least(attachments.count, 32);
+    let count = upto(attachments.count, 32);
     let mut k: usize = 0;
     while k < count {
         if !attachment_sound(booleans, nodes, attachments.items[k]) {
@@ -100,7 +100,7 @@ fn bar_faults(nodes: usize, bars: Bars, first: usize) -> Checked
     requires { ⌜ first ≤ 1000 ⌝ }
     ensures { λ r. ⌜ BarsNamed nodes bars first r ⌝ }
 {
-    let count = least(bars.count, 32);
+    let count = upto(bars.count, 32);
     let mut k: usize = 0;
     while k < count {
         if wide(bars.items[k].condition) >= nodes {
@@ -118,7 +118,7 @@ fn status_faults(nodes: usize, statuses: Statuses, first: usize) -> Checked
     requires { ⌜ first ≤ 1000 ⌝ }
     ensures { λ r. ⌜ StatusesNamed nodes statuses first r ⌝ }
 {
-    let count = least(statuses.count, 32);
+    let count = upto(statuses.count, 32);
     let mut k: usize = 0;
     while k < count {
         if wide(statuses.items[k].condition) >= nodes {

@@ -8,10 +8,10 @@ use crate::plan::Facts;
 use crate::plan::Node;
 use crate::plan::Numbers;
 use crate::plan::counts::Counts;
-use crate::plan::counts::least;
-use crate::plan::counts::wide;
 use sets::bit;
 use sets::contains;
+use sets::numbers::upto;
+use sets::numbers::wide;
 use sets::union;
 ghost use mathlib.Core.Path.{_≡_};
 ghost use Prim.Native.Nat.{ℕ, _<_, _≤_};
@@ -25,7 +25,7 @@ pub fn all_under(n: Numbers, bound: usize) -> bool
     ensures { λ r. ⌜ r ≡ allUnder bound (numbersOf n) ⌝ }
 {
     let items = n.items;
-    let count = least(wide(n.count), 16);
+    let count = upto(wide(n.count), 16);
     let mut i: usize = 0;
     while i < count {
         if wide(items[i]) >= bound {
@@ -67,7 +67,7 @@ pub fn edge_sound(nodes: usize, edge: Edge) -> bool
 pub fn boolean_facts(facts: Facts) -> u64
     ensures { λ r. ⌜ BooleanFacts facts r ⌝ }
 {
-    let count = least(facts.count, 64);
+    let count = upto(facts.count, 64);
     let mut m: u64 = 0;
     let mut k: usize = 0;
     while k < count {

@@ -1,6 +1,8 @@
 // Attachments: one record from its bit map on, and the pass over all of them.
+use crate::fields::CITATION;
 use crate::fields::Elected;
 use crate::fields::Field;
+use crate::fields::PERSON;
 use crate::fields::Wide;
 use crate::fields::byte_at;
 use crate::fields::election_at;
@@ -9,6 +11,7 @@ use crate::fields::mask_at;
 use crate::fields::no_election;
 use crate::fields::opt_at;
 use crate::fields::passing::Passing;
+use crate::fields::passing::refused;
 use crate::plan::Attachment;
 use crate::plan::Attachments;
 ghost use mathlib.Core.Path.{_≡_};
@@ -36,13 +39,13 @@ pub fn attachment_at(s: &[u8], at: usize) -> AttachmentSeen
     let Wide::Got(members, p0) = mask_at(s, p, bits % 2 == 1) else {
         return AttachmentSeen::Bad;
     };
-    let Field::Got(anchor, p1) = opt_at(s, p0, bits / 2 % 2 == 1, 0, 63) else {
+    let Field::Got(anchor, p1) = opt_at(s, p0, bits / 2 % 2 == 1, 0, PERSON) else {
         return AttachmentSeen::Bad;
     };
     let Field::Got(condition, p2) = opt_at(s, p1, bits / 4 % 2 == 1, 0, 255) else {
         return AttachmentSeen::Bad;
     };
-    let Field::Got(citation, p3) = opt_at(s, p2, bits / 8 % 2 == 1, 0, 63) else {
+    let Field::Got(citation, p3) = opt_at(s, p2, bits / 8 % 2 == 1, 0, CITATION) else {
         return AttachmentSeen::Bad;
     };
     let Field::Got(actor, p4) = opt_at(s, p3, bits / 16 % 2 == 1, 1, 255) else {
@@ -102,11 +105,13 @@ pub fn read_attachments(s: &[u8], from: Passing) -> AttachmentsRead
             break;
         }
         let AttachmentSeen::Got(bits, attachment, next) = attachment_at(s, at + 1) else {
-            here.number = 1;
-            break;
+            return AttachmentsRead {
+                next: refused(here, 1),
+                attachments: attachments,
+            };
         };
         let n = attachments.count;
-        here.number = judged(n, 32, false, bits & 31 == 31, from.headed, true);
+        here.number = judged(n, 32, bits & 31 == 31, from.headed);
         if here.number != 0 {
             break;
         }

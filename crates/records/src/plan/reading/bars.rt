@@ -1,4 +1,5 @@
 // Bars: one record from its bit map on, and the pass over all of them.
+use crate::fields::CITATION;
 use crate::fields::Field;
 use crate::fields::Wide;
 use crate::fields::byte_at;
@@ -6,6 +7,7 @@ use crate::fields::judge::judged;
 use crate::fields::mask_at;
 use crate::fields::opt_at;
 use crate::fields::passing::Passing;
+use crate::fields::passing::refused;
 use crate::plan::Bar;
 use crate::plan::Bars;
 ghost use mathlib.Core.Path.{_≡_};
@@ -37,7 +39,7 @@ pub fn bar_at(s: &[u8], at: usize) -> BarSeen
     let Field::Got(condition, p1) = opt_at(s, p0, bits / 2 % 2 == 1, 0, 255) else {
         return BarSeen::Bad;
     };
-    let Field::Got(citation, next) = opt_at(s, p1, bits / 4 % 2 == 1, 0, 63) else {
+    let Field::Got(citation, next) = opt_at(s, p1, bits / 4 % 2 == 1, 0, CITATION) else {
         return BarSeen::Bad;
     };
     if bits / 8 == 0 {
@@ -84,11 +86,13 @@ pub fn read_bars(s: &[u8], from: Passing) -> BarsRead
             break;
         }
         let BarSeen::Got(bits, bar, next) = bar_at(s, at + 1) else {
-            here.number = 1;
-            break;
+            return BarsRead {
+                next: refused(here, 1),
+                bars: bars,
+            };
         };
         let n = bars.count;
-        here.number = judged(n, 32, false, bits & 7 == 7, from.headed, true);
+        here.number = judged(n, 32, bits & 7 == 7, from.headed);
         if here.number != 0 {
             break;
         }

@@ -1,11 +1,12 @@
 // Cuts: one record from its bit map on, and the pass over all of them.
+use crate::fields::CITATION;
 use crate::fields::Elected;
 use crate::fields::Field;
 use crate::fields::Listed;
 use crate::fields::Wide;
 use crate::fields::byte_at;
 use crate::fields::election_at;
-use crate::fields::judge::judged;
+use crate::fields::judge::judged_fully;
 use crate::fields::list_at;
 use crate::fields::lists::decisions_from;
 use crate::fields::lists::numbers_from;
@@ -14,6 +15,7 @@ use crate::fields::no_election;
 use crate::fields::opt_at;
 use crate::fields::pairs_at;
 use crate::fields::passing::Passing;
+use crate::fields::passing::refused;
 use crate::plan::Cut;
 use crate::plan::Cuts;
 use crate::plan::Decisions;
@@ -22,16 +24,16 @@ use crate::plan::Numbers;
 use crate::plan::checks::decisions::decided_once;
 use crate::plan::checks::decisions::unresolved_in;
 ghost use mathlib.Core.Path.{_≡_};
-ghost use mathlib.Core.Bool.{true, false};
+ghost use mathlib.Core.Bool.{true, false, _&&_};
 ghost use mathlib.Core.List.{[]};
-ghost use Prim.Native.Nat.{_≤_};
+ghost use Prim.Native.Nat.{_≤_, _<_};
 ghost use lib.ListN.{length};
 ghost use lib.Dec.{ltb};
 ghost use Rattle.sets.specs.paper.Sets.{allOf};
 ghost use Rattle.records.specs.paper.Plan as paper;
 ghost use Rattle.records.specs.code.Readers.{mapRead};
-ghost use Rattle.records.specs.code.Passes.{rawOf, withBits, Passed};
-ghost use Rattle.records.specs.code.Decoded.{cutOf, cutsOf};
+ghost use Rattle.records.specs.code.Passes.{rawOf, withBits, Passed, fullJudgement};
+ghost use Rattle.records.specs.code.Decoded.{decisionsOf, cutOf, cutsOf};
 ghost use Rattle.records.specs.code.PlanPasses.{planReading, cutRead, cutFits, withCuts, cutSeen, cutAnswerFits};
 
 // The fields of a cut; where the decisions stand and how many there are, the same of the cuts that it precedes.
@@ -64,7 +66,7 @@ pub fn cut_at(s: &[u8], at: usize) -> CutSeen
     let Field::Got(condition, p1) = opt_at(s, p0, bits / 2 % 2 == 1, 0, 255) else {
         return CutSeen::Bad;
     };
-    let Field::Got(citation, p2) = opt_at(s, p1, bits / 4 % 2 == 1, 0, 63) else {
+    let Field::Got(citation, p2) = opt_at(s, p1, bits / 4 % 2 == 1, 0, CITATION) else {
         return CutSeen::Bad;
     };
     let Elected::Got(election, p3) = election_at(s, p2, bits / 8 % 2 == 1) else {
@@ -107,6 +109,15 @@ fn cut_from(s: &[u8], fields: CutFields) -> Cut
         decisions: decisions,
         precedes: precedes,
     }
+}
+
+// What is wrong with a cut after n others, when `total` decisions are unresolved, its own among them.
+fn cut_judged(n: usize, total: usize, fits: bool, headed: bool, decisions: Decisions) -> u8
+    requires { ⌜ decisions .count ≤ 64 ⌝ }
+    ensures { λ r. ⌜ (r ≡ fullJudgement n 16 (ltb 16 total) (fits && headed) (paper.decidedOnce (decisionsOf decisions))) × (r ≡ 0 → n < 16) ⌝ }
+{
+    let once = decided_once(decisions);
+    judged_fully(n, 16, 16 < total, fits, headed, once)
 }
 
 pub struct CutsRead {
@@ -157,15 +168,15 @@ pub fn read_cuts(s: &[u8], from: Passing) -> CutsRead
             break;
         }
         let CutSeen::Got(bits, fields, next) = cut_at(s, at + 1) else {
-            here.number = 1;
-            break;
+            return CutsRead {
+                next: refused(here, 1),
+                cuts: cuts,
+            };
         };
         let n = cuts.count;
         let cut = cut_from(s, fields);
-        let decisions = cut.decisions;
-        let total = pending + unresolved_in(decisions);
-        let once = decided_once(decisions);
-        here.number = judged(n, 16, 16 < total, bits & 7 == 7, from.headed, once);
+        let total = pending + unresolved_in(cut.decisions);
+        here.number = cut_judged(n, total, bits & 7 == 7, from.headed, cut.decisions);
         if here.number != 0 {
             break;
         }

@@ -1,12 +1,15 @@
 // Edges: one record from its bit map on, and the pass over all of them.
+use crate::fields::CITATION;
 use crate::fields::Field;
 use crate::fields::Listed;
+use crate::fields::PERSON;
 use crate::fields::byte_at;
 use crate::fields::judge::judged;
 use crate::fields::list_at;
 use crate::fields::lists::numbers_from;
 use crate::fields::opt_at;
 use crate::fields::passing::Passing;
+use crate::fields::passing::refused;
 use crate::plan::Edge;
 use crate::plan::Edges;
 use crate::plan::Numbers;
@@ -42,16 +45,16 @@ pub fn edge_at(s: &[u8], at: usize) -> EdgeSeen
     let Field::Got(bits, p) = byte_at(s, at, 0, 255) else {
         return EdgeSeen::Bad;
     };
-    let Field::Got(left, p0) = opt_at(s, p, bits % 2 == 1, 0, 63) else {
+    let Field::Got(left, p0) = opt_at(s, p, bits % 2 == 1, 0, PERSON) else {
         return EdgeSeen::Bad;
     };
-    let Field::Got(right, p1) = opt_at(s, p0, bits / 2 % 2 == 1, 0, 63) else {
+    let Field::Got(right, p1) = opt_at(s, p0, bits / 2 % 2 == 1, 0, PERSON) else {
         return EdgeSeen::Bad;
     };
     let Field::Got(condition, p2) = opt_at(s, p1, bits / 4 % 2 == 1, 0, 255) else {
         return EdgeSeen::Bad;
     };
-    let Field::Got(citation, p3) = opt_at(s, p2, bits / 8 % 2 == 1, 0, 63) else {
+    let Field::Got(citation, p3) = opt_at(s, p2, bits / 8 % 2 == 1, 0, CITATION) else {
         return EdgeSeen::Bad;
     };
     let Listed::Got(first, count, next) = list_at(s, p3, bits / 16 % 2 == 1, 16, 255) else {
@@ -126,11 +129,13 @@ pub fn read_edges(s: &[u8], from: Passing) -> EdgesRead
             break;
         }
         let EdgeSeen::Got(bits, fields, next) = edge_at(s, at + 1) else {
-            here.number = 1;
-            break;
+            return EdgesRead {
+                next: refused(here, 1),
+                edges: edges,
+            };
         };
         let n = edges.count;
-        here.number = judged(n, 64, false, bits & 15 == 15, from.headed, true);
+        here.number = judged(n, 64, bits & 15 == 15, from.headed);
         if here.number != 0 {
             break;
         }

@@ -1,12 +1,14 @@
 // Facts: one record from its bit map on, and the pass over all of them.
 use crate::fields::Field;
 use crate::fields::Listed;
+use crate::fields::PERSON;
 use crate::fields::byte_at;
-use crate::fields::judge::judged;
+use crate::fields::judge::judged_fully;
 use crate::fields::list_at;
 use crate::fields::lists::tuple_from;
 use crate::fields::opt_at;
 use crate::fields::passing::Passing;
+use crate::fields::passing::refused;
 use crate::plan::Fact;
 use crate::plan::Facts;
 use crate::plan::checks::fact_order::fact_rises;
@@ -38,7 +40,7 @@ pub fn fact_at(s: &[u8], at: usize) -> FactSeen
     let Field::Got(family, p0) = opt_at(s, p, bits % 2 == 1, 0, 255) else {
         return FactSeen::Bad;
     };
-    let Listed::Got(first, count, next) = list_at(s, p0, bits / 2 % 2 == 1, 4, 63) else {
+    let Listed::Got(first, count, next) = list_at(s, p0, bits / 2 % 2 == 1, 4, PERSON) else {
         return FactSeen::Bad;
     };
     if bits / 4 == 0 {
@@ -104,13 +106,15 @@ pub fn read_facts(s: &[u8], from: Passing) -> FactsRead
             break;
         }
         let FactSeen::Got(bits, family, first, count, next) = fact_at(s, at + 1) else {
-            here.number = 1;
-            break;
+            return FactsRead {
+                next: refused(here, 1),
+                facts: facts,
+            };
         };
         let n = facts.count;
         let fact = fact_from(s, bits, family, first, count);
         let rises = fact_rises(last, fact);
-        here.number = judged(n, 64, false, both_or_none(bits), from.headed, rises);
+        here.number = judged_fully(n, 64, false, both_or_none(bits), from.headed, rises);
         if here.number != 0 {
             break;
         }

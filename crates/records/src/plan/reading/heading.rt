@@ -1,10 +1,12 @@
 // The heading: one record from its bit map on, and the pass over all of them.
+use crate::fields::CITATION;
 use crate::fields::Field;
 use crate::fields::byte_at;
 use crate::fields::judge::judged;
 use crate::fields::opt_at;
 use crate::fields::passing::Passing;
 use crate::fields::passing::at_start;
+use crate::fields::passing::refused;
 ghost use mathlib.Core.Path.{_≡_};
 ghost use Prim.Native.Nat.{_≤_};
 ghost use lib.Dec.{eqb};
@@ -30,7 +32,7 @@ pub fn heading_at(s: &[u8], at: usize) -> HeadingSeen
     let Field::Got(relation, p0) = opt_at(s, p, bits % 2 == 1, 0, 255) else {
         return HeadingSeen::Bad;
     };
-    let Field::Got(chain, next) = opt_at(s, p0, bits / 2 % 2 == 1, 0, 63) else {
+    let Field::Got(chain, next) = opt_at(s, p0, bits / 2 % 2 == 1, 0, CITATION) else {
         return HeadingSeen::Bad;
     };
     if bits / 4 == 0 {
@@ -45,6 +47,25 @@ pub struct HeadingRead {
     pub relation: u8,
     pub chained: bool,
     pub chain: u8,
+}
+
+// What the pass hands on when it ends early.
+fn heading_read(
+    next: Passing,
+    headings: usize,
+    relation: u8,
+    chained: bool,
+    chain: u8,
+) -> HeadingRead
+    ensures { λ r. ⌜ r ≡ record { next = next; headings = headings; relation = relation; chained = chained; chain = chain } ⌝ }
+{
+    HeadingRead {
+        next: next,
+        headings: headings,
+        relation: relation,
+        chained: chained,
+        chain: chain,
+    }
 }
 
 pub fn read_heading(s: &[u8]) -> HeadingRead
@@ -63,10 +84,9 @@ pub fn read_heading(s: &[u8]) -> HeadingRead
             break;
         }
         let HeadingSeen::Got(bits, named, cited, next) = heading_at(s, at + 1) else {
-            here.number = 1;
-            break;
+            return heading_read(refused(here, 1), headings, relation, chained, chain);
         };
-        here.number = judged(headings, 1, false, bits & 1 == 1, true, true);
+        here.number = judged(headings, 1, bits & 1 == 1, true);
         if here.number != 0 {
             break;
         }

@@ -7,10 +7,11 @@ use crate::fields::list_at;
 use crate::fields::lists::numbers_from;
 use crate::fields::opt_at;
 use crate::fields::passing::Passing;
-use crate::fields::to_u64;
+use crate::fields::passing::refused;
 use crate::plan::Node;
 use crate::plan::Nodes;
 use crate::plan::Numbers;
+use sets::numbers::to_u64;
 ghost use mathlib.Core.Path.{_≡_};
 ghost use mathlib.Core.List.{[]};
 ghost use Prim.Native.Nat.{_≤_, _+_};
@@ -165,11 +166,13 @@ pub fn read_nodes(s: &[u8], from: Passing) -> NodesRead
             break;
         }
         let NodeSeen::Got(bits, fields, next) = node_at(s, at + 1) else {
-            here.number = 1;
-            break;
+            return NodesRead {
+                next: refused(here, 1),
+                nodes: nodes,
+            };
         };
         let n = nodes.count;
-        here.number = judged(n, 256, false, one_bit(bits), from.headed, true);
+        here.number = judged(n, 256, one_bit(bits), from.headed);
         if here.number != 0 {
             break;
         }

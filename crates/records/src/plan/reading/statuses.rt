@@ -1,9 +1,12 @@
 // Statuses: one record from its bit map on, and the pass over all of them.
+use crate::fields::CITATION;
 use crate::fields::Field;
+use crate::fields::PERSON;
 use crate::fields::byte_at;
 use crate::fields::judge::judged;
 use crate::fields::opt_at;
 use crate::fields::passing::Passing;
+use crate::fields::passing::refused;
 use crate::plan::Status;
 use crate::plan::Statuses;
 ghost use mathlib.Core.Path.{_≡_};
@@ -29,13 +32,13 @@ pub fn status_at(s: &[u8], at: usize) -> StatusSeen
     let Field::Got(bits, p) = byte_at(s, at, 0, 255) else {
         return StatusSeen::Bad;
     };
-    let Field::Got(person, p0) = opt_at(s, p, bits % 2 == 1, 0, 63) else {
+    let Field::Got(person, p0) = opt_at(s, p, bits % 2 == 1, 0, PERSON) else {
         return StatusSeen::Bad;
     };
     let Field::Got(condition, p1) = opt_at(s, p0, bits / 2 % 2 == 1, 0, 255) else {
         return StatusSeen::Bad;
     };
-    let Field::Got(citation, next) = opt_at(s, p1, bits / 4 % 2 == 1, 0, 63) else {
+    let Field::Got(citation, next) = opt_at(s, p1, bits / 4 % 2 == 1, 0, CITATION) else {
         return StatusSeen::Bad;
     };
     if bits / 8 == 0 {
@@ -82,11 +85,13 @@ pub fn read_statuses(s: &[u8], from: Passing) -> StatusesRead
             break;
         }
         let StatusSeen::Got(bits, status, next) = status_at(s, at + 1) else {
-            here.number = 1;
-            break;
+            return StatusesRead {
+                next: refused(here, 1),
+                statuses: statuses,
+            };
         };
         let n = statuses.count;
-        here.number = judged(n, 32, false, bits & 7 == 7, from.headed, true);
+        here.number = judged(n, 32, bits & 7 == 7, from.headed);
         if here.number != 0 {
             break;
         }

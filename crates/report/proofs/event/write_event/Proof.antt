@@ -7,15 +7,16 @@ use lib.ListN.{length, take, drop}
 use lib.Seq.{take-all}
 use borrow.Author.Needs.{needs}
 use denote.Ref.{now}
+use Rattle.report.specs.paper.EventList.{eventLength}
 use Rattle.report.proofs.EventLaws.{copied, copied-long, event-length}
 use Rattle.report.proofs.event.write_event.Statement.{statement}
 use Rattle.report.proofs.event.write_event.Tie as tie
 
 abbrev Inv-loop : tie.InvT-loop
-Inv-loop rest₀ bytes i₀ rest i = (i ≤ 12) × (length bytes ≡ 12) × (rest ≡ take i bytes ++ drop i rest₀)
+Inv-loop rest₀ bytes i₀ rest i = (i ≤ eventLength) × (length bytes ≡ eventLength) × (rest ≡ take i bytes ++ drop i rest₀)
 
 abbrev μ-loop : tie.MeasureT-loop
-μ-loop rest₀ bytes i₀ rest i = 12 - i
+μ-loop rest₀ bytes i₀ rest i = eventLength - i
 
 loop-holds : tie.Need-loop-holds Inv-loop μ-loop
 loop-holds c = (omega arith, ap length (c .encode-event .ensures) ∙ event-length _ _ _ _ _, refl)
@@ -44,8 +45,8 @@ same-length c =
 returns : tie.Need-returns Inv-loop μ-loop
 returns c =
     let l = c .before .loop in
-    let k : l .i ≡ 12 = omega arith in
-    l .inv .2 ∙ (rw (k, take-all 12 (c .before .before .encode-event .result) (omega arith), c .before .before .encode-event .ensures))
+    let k : l .i ≡ eventLength = omega arith in
+    l .inv .2 ∙ (rw (k, take-all eventLength (c .before .before .encode-event .result) (omega arith), c .before .before .encode-event .ensures))
 
 pub write-event-spec : {M : Type 1} → statement M
 write-event-spec =

@@ -13,6 +13,7 @@ use Rattle.records.proofs.plan.Cut.{the-type}
 use Rattle.expressions.specs.code.Influences.{setsOf}
 use Rattle.expressions.specs.paper.Rules.{cutCount}
 use Rattle.expressions.proofs.ListLaws.{made-length}
+use Rattle.report.specs.paper.EventList.{eventLength}
 use Rattle.report.specs.code.EventsWritten.{eventCount}
 use Rattle.report.proofs.FinishLaws.{none, over, told, rule-events}
 use Rattle.report.proofs.finish.finish.Statement.{statement}
@@ -64,7 +65,7 @@ mul-if3 c =
 
 -- too much: one did not fit, or all do not
 much : (c : tie.Joined2) → let s = start (c .before) in
-    (s .args .walked .listing .full ≡ true) ⊎ (length (s .args .events .now) < 12 * (c .before .count-events .result + s .args .walked .listing .count))
+    (s .args .walked .listing .full ≡ true) ⊎ (length (s .args .events .now) < eventLength * (c .before .count-events .result + s .args .walked .listing .count))
 much c = ⊎-elim (λ t. inl (t .taken)) (λ t. inr (ltb-true _ _ (t .1 .taken))) (c .if2 .came)
 
 returns-2 : tie.Need-returns-2
@@ -92,7 +93,7 @@ write-events-requires c κs =
     let z = c .before .before .before .before .before .before .before .before .before .before in
     let s = start z in
     let e = counted z in
-    let h = ltb-false (length (s .args .events .now)) (12 * (z .count-events .result + s .args .walked .listing .count)) (c .before .before .before .before .before .before .before .before .if3 .left) in
+    let h = ltb-false (length (s .args .events .now)) (eventLength * (z .count-events .result + s .args .walked .listing .count)) (c .before .before .before .before .before .before .before .before .if3 .left) in
     (rule-events (s .args .wanted) (s .pre) (length (s .args .events .now)) (omega arith), h)
 
 returns-3 : tie.Need-returns-3
@@ -102,7 +103,7 @@ returns-3 c =
     let s = start z in
     let w = c .before .before .before .before .before .before .before .write-open in
     let e = c .before .before .before .write-events in
-    let h = ltb-false (length (s .args .events .now)) (12 * (z .count-events .result + s .args .walked .listing .count)) (c .before .before .before .before .before .before .before .before .before .before .before .before .if3 .left) in
+    let h = ltb-false (length (s .args .events .now)) (eventLength * (z .count-events .result + s .args .walked .listing .count)) (c .before .before .before .before .before .before .before .before .before .before .before .before .if3 .left) in
     told (s .args .wanted) (s .pre) (z .count-events .result) (s .args .walked .listing .count) (w .last .0) (e .last .0) (c .size .result) (z .before .before .before .before .if1 .left) (counted z) refl
     (c .before .before .before .before .before .before .before .before .before .before .before .before .before .if2 .left) h (w .ensures) (e .ensures) (c .size .ensures)
 

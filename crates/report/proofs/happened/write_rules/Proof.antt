@@ -10,7 +10,6 @@ use Rattle.expressions.specs.code.Evident.{EvidenceBy}
 use Rattle.records.specs.declared.plan.Plan.{Plan}
 use Rattle.records.specs.declared.case.Case.{Case}
 use Rattle.records.proofs.plan.Cut.{the-type}
-use Rattle.expressions.specs.code.Coded.{edgesOf, cutsOf, attachmentsOf, statusesOf}
 use Rattle.expressions.specs.paper.Rules.{cutCount}
 use Rattle.expressions.proofs.ListLaws.{made-length}
 use Rattle.report.proofs.HappenedLaws.{Frozen, frozen-room, frozen-next, Applied, applied-room, applied-next, Blocked, blocked-room, blocked-next, Clashed, clashed-room, clashed-next, Attached, attached-room, attached-next, Barred, barred-room, barred-next, Excluded, excluded-room, excluded-next, Defaulted, defaulted-room, defaulted-next, all-written}
@@ -59,17 +58,17 @@ evident : (c : tie.After-write-frozen) → EvidenceBy (caseOf (start c .args .ca
 evident c = counted c .before .evidence-by-fact .ensures
 
 frozen : (c : tie.After-write-frozen) → At Frozen (start c) (c .write-frozen .last .0) (c .write-frozen .result)
-unfolding planOf edgesOf
+unfolding planOf
 frozen c = let r = start c .pre in frozen-next _ _ _ _ _ _ r (c .write-frozen .ensures _ refl (r .edges))
 
 applied : (c : tie.After-write-applied) → At Applied (start (from-applied c)) (c .write-applied .last .0) (c .write-applied .result)
-unfolding planOf cutsOf
+unfolding planOf
 applied c =
     let r = start (from-applied c) .pre in
     applied-next _ _ _ _ _ _ r (frozen (c .before .before .before .before .before .before)) (c .write-applied .ensures _ _ refl (evident (from-applied c)) (r .cuts))
 
 blocked : (c : tie.After-write-blocked) → At Blocked (start (from-blocked c)) (c .write-blocked .last .0) (c .write-blocked .result)
-unfolding planOf cutsOf
+unfolding planOf
 blocked c =
     let r = start (from-blocked c) .pre in
     blocked-next _ _ _ _ _ _ r (applied (c .before .before .before .before .before .before)) (c .write-blocked .ensures _ _ refl (evident (from-blocked c)) (cuts-counted (counted (from-blocked c))) (r .blocked))
@@ -80,7 +79,7 @@ clashed c =
     clashed-next _ _ _ _ _ _ r (blocked (c .before .before .before .before .before)) (c .write-clashes .ensures _ (cuts-counted (counted (from-clashes c))) (r .clashed))
 
 attached : (c : tie.After-write-attachments) → At Attached (start (from-attachments c)) (c .write-attachments .last .0) (c .write-attachments .result)
-unfolding planOf attachmentsOf
+unfolding planOf
 attached c =
     let r = start (from-attachments c) .pre in
     attached-next _ _ _ _ _ _ r (clashed (c .before .before .before .before .before .before)) (c .write-attachments .ensures _ _ refl (evident (from-attachments c)) (r .attachments))
@@ -91,13 +90,13 @@ barred c =
     barred-next _ _ _ _ _ _ r (attached (c .before .before .before .before .before)) (c .write-bars .ensures _ (r .bars))
 
 excluded : (c : tie.After-write-statuses) → At Excluded (start (from-statuses c)) (c .write-statuses .last .0) (c .write-statuses .result)
-unfolding planOf statusesOf
+unfolding planOf
 excluded c =
     let r = start (from-statuses c) .pre in
     excluded-next _ _ _ _ _ _ r (barred (c .before .before .before .before .before)) (c .write-statuses .ensures _ refl (r .statuses))
 
 defaulted : (c : tie.After-write-defaults) → At Defaulted (start (from-statuses (c .before .before .before .before))) (c .write-defaults .last .0) (c .write-defaults .result)
-unfolding planOf cutsOf attachmentsOf
+unfolding planOf
 defaulted c =
     let r = start (from-statuses (c .before .before .before .before)) .pre in
     defaulted-next _ _ _ _ _ _ r (excluded (c .before .before .before .before)) (c .write-defaults .ensures _ refl refl (r .facts))

@@ -11,6 +11,7 @@ use Rattle.records.specs.paper.Plan.{Plan}
 use Rattle.records.specs.code.Decoded.{caseHeadingOf}
 use Rattle.sets.proofs.SetLaws.{size-le}
 use Rattle.expressions.specs.paper.Rules.{rulePersons}
+use Rattle.report.specs.paper.Line.{lineLength}
 use Rattle.report.specs.paper.Operations.{relationOf, mismatched}
 use Rattle.report.proofs.HeadingLaws.{other-relation, no-scope, no-segment, no-roster, by-persons, fault-8, fault-9, fault-last}
 use Rattle.report.proofs.heading.heading_fault.Statement.{statement}
@@ -84,7 +85,7 @@ returns-4 c =
     record {
       at = λ P e k. fault-last P (caseHeadingOf (a .heading)) (a .room) true (not-false _ (one .if1 .left))
           (passed five P e k ∙ ap not (sym (six .before .subset .ensures)) ∙ six .if6 .left)
-          (ap (λ (n : ℕ). ltb (a .room) (29 * n)) (sym (c .before .size .ensures)) ∙ lt-ltb _ _ (c .if7 .taken));
+          (ap (λ (n : ℕ). ltb (a .room) (lineLength * n)) (sym (c .before .size .ensures)) ∙ lt-ltb _ _ (c .if7 .taken));
     }
 
 returns-5 : tie.Need-returns-5
@@ -97,7 +98,7 @@ returns-5 c =
     record {
       at = λ P e k. fault-last P (caseHeadingOf (a .heading)) (a .room) false (not-false _ (one .if1 .left))
           (passed five P e k ∙ ap not (sym (six .before .subset .ensures)) ∙ six .if6 .left)
-          (ap (λ (n : ℕ). ltb (a .room) (29 * n)) (sym (c .before .size .ensures)) ∙ le-ltb _ _ (c .if7 .left));
+          (ap (λ (n : ℕ). ltb (a .room) (lineLength * n)) (sym (c .before .size .ensures)) ∙ le-ltb _ _ (c .if7 .left));
     }
 
 pub heading-fault-spec : {M : Type 1} → statement M

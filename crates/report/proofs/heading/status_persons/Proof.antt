@@ -5,8 +5,8 @@ use lib.ListN.{length, drop, length-map}
 use borrow.Author.Needs.{needs}
 use Rattle.records.proofs.plan.Status.{the-type}
 use Rattle.sets.specs.paper.Sets.{union, unionOf}
-use Rattle.records.specs.code.Decoded.{statusOf}
-use Rattle.expressions.specs.code.Coded.{statusesOf, PersonFits}
+use Rattle.records.specs.code.Decoded.{statusOf, statusesOf}
+use Rattle.expressions.specs.code.Coded.{PersonFits}
 use Rattle.expressions.specs.code.Listed.{heldByStatus}
 use Rattle.expressions.proofs.ListLaws.{made-each}
 use Rattle.sets.proofs.UnionLaws.{none-union, union-first, union-end}
@@ -27,7 +27,7 @@ loop-holds : tie.Need-loop-holds Inv-loop μ-loop
 loop-holds c = (search needs, none-union _)
 
 bit-requires : tie.Need-bit-requires Inv-loop μ-loop
-unfolding statusesOf statusOf
+unfolding statusOf
 bit-requires c κs =
     let l = c .before .before in
     let a = l .before in
@@ -35,7 +35,7 @@ bit-requires c κs =
     made-each statusOf (s .args .t1 .items) (s .args .t1 .count) 32 (a .upto .result) (long s) (a .upto .ensures .0) PersonFits (l .loop .i) _ (search needs) (s .pre)
 
 loop-again : tie.Need-loop-again Inv-loop μ-loop
-unfolding statusesOf statusOf union
+unfolding statusOf union
 loop-again c =
     let l = c .before .before .before in
     let a = l .before in
@@ -48,7 +48,6 @@ loop-again c =
     )
 
 returns : tie.Need-returns Inv-loop μ-loop
-unfolding statusesOf
 returns c =
     let l = c .before in
     let a = l .before in

@@ -6,9 +6,8 @@ use lib.ListN.{length-take, length-drop}
 use borrow.Author.Needs.{needs}
 use Rattle.records.specs.paper.Plan.{Plan, Cut}
 use Rattle.records.specs.paper.Case.{Case}
-use Rattle.records.specs.code.Decoded.{cutOf}
+use Rattle.records.specs.code.Decoded.{cutOf, cutsOf}
 use Rattle.expressions.specs.code.Evident.{EvidenceBy}
-use Rattle.expressions.specs.code.Coded.{cutsOf}
 use Rattle.expressions.specs.paper.Rules.{cutCount, cut}
 use Rattle.report.specs.code.EventBytes.{Below}
 use Rattle.worlds.specs.paper.Events.{event, electionActor, electionEvidence}
@@ -73,7 +72,7 @@ loop-again c =
     let r = writing-room _ _ _ _ _ _ _ (l .inv) (c .before .before .before .before .before .before .before .before .before .before .loop-test .taken) (c .before .before .before .before .before .before .before .before .before .before .before .before .before .pre .0) in
     writing-next _ _ _ _ _ _ _ (l .inv) _ _ _ _ _ _ _ _ (c .before .before .before .before .before .before .before .before .before .low .ensures) (c .others .ensures) r (c .before .before .before .write-event .ensures)
     (λ x. ap₂ (λ (y z : ℕ). event 2 t y 0 z) (c .before .before .before .before .before .before .actor-of .ensures) (c .before .before .before .before .before .election-evidence .ensures (x .1) (x .3))
-    ∙ ap (λ (k : Cut). event 2 t (electionActor (k .election)) 0 (electionEvidence (x .1) (k .election))) (cut-read (x .0) t _ _ (x .2) (x .4 t (writing-has _ _ _ _ _ _ _ (l .inv) t (c .before .before .before .before .before .before .before .before .before .before .loop-test .taken) (c .before .before .before .before .before .before .before .before .before .low .ensures)))))
+    ∙ ap (λ (k : Cut). event 2 t (electionActor (k .election)) 0 (electionEvidence (x .1) (k .election))) (cut-read (x .0) t (c .before .before .before .before .before .before .before .before .before .before .before .before .before .args .t3) _ (x .2) (x .4 t (writing-has _ _ _ _ _ _ _ (l .inv) t (c .before .before .before .before .before .before .before .before .before .before .loop-test .taken) (c .before .before .before .before .before .before .before .before .before .low .ensures)))))
 
 same-length : tie.Need-same-length Inv-loop μ-loop
 same-length c = c .before .loop .inv .long

@@ -5,9 +5,8 @@ use lib.ListN.{length-take, length-drop}
 use borrow.Author.Needs.{needs}
 use Rattle.records.specs.paper.Plan.{Plan, Attachment}
 use Rattle.records.specs.paper.Case.{Case}
-use Rattle.records.specs.code.Decoded.{attachmentOf}
+use Rattle.records.specs.code.Decoded.{attachmentOf, attachmentsOf}
 use Rattle.expressions.specs.code.Evident.{EvidenceBy}
-use Rattle.expressions.specs.code.Coded.{attachmentsOf}
 use Rattle.expressions.specs.paper.Rules.{attachmentCount, attachment}
 use Rattle.report.specs.code.EventBytes.{Below}
 use Rattle.worlds.specs.paper.Events.{event, electionEvidence}
@@ -72,7 +71,7 @@ loop-again c =
     let r = writing-room _ _ _ _ _ _ _ (l .inv) (c .before .before .before .before .before .before .before .before .before .loop-test .taken) (c .before .before .before .before .before .before .before .before .before .before .before .before .pre .0) in
     writing-next _ _ _ _ _ _ _ (l .inv) _ _ _ _ _ _ _ _ (c .before .before .before .before .before .before .before .before .low .ensures) (c .others .ensures) r (c .before .before .before .write-event .ensures)
     (λ x. ap (event 5 t _ _) (c .before .before .before .before .before .election-evidence .ensures (x .1) (x .3))
-    ∙ ap (λ (a : Attachment). event 5 t (a .anchor) (a .actor) (electionEvidence (x .1) (a .election))) (attachment-read (x .0) t _ _ (x .2) (x .4 t (writing-has _ _ _ _ _ _ _ (l .inv) t (c .before .before .before .before .before .before .before .before .before .loop-test .taken) (c .before .before .before .before .before .before .before .before .low .ensures)))))
+    ∙ ap (λ (a : Attachment). event 5 t (a .anchor) (a .actor) (electionEvidence (x .1) (a .election))) (attachment-read (x .0) t (c .before .before .before .before .before .before .before .before .before .before .before .before .args .t3) _ (x .2) (x .4 t (writing-has _ _ _ _ _ _ _ (l .inv) t (c .before .before .before .before .before .before .before .before .before .loop-test .taken) (c .before .before .before .before .before .before .before .before .low .ensures)))))
 
 same-length : tie.Need-same-length Inv-loop μ-loop
 same-length c = c .before .loop .inv .long

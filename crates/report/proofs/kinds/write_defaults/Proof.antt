@@ -82,7 +82,7 @@ same-length c = c .before .loop .inv .long
 
 returns-2 : tie.Need-returns-2 Inv-loop μ-loop
 unfolding defaultOver
-returns-2 c = λ P e k b. writes-listed _ _ _ _ (c .before .before .before .before .before .fits .defaults .fits) b (writing-end _ _ _ _ _ _ _ (c .before .loop .inv) (c .loop-test .left) (P, c .before .before .elect .ensures P e k, b))
+returns-2 c = λ P e k b. writes-listed _ _ _ _ (c .before .before .before .before .before .fits .defaults .fits) b (writing-end _ _ _ _ _ _ _ (c .before .loop .inv) (c .loop-test .left) (P, c .before .before .election-policies .ensures P e k, b))
 
 pub write-defaults-spec : {M : Type 1} → statement M
 write-defaults-spec =

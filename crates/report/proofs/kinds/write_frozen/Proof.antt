@@ -4,8 +4,7 @@ use native.Mathlib.Omega.{arith}
 use lib.ListN.{length-take, length-drop}
 use borrow.Author.Needs.{needs}
 use Rattle.records.specs.paper.Plan.{Plan, Edge}
-use Rattle.records.specs.code.Decoded.{edgeOf}
-use Rattle.expressions.specs.code.Coded.{edgesOf}
+use Rattle.records.specs.code.Decoded.{edgeOf, edgesOf}
 use Rattle.expressions.specs.paper.Rules.{edgeCount, edge}
 use Rattle.report.specs.code.EventBytes.{Below}
 use Rattle.worlds.specs.paper.Events.{event}
@@ -69,7 +68,7 @@ loop-again c =
     let t = c .before .before .before .before .before .before .low .result in
     let r = writing-room _ _ _ _ _ _ _ (l .inv) (c .before .before .before .before .before .before .before .loop-test .taken) (c .before .before .before .before .before .before .before .before .before .before .pre) in
     writing-next _ _ _ _ _ _ _ (l .inv) _ _ _ _ _ _ _ _ (c .before .before .before .before .before .before .low .ensures) (c .others .ensures) r (c .before .before .before .write-event .ensures)
-    (λ x. ap (λ (e : Edge). event 1 t (e .left) (e .right) 0) (edge-read (x .0) t _ _ (x .1) (x .2 t (writing-has _ _ _ _ _ _ _ (l .inv) t (c .before .before .before .before .before .before .before .loop-test .taken) (c .before .before .before .before .before .before .low .ensures)))))
+    (λ x. ap (λ (e : Edge). event 1 t (e .left) (e .right) 0) (edge-read (x .0) t (c .before .before .before .before .before .before .before .before .before .before .args .t3) _ (x .1) (x .2 t (writing-has _ _ _ _ _ _ _ (l .inv) t (c .before .before .before .before .before .before .before .loop-test .taken) (c .before .before .before .before .before .before .low .ensures)))))
 
 same-length : tie.Need-same-length Inv-loop μ-loop
 same-length c = c .before .loop .inv .long

@@ -7,7 +7,7 @@ use lib.ListN.{length, length-take, length-drop}
 use borrow.Author.Needs.{needs}
 use denote.Ref.{now}
 use Rattle.sets.specs.paper.Sets.{members}
-use Rattle.report.specs.paper.Line.{lineBytes, bareLine}
+use Rattle.report.specs.paper.Line.{lineBytes, bareLine, lineLength}
 use Rattle.report.proofs.WriteLaws.{Filled, fill-none, fill-room, fill-next, fill-end, line-length}
 use Rattle.report.proofs.line.write_bare.Statement.{statement}
 use Rattle.report.proofs.line.write_bare.Tie as tie
@@ -22,7 +22,7 @@ abbrev μ-loop : tie.MeasureT-loop
 μ-loop lines₀ persons kind at₀ m₀ lines at m = m
 
 -- in the loop a line fits
-room : (k : tie.In-loop Inv-loop μ-loop) → k .before .loop .at + 29 ≤ length (k .before .loop .lines)
+room : (k : tie.In-loop Inv-loop μ-loop) → k .before .loop .at + lineLength ≤ length (k .before .loop .lines)
 room k = fill-room (bare (k .before .before .before .args .kind)) (k .before .before .before .args .persons) (k .before .loop .inv) (k .loop-test .taken) (k .before .before .before .pre)
 
 loop-holds : tie.Need-loop-holds Inv-loop μ-loop

@@ -7,16 +7,17 @@ use lib.ListN.{length, take, drop}
 use lib.Seq.{take-all}
 use borrow.Author.Needs.{needs}
 use denote.Ref.{now}
+use Rattle.report.specs.paper.Line.{lineLength}
 use Rattle.report.specs.code.Written.{lineFrom}
 use Rattle.report.proofs.WriteLaws.{copied, copied-long, line-length}
 use Rattle.report.proofs.line.write_line.Statement.{statement}
 use Rattle.report.proofs.line.write_line.Tie as tie
 
 abbrev Inv-loop : tie.InvT-loop
-Inv-loop rest₀ bytes i₀ rest i = (i ≤ 29) × (length bytes ≡ 29) × (rest ≡ take i bytes ++ drop i rest₀)
+Inv-loop rest₀ bytes i₀ rest i = (i ≤ lineLength) × (length bytes ≡ lineLength) × (rest ≡ take i bytes ++ drop i rest₀)
 
 abbrev μ-loop : tie.MeasureT-loop
-μ-loop rest₀ bytes i₀ rest i = 29 - i
+μ-loop rest₀ bytes i₀ rest i = lineLength - i
 
 loop-holds : tie.Need-loop-holds Inv-loop μ-loop
 loop-holds c = (omega arith, ap length (c .encode .ensures) ∙ line-length (lineFrom (c .before .before .args .l)), refl)
@@ -51,8 +52,8 @@ returns : tie.Need-returns Inv-loop μ-loop
 returns c =
     let l = c .before .loop in
     let bytes = c .before .before .encode .result in
-    let k : l .i ≡ 29 = omega arith in
-    l .inv .2 ∙ (rw (k, take-all 29 bytes (omega arith), c .before .before .encode .ensures))
+    let k : l .i ≡ lineLength = omega arith in
+    l .inv .2 ∙ (rw (k, take-all lineLength bytes (omega arith), c .before .before .encode .ensures))
 
 pub write-line-spec : {M : Type 1} → statement M
 write-line-spec =

@@ -9,7 +9,7 @@ use borrow.Author.Needs.{needs}
 use denote.Ref.{now}
 use Rattle.sets.specs.paper.Sets.{has, members}
 use Rattle.worlds.specs.paper.View.{View}
-use Rattle.report.specs.paper.Line.{lineBytes, lineOver}
+use Rattle.report.specs.paper.Line.{lineBytes, lineOver, lineLength}
 use Rattle.report.specs.code.Written.{SumsOf, lineFrom}
 use Rattle.report.proofs.WriteLaws.{Filled, fill-none, fill-room, fill-has, fill-next, fill-end, line-length, holding-lt}
 use Rattle.report.proofs.lines.write_lines.Statement.{statement}
@@ -29,7 +29,7 @@ abbrev μ-loop : tie.MeasureT-loop
 μ-loop lines₀ sums persons facts decisions at₀ m₀ lines at m = m
 
 -- in the loop a line fits
-room : (k : tie.In-loop Inv-loop μ-loop) → k .before .loop .at + 29 ≤ length (k .before .loop .lines)
+room : (k : tie.In-loop Inv-loop μ-loop) → k .before .loop .at + lineLength ≤ length (k .before .loop .lines)
 room k =
     let a = k .before .before .before .before .before .args in
     fill-room (over (a .persons) (now (a .sums)) (now (a .facts)) (now (a .decisions))) (a .persons) (k .before .loop .inv) (k .loop-test .taken)
@@ -43,25 +43,22 @@ loop-holds c =
 low-requires : tie.Need-low-requires Inv-loop μ-loop
 low-requires c κs = c .loop-test .taken
 
-cast-holding : tie.Need-cast-holding Inv-loop μ-loop
-cast-holding c = omega (arith, c .low .ensures .1)
+cast-unresolved-for-person : tie.Need-cast-unresolved-for-person Inv-loop μ-loop
+cast-unresolved-for-person c = omega (arith, c .low .ensures .1)
 
-holding-requires : tie.Need-holding-requires Inv-loop μ-loop
-holding-requires c κs = c .before .before .before .before .before .before .pre .1
+unresolved-for-person-requires : tie.Need-unresolved-for-person-requires Inv-loop μ-loop
+unresolved-for-person-requires c κs = c .before .before .before .before .before .before .pre .1
 
-cast-holding-2 : tie.Need-cast-holding-2 Inv-loop μ-loop
-cast-holding-2 c = omega (arith, c .before .low .ensures .1)
+cast-unresolved-for-person-2 : tie.Need-cast-unresolved-for-person-2 Inv-loop μ-loop
+cast-unresolved-for-person-2 c = omega (arith, c .before .low .ensures .1)
 
-holding-requires-2 : tie.Need-holding-requires-2 Inv-loop μ-loop
-holding-requires-2 c κs = omega (arith, c .before .before .before .before .before .before .before .pre .2)
+unresolved-for-person-requires-2 : tie.Need-unresolved-for-person-requires-2 Inv-loop μ-loop
+unresolved-for-person-requires-2 c κs = omega (arith, c .before .before .before .before .before .before .before .pre .2)
 
 cast-line-of : tie.Need-cast-line-of Inv-loop μ-loop
 cast-line-of c =
     let k = c .before .before .before .before .before .before .before .before in
-    omega (arith, c .holding2 .ensures, holding-lt (now (k .args .decisions)) (c .before .before .low .result) 16 (k .pre .2))
-
-line-of-requires : tie.Need-line-of-requires Inv-loop μ-loop
-line-of-requires c κs = c .before .before .low .ensures .1
+    omega (arith, c .unresolved-for-person2 .ensures, holding-lt (now (k .args .decisions)) (c .before .before .low .result) 16 (k .pre .2))
 
 sub-write-line : tie.Need-sub-write-line Inv-loop μ-loop
 sub-write-line c = omega (arith, room (c .before .before .before .before))
@@ -98,7 +95,7 @@ loop-again c =
     (line-length (lineFrom (line .result)))
     (λ w. ap lineBytes (line .ensures .at (record { facts = now (a .facts); decisions = now (a .decisions) }) (w .0 (low .result)) (w .1 (low .result))
     (w .2 (low .result) (fill-has f (a .persons) inv (low .result) (c .others .result) next small))
-    (c .before .before .before .before .before .before .before .holding .ensures) (c .before .before .before .before .before .before .holding2 .ensures))))
+    (c .before .before .before .before .before .before .before .unresolved-for-person .ensures) (c .before .before .before .before .before .before .unresolved-for-person2 .ensures))))
 
 same-length : tie.Need-same-length Inv-loop μ-loop
 same-length c = c .before .loop .inv .long
@@ -116,12 +113,12 @@ write-lines-spec =
     μ-loop
     loop-holds
     low-requires
-    cast-holding
-    holding-requires
-    cast-holding-2
-    holding-requires-2
+    cast-unresolved-for-person
+    unresolved-for-person-requires
+    cast-unresolved-for-person-2
+    unresolved-for-person-requires-2
     cast-line-of
-    line-of-requires
+    (λ c κs. search needs)
     sub-write-line
     part-write-line-start
     (λ c. search needs)

@@ -8,19 +8,21 @@ use mir.Syntax.{w8}
 use borrow.Kind.Array.{eInt, good-length}
 use borrow.Author.Needs.{needs}
 use borrow.Author.Tests.{lt-ltb, le-ltb}
+use Rattle.report.specs.paper.EventList.{eventLength}
 use Rattle.report.specs.code.Nine.{order}
 use Rattle.report.proofs.NineLaws.{order-step}
 use Rattle.report.proofs.nine.compare.Statement.{statement}
 use Rattle.report.proofs.nine.compare.Tie as tie
 
 abbrev Inv-loop : tie.InvT-loop
-Inv-loop x y i₀ i = (i ≤ 12) × (length x ≡ 12) × (length y ≡ 12) × (order (drop i x) (drop i y) ≡ order x y)
+Inv-loop x y i₀ i = (i ≤ eventLength) × (length x ≡ eventLength) × (length y ≡ eventLength) × (order (drop i x) (drop i y) ≡ order x y)
 
 abbrev μ-loop : tie.MeasureT-loop
-μ-loop x y i₀ i = 12 - i
+μ-loop x y i₀ i = eventLength - i
 
 loop-holds : tie.Need-loop-holds Inv-loop μ-loop
-loop-holds c = (omega arith, good-length (eInt w8) 12 (c .args .t1) _ (c .good .0), good-length (eInt w8) 12 (c .args .t2) _ (c .good .1 .0), refl)
+loop-holds c =
+    (omega arith, good-length (eInt w8) eventLength (c .args .t1) _ (c .good .0), good-length (eInt w8) eventLength (c .args .t2) _ (c .good .1 .0), refl)
 
 returns : tie.Need-returns Inv-loop μ-loop
 returns c =

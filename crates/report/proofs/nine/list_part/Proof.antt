@@ -35,10 +35,10 @@ returns-2 c =
 returns-3 : tie.Need-returns-3
 returns-3 c =
     let b = c .before .before .before .before .before .before in let a = b .args in
-    let z = c .listed .ensures ∙ ap (λ (e : List ℕ). stands e (chunks (a .listing .count) (now (a .events)))) (c .before .before .before .encode-event .ensures) in
+    let e = c .before .before .before .encode-event .ensures in
     record {
       at = λ es N. nines-kept es (a .listing) (now (a .events)) (event 9 0 0 0 (a .part)) (c .listed .result) (event-length 9 0 0 0 (a .part)) (c .before .before .before .before .if1 .left)
-          (omega arith) z N;
+          (omega arith) (λ rise. c .listed .ensures rise ∙ ap (λ (e : List ℕ). stands e (chunks (a .listing .count) (now (a .events)))) e) N;
       fits = b .pre;
       long = refl;
     }

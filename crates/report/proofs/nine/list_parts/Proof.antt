@@ -4,7 +4,7 @@ use native.Mathlib.Omega.{arith}
 use denote.Ref.{now}
 use Rattle.sets.specs.paper.Sets.{members, lowest}
 use Rattle.worlds.specs.code.Over.{entry}
-use Rattle.worlds.proofs.OverLaws.{members-none}
+use Rattle.sets.proofs.TurnLaws.{members-none}
 use Rattle.report.proofs.NineLaws.{Turns, turns-start, turns-next, turns-end}
 use Rattle.report.proofs.nine.list_parts.Statement.{statement}
 use Rattle.report.proofs.nine.list_parts.Tie as tie

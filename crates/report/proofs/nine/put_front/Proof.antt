@@ -9,18 +9,19 @@ use denote.Ref.{now}
 use mir.Syntax.{w8}
 use borrow.Kind.Array.{eInt, good-length}
 use borrow.Author.Needs.{needs}
+use Rattle.report.specs.paper.EventList.{eventLength}
 use Rattle.report.proofs.EventLaws.{copied, copied-long}
 use Rattle.report.proofs.nine.put_front.Statement.{statement}
 use Rattle.report.proofs.nine.put_front.Tie as tie
 
 abbrev Inv-loop : tie.InvT-loop
-Inv-loop s₀ e i₀ s i = (i ≤ 12) × (length e ≡ 12) × (s ≡ take i e ++ drop i s₀)
+Inv-loop s₀ e i₀ s i = (i ≤ eventLength) × (length e ≡ eventLength) × (s ≡ take i e ++ drop i s₀)
 
 abbrev μ-loop : tie.MeasureT-loop
-μ-loop s₀ e i₀ s i = 12 - i
+μ-loop s₀ e i₀ s i = eventLength - i
 
 loop-holds : tie.Need-loop-holds Inv-loop μ-loop
-loop-holds c = (omega arith, good-length (eInt w8) 12 (c .args .t2) _ (c .good .1 .0), refl)
+loop-holds c = (omega arith, good-length (eInt w8) eventLength (c .args .t2) _ (c .good .1 .0), refl)
 
 slice-write-s : tie.Need-slice-write-s Inv-loop μ-loop
 slice-write-s c =
@@ -40,8 +41,8 @@ same-length c =
 returns : tie.Need-returns Inv-loop μ-loop
 returns c =
     let a = c .before .before .args in let l = c .before .loop in
-    let k : l .i ≡ 12 = omega arith in
-    l .inv .2 ∙ (rw (k, take-all 12 (a .t2) (omega arith)))
+    let k : l .i ≡ eventLength = omega arith in
+    l .inv .2 ∙ (rw (k, take-all eventLength (a .t2) (omega arith)))
 
 pub put-front-spec : {M : Type 1} → statement M
 put-front-spec =

@@ -9,16 +9,16 @@ reach-of-requires c κs = let a = c .before .before in (a .pre .0, a .pre .2)
 
 rule-persons-requires : tie.Need-rule-persons-requires
 rule-persons-requires c κs =
-    let a = c .before .before .before in
+    let a = c .before .before .before .before in
     persons-fit (a .args .plan) (a .args .case) (a .pre .0) (a .pre .1)
 
 returns : tie.Need-returns
 returns c =
     let k = c .before in
-    let b = k .before .before in
-    let h = b .before in
+    let h = k .before .before in
     let p = h .before in
-    let q = p .before in
+    let b = p .before in
+    let q = b .before in
     let f = q .before in
     let a = f .before .before in
     opens (a .args .plan) (a .args .case) (a .pre .0) (a .pre .1) (q .reach-of .result) (q .reach-of .ensures) (p .rule-persons .result) (p .rule-persons .ensures)
@@ -31,8 +31,8 @@ open-case-spec =
     (tie.spec
     (λ c κs. search needs)
     reach-of-requires
-    rule-persons-requires
     (λ c κs. search needs)
+    rule-persons-requires
     (λ c κs. search needs)
     (λ c κs. search needs)
     (λ c κs. search needs)

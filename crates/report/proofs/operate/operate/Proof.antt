@@ -7,7 +7,6 @@ use Rattle.records.specs.promises.Sound.{Sound, SoundCase}
 use Rattle.records.specs.code.Decoded.{planOf, caseOf}
 use Rattle.records.specs.declared.plan.Plan.{Plan}
 use Rattle.records.specs.declared.case.Case.{Case}
-use Rattle.expressions.specs.code.Coded.{nodesOf}
 use Rattle.expressions.proofs.FitLaws.{nodes-fit}
 use Rattle.report.specs.paper.Operations.{Opened, stopped, opened}
 use Rattle.report.specs.code.Open.{openedOf}
@@ -93,7 +92,7 @@ returns-2 c =
     (first d .clear .ensures) (second d .clear2 .ensures)
 
 node-uses-requires : tie.Need-node-uses-requires
-unfolding nodesOf planOf
+unfolding planOf
 node-uses-requires c κs = nodes-fit (planOf (Pl c)) (sound c)
 
 open-case-requires : tie.Need-open-case-requires

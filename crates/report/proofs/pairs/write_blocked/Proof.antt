@@ -6,9 +6,8 @@ use native.Mathlib.Omega.{arith}
 use borrow.Author.Needs.{needs}
 use Rattle.records.specs.paper.Plan.{Plan, Cut}
 use Rattle.records.specs.paper.Case.{Case}
-use Rattle.records.specs.code.Decoded.{cutOf}
+use Rattle.records.specs.code.Decoded.{cutOf, cutsOf}
 use Rattle.expressions.specs.code.Evident.{EvidenceBy}
-use Rattle.expressions.specs.code.Coded.{cutsOf}
 use Rattle.expressions.specs.paper.Rules.{cutCount, cut}
 use Rattle.worlds.specs.code.Over.{entry}
 use Rattle.worlds.specs.paper.Events.{event, electionActor, electionEvidence}
@@ -46,7 +45,7 @@ loop-again c =
           (pairing-next _ _ _ _ _ _ _ (l .inv .1) _ _ (λ d. event 3 i d (w .1 .result) (w .2 .result)) _ taken (c .before .before .before .before .before .before .before .pre .1) (λ x c d. event-length 3 c d _ _) (λ d. event-length 3 i d _ _)
           (w .5 .ensures .fits) (w .5 .ensures .written)
           (λ x d. ap₂ (λ (y z : ℕ). event 3 i d y z) (w .1 .ensures) (w .2 .ensures (x .1) (x .3))
-          ∙ ap (λ (k : Cut). event 3 i d (electionActor (k .election)) (electionEvidence (x .1) (k .election))) (cut-read (x .0) i _ _ (x .2) (here x)))))
+          ∙ ap (λ (k : Cut). event 3 i d (electionActor (k .election)) (electionEvidence (x .1) (k .election))) (cut-read (x .0) i (s .t3) _ (x .2) (here x)))))
           (λ w. rw (w .1, w .2) (pairing-skip _ _ _ _ _ _ _ (l .inv .1) (w .0 .left)))
           (c .if1 .came),
     )

@@ -15,8 +15,8 @@ use Rattle.report.proofs.ReadyLaws.{rows-clean, tables-ready, facts-few
 use Rattle.report.proofs.ready.answer_ready.Statement.{statement}
 use Rattle.report.proofs.ready.answer_ready.Tie as tie
 
-influence-of-requires : tie.Need-influence-of-requires
-influence-of-requires c κs = let s = c .before .before .before .before .before .before .before .before in (facts-few (s .pre), decisions-few (s .pre))
+influence-sets-requires : tie.Need-influence-sets-requires
+influence-sets-requires c κs = let s = c .before .before .before .before .before .before .before .before in (facts-few (s .pre), decisions-few (s .pre))
 
 lay-tables-requires : tie.Need-lay-tables-requires
 lay-tables-requires c κs = tables-ready (c .before .before .before .before .before .before .before .before .before .before .pre)
@@ -54,7 +54,7 @@ order-at x = free-at x .before .before
 abbrev common-at : tie.After-run → tie.After-common-of
 common-at x = order-at x .before .before .before
 
-abbrev influence-at : tie.After-run → tie.After-influence-of
+abbrev influence-at : tie.After-run → tie.After-influence-sets
 influence-at x = common-at x .before .before .before
 
 abbrev start : tie.After-run → tie.Start
@@ -67,15 +67,15 @@ I x =
     influences P C (bindings P C)
 
 -- the sets of influence are those of the bindings, the tables stand for the case, and the order is document 01's
-influenced : (x : tie.After-run) → setsOf (influence-at x .influence-of .result) ≡ I x .facts ++ I x .decisions
+influenced : (x : tie.After-run) → setsOf (influence-at x .influence-sets .result) ≡ I x .facts ++ I x .decisions
 influenced x =
     let i = influence-at x in
-    sets-are (start x .pre) (i .before .variables-of .result) (i .before .variables-of .ensures) (i .influence-of .result) (i .influence-of .ensures)
+    sets-are (start x .pre) (i .before .variables-of .result) (i .before .variables-of .ensures) (i .influence-sets .result) (i .influence-sets .ensures)
 
 standing : (x : tie.After-run) → Stands (planOf (start x .args .plan)) (I x) (common-at x .common-of .result) (common-at x .before .lay-tables .last .0)
 standing x =
     let i = influence-at x in
-    stands (start x .pre) (i .before .variables-of .result) (i .before .variables-of .ensures) (i .influence-of .result) (i .influence-of .ensures) (common-at x .before .lay-tables .ensures) (common-at x .common-of .ensures)
+    stands (start x .pre) (i .before .variables-of .result) (i .before .variables-of .ensures) (i .influence-sets .result) (i .influence-sets .ensures) (common-at x .before .lay-tables .ensures) (common-at x .common-of .ensures)
 
 ordered : (x : tie.After-run) → let o = order-at x .variable-order .result in map slotOf (take (o .count) (o .items)) ≡ slots (planOf (start x .args .plan))
 ordered x = order-is (start x .pre) (order-at x .before .boolean-count .ensures .0) (order-at x .variable-order .result) (order-at x .variable-order .ensures)
@@ -84,14 +84,14 @@ finish-requires : tie.Need-finish-requires
 finish-requires c κs =
     let x = c .before .before .before .before .before .before .before in
     ends (start x .pre) (standing x) (common-at x .common-of .ensures .people) (ordered x) (free-at x .free-variables .ensures)
-    (spans-told (start x .pre) (influence-at x .influence-of .result) (influenced x) (x .before .before .before .before .before .before .before .before .spans-of .ensures)) (x .run .ensures) (x .before .before .before .before .before .before .before .started .ensures) (rows-clean 3 64)
+    (spans-told (start x .pre) (influence-at x .influence-sets .result) (influenced x) (x .before .before .before .before .before .before .before .before .spans-of .ensures)) (x .run .ensures) (x .before .before .before .before .before .before .before .started .ensures) (rows-clean 3 64)
     (influenced x) (c .before .before .before .before .concerns .ensures)
 
 returns : tie.Need-returns
 returns c =
     let x = c .before .before .before .before .before .before .before .before .before .before .before .before in
     answers (start x .pre) (standing x) (common-at x .common-of .ensures .people) (ordered x) (free-at x .free-variables .ensures)
-    (spans-told (start x .pre) (influence-at x .influence-of .result) (influenced x) (x .before .before .before .before .before .before .before .before .spans-of .ensures)) (x .run .ensures) (x .before .before .before .before .before .before .before .started .ensures) (rows-clean 3 64)
+    (spans-told (start x .pre) (influence-at x .influence-sets .result) (influenced x) (x .before .before .before .before .before .before .before .before .spans-of .ensures)) (x .run .ensures) (x .before .before .before .before .before .before .before .started .ensures) (rows-clean 3 64)
     (influenced x) (c .before .before .before .before .before .before .before .before .before .concerns .ensures) (c .before .before .before .before .finish .ensures)
 
 pub answer-ready-spec : {M : Type 1} → statement M
@@ -99,7 +99,7 @@ answer-ready-spec =
     tie.close
     (tie.spec
     (λ c κs. search needs)
-    influence-of-requires
+    influence-sets-requires
     lay-tables-requires
     common-of-requires
     (λ c κs. search needs)

@@ -12,7 +12,7 @@ use Rattle.sets.specs.paper.Sets.{has, union, anyOf}
 use Rattle.sets.proofs.SetLaws.{has-none}
 use Rattle.expressions.specs.paper.Nodes.{on}
 use Rattle.worlds.specs.code.Over.{entry}
-use Rattle.worlds.proofs.OverLaws.{turn-has, found-in, found-out}
+use Rattle.sets.proofs.TurnLaws.{turn-has, found-in, found-out}
 use Rattle.worlds.proofs.active.undefeated.Statement.{statement}
 use Rattle.worlds.proofs.active.undefeated.Tie as tie
 

@@ -11,7 +11,7 @@ use borrow.Author.Tests.{eqb-true, eq-eqb, ne-eqb}
 use Rattle.sets.specs.paper.Sets.{union, minus, only}
 use Rattle.worlds.specs.code.Over.{entry}
 use Rattle.worlds.specs.code.Citing.{CitesIn}
-use Rattle.worlds.proofs.OverLaws.{turn-has}
+use Rattle.sets.proofs.TurnLaws.{turn-has}
 use Rattle.worlds.proofs.CiteLaws.{minus-le, filled, cites-none, cites-add, Unmet, unmet-next, unmet-none}
 use Rattle.worlds.proofs.cite.cite_at.Statement.{statement}
 use Rattle.worlds.proofs.cite.cite_at.Tie as tie
@@ -22,11 +22,11 @@ Inv-loop blocks persons what cited₀ m₀ cited m = (m < 2 ^ 64) × (length cit
 abbrev μ-loop : tie.MeasureT-loop
 μ-loop blocks persons what cited₀ m₀ cited m = m
 
-whole-requires : tie.Need-whole-requires Inv-loop μ-loop
-whole-requires c κs = tt
+whole-64-words-requires : tie.Need-whole-64-words-requires Inv-loop μ-loop
+whole-64-words-requires c κs = tt
 
 loop-holds : tie.Need-loop-holds Inv-loop μ-loop
-loop-holds c = (c .before .before .fits .persons .fits, c .whole .ensures, record { at = λ live fits B p l. refl })
+loop-holds c = (c .before .before .fits .persons .fits, c .whole-64-words .ensures, record { at = λ live fits B p l. refl })
 
 low-requires : tie.Need-low-requires Inv-loop μ-loop
 low-requires c κs = c .loop-test .taken
@@ -101,7 +101,7 @@ cite-at-spec =
     (tie.spec
     Inv-loop
     μ-loop
-    whole-requires
+    whole-64-words-requires
     loop-holds
     low-requires
     mul-b

@@ -8,7 +8,7 @@ use lib.ListN.{length, length-set}
 use Rattle.sets.specs.paper.Sets.{has, union, meets, only, lowest}
 use Rattle.worlds.specs.code.Tables.{row}
 use Rattle.worlds.specs.code.Citing.{CitesIn}
-use Rattle.worlds.proofs.OverLaws.{and-meets, and-apart}
+use Rattle.sets.proofs.TurnLaws.{and-meets, and-apart}
 use Rattle.worlds.proofs.CiteLaws.{stored, Left, left-all, left-next, left-none}
 use Rattle.worlds.proofs.CiteTurns.{anchor-cites, anchor-filled, anchor-added, anchor-apart, anchor-none}
 use Rattle.worlds.proofs.cite.cite_attachments.Statement.{statement}
@@ -20,11 +20,11 @@ Inv-loop blocks t attachments cited₀ m₀ cited m = (length cited ≡ 64) × L
 abbrev μ-loop : tie.MeasureT-loop
 μ-loop blocks t attachments cited₀ m₀ cited m = m
 
-whole-requires : tie.Need-whole-requires Inv-loop μ-loop
-whole-requires c κs = tt
+whole-64-words-requires : tie.Need-whole-64-words-requires Inv-loop μ-loop
+whole-64-words-requires c κs = tt
 
 loop-holds : tie.Need-loop-holds Inv-loop μ-loop
-loop-holds c = (c .whole .ensures, left-all _ _ _ _)
+loop-holds c = (c .whole-64-words .ensures, left-all _ _ _ _)
 
 low-requires : tie.Need-low-requires Inv-loop μ-loop
 low-requires c κs = c .loop-test .taken
@@ -111,7 +111,7 @@ cite-attachments-spec =
     (tie.spec
     Inv-loop
     μ-loop
-    whole-requires
+    whole-64-words-requires
     loop-holds
     low-requires
     mul-anchor

@@ -19,11 +19,11 @@ Inv-loop blocks t frozen cited₀ m₀ cited m = (length cited ≡ 64) × Left b
 abbrev μ-loop : tie.MeasureT-loop
 μ-loop blocks t frozen cited₀ m₀ cited m = m
 
-whole-requires : tie.Need-whole-requires Inv-loop μ-loop
-whole-requires c κs = tt
+whole-64-words-requires : tie.Need-whole-64-words-requires Inv-loop μ-loop
+whole-64-words-requires c κs = tt
 
 loop-holds : tie.Need-loop-holds Inv-loop μ-loop
-loop-holds c = (c .whole .ensures, left-all _ _ _ _)
+loop-holds c = (c .whole-64-words .ensures, left-all _ _ _ _)
 
 low-requires : tie.Need-low-requires Inv-loop μ-loop
 low-requires c κs = c .loop-test .taken
@@ -105,7 +105,7 @@ cite-edges-spec =
     (tie.spec
     Inv-loop
     μ-loop
-    whole-requires
+    whole-64-words-requires
     loop-holds
     low-requires
     mul-pair

@@ -6,8 +6,8 @@ use Rattle.worlds.proofs.CiteTurns.{one-added, one-none}
 use Rattle.worlds.proofs.cite.cite_one.Statement.{statement}
 use Rattle.worlds.proofs.cite.cite_one.Tie as tie
 
-whole-requires : tie.Need-whole-requires
-whole-requires c κs = tt
+whole-64-words-requires : tie.Need-whole-64-words-requires
+whole-64-words-requires c κs = tt
 
 mul-b : tie.Need-mul-b
 mul-b c = omega (arith, c .before .before .pre)
@@ -35,7 +35,7 @@ unfolding union
 returns c =
     let low = c .before in
     let a = low .before .before .before .before .before .args in
-    one-added (a .blocks .now) (a .cited .now) (a .p) (a .what) (low .low .result) _ (low .before .before .before .whole .ensures) (low .low .ensures) refl (low .before .if1 .taken)
+    one-added (a .blocks .now) (a .cited .now) (a .p) (a .what) (low .low .result) _ (low .before .before .before .whole-64-words .ensures) (low .low .ensures) refl (low .before .if1 .taken)
 
 returns-2 : tie.Need-returns-2
 returns-2 c =
@@ -46,7 +46,7 @@ pub cite-one-spec : {M : Type 1} → statement M
 cite-one-spec =
     tie.close
     (tie.spec
-    whole-requires
+    whole-64-words-requires
     mul-b
     element-copy-out-b
     low-requires

@@ -8,7 +8,7 @@ use native.Mathlib.Omega.{arith}
 use lib.ListN.{length, length-set}
 use Rattle.sets.specs.paper.Sets.{union}
 use Rattle.worlds.specs.code.Over.{entry}
-use Rattle.worlds.proofs.OverLaws.{turn-has}
+use Rattle.sets.proofs.TurnLaws.{turn-has}
 use Rattle.worlds.proofs.CiteTurns.{handed, hand-next, hand-skip, hand-end}
 use Rattle.worlds.proofs.cite.hand_out.Statement.{statement}
 use Rattle.worlds.proofs.cite.hand_out.Tie as tie
@@ -19,11 +19,11 @@ Inv-loop blocks cited own persons citations₀ m₀ citations m = (m < 2 ^ 64) �
 abbrev μ-loop : tie.MeasureT-loop
 μ-loop blocks cited own persons citations₀ m₀ citations m = m
 
-whole-requires : tie.Need-whole-requires Inv-loop μ-loop
-whole-requires c κs = tt
+whole-64-words-requires : tie.Need-whole-64-words-requires Inv-loop μ-loop
+whole-64-words-requires c κs = tt
 
 loop-holds : tie.Need-loop-holds Inv-loop μ-loop
-loop-holds c = (c .before .before .fits .persons .fits, c .whole .ensures, λ p. refl)
+loop-holds c = (c .before .before .fits .persons .fits, c .whole-64-words .ensures, λ p. refl)
 
 low-requires : tie.Need-low-requires Inv-loop μ-loop
 low-requires c κs = c .loop-test .taken
@@ -102,7 +102,7 @@ hand-out-spec =
     (tie.spec
     Inv-loop
     μ-loop
-    whole-requires
+    whole-64-words-requires
     loop-holds
     low-requires
     mul-b

@@ -8,7 +8,7 @@ use Rattle.sets.proofs.UnionLaws.{union-first, union-end}
 use Rattle.worlds.specs.code.Over.{entry}
 use Rattle.worlds.specs.code.Tables.{row}
 use Rattle.worlds.specs.code.Citing.{ownOf}
-use Rattle.worlds.proofs.OverLaws.{members-none}
+use Rattle.sets.proofs.TurnLaws.{members-none}
 use Rattle.worlds.proofs.CiteLaws.{added-if}
 use Rattle.worlds.proofs.cite.own_citations.Statement.{statement}
 use Rattle.worlds.proofs.cite.own_citations.Tie as tie

@@ -8,7 +8,7 @@ use lib.ListN.{length, length-set}
 use Rattle.sets.specs.paper.Sets.{has, one}
 use Rattle.sets.proofs.SetLaws.{has-none}
 use Rattle.worlds.specs.code.Over.{entry}
-use Rattle.worlds.proofs.OverLaws.{turn-has}
+use Rattle.sets.proofs.TurnLaws.{turn-has}
 use Rattle.worlds.proofs.ClassLaws.{alone-next}
 use Rattle.worlds.proofs.classes.alone.Statement.{statement}
 use Rattle.worlds.proofs.classes.alone.Tie as tie
@@ -19,11 +19,11 @@ Inv-loop classes₀ persons m₀ classes m = (m < 2 ^ 64) × (length classes ≡
 abbrev μ-loop : tie.MeasureT-loop
 μ-loop classes₀ persons m₀ classes m = m
 
-whole-requires : tie.Need-whole-requires Inv-loop μ-loop
-whole-requires c κs = tt
+whole-64-words-requires : tie.Need-whole-64-words-requires Inv-loop μ-loop
+whole-64-words-requires c κs = tt
 
 loop-holds : tie.Need-loop-holds Inv-loop μ-loop
-loop-holds c = (c .before .before .fits .persons .fits, c .whole .ensures, λ p. refl)
+loop-holds c = (c .before .before .fits .persons .fits, c .whole-64-words .ensures, λ p. refl)
 
 low-requires : tie.Need-low-requires Inv-loop μ-loop
 low-requires c κs = c .loop-test .taken
@@ -68,7 +68,7 @@ alone-spec =
     (tie.spec
     Inv-loop
     μ-loop
-    whole-requires
+    whole-64-words-requires
     loop-holds
     low-requires
     cast-bit

@@ -10,7 +10,7 @@ use Rattle.worlds.proofs.conditions.lay_condition.Tie as tie
 returns : tie.Need-returns
 returns c =
     let s = c .before .before in
-    let w = c .whole-conditions .ensures in
+    let w = c .whole-6-rows-of-bytes .ensures in
     let rows : s .args .k < length (s .args .conditions .now) = omega (arith, w .0, s .pre) in
     laid-at (s .args .conditions .now) (s .args .k) (s .args .i) (s .args .node) rows (omega (arith, w .1 (s .args .k) (s .pre .0), s .pre .1))
 

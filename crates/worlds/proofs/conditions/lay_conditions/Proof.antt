@@ -6,9 +6,8 @@ use borrow.Author.Needs.{needs}
 use lib.ListN.{getD, take}
 use Rattle.sets.specs.paper.Sets.{anyOf}
 use Rattle.records.specs.paper.Plan.{Plan}
-use Rattle.records.specs.code.Decoded.{planOf}
+use Rattle.records.specs.code.Decoded.{planOf, edgesOf}
 use Rattle.records.specs.declared.plan.Edges.{Edges}
-use Rattle.expressions.specs.code.Coded.{edgesOf, cutsOf, attachmentsOf, barsOf, statusesOf}
 use Rattle.expressions.specs.paper.Rules.{edgeCount, edge}
 use Rattle.worlds.specs.code.Tables.{row}
 use Rattle.worlds.specs.code.Conditions.{EdgeConditions}
@@ -21,7 +20,7 @@ still : {edges : Edges} {s t lists : List (List ℕ)} {n : ℕ} (P : Plan) (i : 
 still {edges} {s} {t} {lists} {n} P i a q h e = ap (λ (k : ℕ). take k (getD lists i [])) e ∙ a .against P q i h
 
 returns : tie.Need-returns
-unfolding planOf edgesOf cutsOf attachmentsOf barsOf statusesOf anyOf
+unfolding planOf anyOf
 returns c =
     let b = c .before .before in
     let a = b .before .before in

@@ -7,10 +7,9 @@ use borrow.Author.Needs.{needs}
 use lib.ListN.{length, getD, length-map}
 use Rattle.sets.specs.paper.Sets.{anyOf}
 use Rattle.records.specs.paper.Plan.{Cut}
-use Rattle.records.specs.code.Decoded.{cutOf}
+use Rattle.records.specs.code.Decoded.{cutOf, cutsOf}
 use Rattle.records.specs.declared.plan.Cut.{Cut as Coded}
 use Rattle.records.proofs.plan.Cut.{the-type}
-use Rattle.expressions.specs.code.Coded.{cutsOf}
 use Rattle.expressions.specs.paper.Rules.{cut}
 use Rattle.expressions.proofs.ListLaws.{made-length, made-at}
 use Rattle.worlds.specs.code.Laid.{Same}
@@ -37,7 +36,6 @@ long c = sym (length-map (c .args .t2 .items) (the-type .to)) ∙ c .good .1 .0 
 here : (c : tie.In-loop Inv-loop μ-loop) (d : Coded) →
     let a = c .before .before in
     getD (cutsOf (a .before .args .t2)) (c .before .loop .i) none ≡ cutOf (getD (a .before .args .t2 .items) (c .before .loop .i) d)
-unfolding cutsOf
 here c d =
     let a = c .before .before in
     made-at cutOf (a .before .args .t2 .items) (a .before .args .t2 .count) 16 (a .upto .result) (long (a .before)) (a .upto .ensures .0) (c .before .loop .i) d none (search needs)
@@ -56,7 +54,7 @@ loop-again c =
     (more, each-next condition none xs laid (ap (λ (x : Cut). x .condition) (sym (here k _))) (inv .1), same-next (1 ∷ []) refl laid (inv .2))
 
 returns : tie.Need-returns Inv-loop μ-loop
-unfolding cutsOf cut
+unfolding cut
 returns c =
     let l = c .before in
     let a = l .before in

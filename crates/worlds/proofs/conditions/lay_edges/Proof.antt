@@ -12,10 +12,9 @@ use lib.ListN.{length, getD, take, set, length-map, length-set}
 use lib.Seq.{getD-set-same, getD-set-other}
 use Rattle.sets.specs.paper.Sets.{anyOf}
 use Rattle.records.specs.paper.Plan.{Edge}
-use Rattle.records.specs.code.Decoded.{edgeOf, numbersOf}
+use Rattle.records.specs.code.Decoded.{edgeOf, numbersOf, edgesOf}
 use Rattle.records.specs.declared.plan.Edge.{Edge as Coded}
 use Rattle.records.proofs.plan.Edge.{the-type}
-use Rattle.expressions.specs.code.Coded.{edgesOf}
 use Rattle.expressions.specs.paper.Rules.{edge}
 use Rattle.expressions.proofs.ListLaws.{made-length, made-at}
 use Rattle.worlds.specs.code.Tables.{row}
@@ -69,14 +68,13 @@ long c = sym (length-map (c .args .t3 .items) (the-type .to)) ∙ c .good .1 .1 
 here : (c : tie.In-loop Inv-loop μ-loop) (d : Coded) →
     let s = c .before .before .before .before .before in
     getD (edgesOf (s .args .t3)) (c .before .loop .i) none ≡ edgeOf (getD (s .args .t3 .items) (c .before .loop .i) d)
-unfolding edgesOf
 here c d =
     let a = c .before .before in
     let s = a .before .before .before in
     made-at edgeOf (s .args .t3 .items) (s .args .t3 .count) 64 (a .upto .result) (long s) (a .upto .ensures .0) (c .before .loop .i) d none (search needs)
 
 loop-holds : tie.Need-loop-holds Inv-loop μ-loop
-loop-holds c = (search needs, c .before .whole-lists .ensures, each-none _ _ _ _ _, against-none _ _ _, same-start _ _)
+loop-holds c = (search needs, c .before .whole-64-lists .ensures, each-none _ _ _ _ _, against-none _ _ _, same-start _ _)
 
 loop-again : tie.Need-loop-again Inv-loop μ-loop
 unfolding edgeOf numbersOf anyOf
@@ -96,7 +94,7 @@ loop-again c =
     )
 
 returns : tie.Need-returns Inv-loop μ-loop
-unfolding edgesOf edge
+unfolding edge
 returns c =
     let l = c .before in
     let a = l .before in

@@ -9,7 +9,7 @@ use Rattle.sets.specs.paper.Sets.{union, members}
 use Rattle.sets.proofs.UnionLaws.{none-union, union-end}
 use Rattle.worlds.specs.code.Tables.{row}
 use Rattle.worlds.specs.code.Cuts.{blockers, blockedTwins}
-use Rattle.worlds.proofs.OverLaws.{turn-has, members-none}
+use Rattle.sets.proofs.TurnLaws.{turn-has, members-none}
 use Rattle.worlds.proofs.NoteLaws.{noting, note-end, twinsIf, twins-in, twins-out, note-in, note-out}
 use Rattle.worlds.proofs.cuts.blocked.Statement.{statement}
 use Rattle.worlds.proofs.cuts.blocked.Tie as tie
@@ -23,11 +23,11 @@ Inv-loop t standing frozen decisions noted₀ found₀ m₀ noted found m =
 abbrev μ-loop : tie.MeasureT-loop
 μ-loop t standing frozen decisions noted₀ found₀ m₀ noted found m = m
 
-whole-requires : tie.Need-whole-requires Inv-loop μ-loop
-whole-requires c κs = tt
+whole-64-words-requires : tie.Need-whole-64-words-requires Inv-loop μ-loop
+whole-64-words-requires c κs = tt
 
 loop-holds : tie.Need-loop-holds Inv-loop μ-loop
-loop-holds c = (c .before .before .fits .standing .fits, c .whole .ensures, none-union _, λ i. refl)
+loop-holds c = (c .before .before .fits .standing .fits, c .whole-64-words .ensures, none-union _, λ i. refl)
 
 low-requires : tie.Need-low-requires Inv-loop μ-loop
 low-requires c κs = c .loop-test .taken
@@ -109,7 +109,7 @@ blocked-spec =
     (tie.spec
     Inv-loop
     μ-loop
-    whole-requires
+    whole-64-words-requires
     loop-holds
     low-requires
     blocking-requires

@@ -6,7 +6,7 @@ use native.Mathlib.Omega.{arith}
 use lib.ListN.{length, length-set}
 use Rattle.sets.specs.paper.Sets.{union, meet}
 use Rattle.worlds.specs.code.Tables.{row}
-use Rattle.worlds.proofs.OverLaws.{turn-has}
+use Rattle.sets.proofs.TurnLaws.{turn-has}
 use Rattle.worlds.proofs.NoteLaws.{noting, note-store, note-end}
 use Rattle.worlds.proofs.cuts.note_clashes.Statement.{statement}
 use Rattle.worlds.proofs.cuts.note_clashes.Tie as tie
@@ -18,11 +18,11 @@ Inv-loop t cuts noted₀ m₀ noted m =
 abbrev μ-loop : tie.MeasureT-loop
 μ-loop t cuts noted₀ m₀ noted m = m
 
-whole-requires : tie.Need-whole-requires Inv-loop μ-loop
-whole-requires c κs = tt
+whole-64-words-requires : tie.Need-whole-64-words-requires Inv-loop μ-loop
+whole-64-words-requires c κs = tt
 
 loop-holds : tie.Need-loop-holds Inv-loop μ-loop
-loop-holds c = (c .before .before .fits .cuts .fits, c .whole .ensures, λ i. refl)
+loop-holds c = (c .before .before .fits .cuts .fits, c .whole-64-words .ensures, λ i. refl)
 
 low-requires : tie.Need-low-requires Inv-loop μ-loop
 low-requires c κs = c .loop-test .taken
@@ -80,7 +80,7 @@ note-clashes-spec =
     (tie.spec
     Inv-loop
     μ-loop
-    whole-requires
+    whole-64-words-requires
     loop-holds
     low-requires
     mul-noted

@@ -10,7 +10,7 @@ use lib.Seq.{getD-set-same, getD-set-other}
 use Rattle.sets.specs.paper.Sets.{union, minus}
 use Rattle.worlds.specs.code.Over.{entry}
 use Rattle.worlds.specs.code.Discretion.{looseBy, joinedTo, Leads, Renewed}
-use Rattle.worlds.proofs.OverLaws.{turn-has}
+use Rattle.sets.proofs.TurnLaws.{turn-has}
 use Rattle.worlds.proofs.LooseLaws.{Found, found-none, found-all, found-as, found-in, found-out, left-less}
 use Rattle.worlds.proofs.ComponentLaws.{renewed-none, renewed-as, renewed-same, renewed-more}
 use Rattle.worlds.proofs.discretion.heads.Statement.{statement}
@@ -24,13 +24,13 @@ Inv-loop lead persons parts₀ found₀ fresh₀ m₀ parts found fresh m =
 abbrev μ-loop : tie.MeasureT-loop
 μ-loop lead persons parts₀ found₀ fresh₀ m₀ parts found fresh m = m
 
-whole-requires : tie.Need-whole-requires Inv-loop μ-loop
-whole-requires c κs = tt
+whole-64-words-requires : tie.Need-whole-64-words-requires Inv-loop μ-loop
+whole-64-words-requires c κs = tt
 
 loop-holds : tie.Need-loop-holds Inv-loop μ-loop
 loop-holds c =
     let fits = c .before .before .fits .persons .fits in
-    (fits, c .whole .ensures, renewed-none _, λ pairs edges L. found-none _ _ _ _ fits)
+    (fits, c .whole-64-words .ensures, renewed-none _, λ pairs edges L. found-none _ _ _ _ fits)
 
 low-requires : tie.Need-low-requires Inv-loop μ-loop
 low-requires c κs = c .loop-test .taken
@@ -137,7 +137,7 @@ heads-spec =
     (tie.spec
     Inv-loop
     μ-loop
-    whole-requires
+    whole-64-words-requires
     loop-holds
     low-requires
     component-requires

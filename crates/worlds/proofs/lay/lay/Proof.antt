@@ -10,7 +10,7 @@ use Rattle.worlds.proofs.lay.lay.Tie as tie
 returns : tie.Need-returns
 returns c =
     let s = c .before .before in
-    let w = c .whole-tables .ensures in
+    let w = c .whole-21-rows .ensures in
     let rows : s .args .k < length (s .args .t .now) = omega (arith, w .0, s .pre) in
     laid-at (s .args .t .now) (s .args .k) (s .args .i) (s .args .value) rows (omega (arith, w .1 (s .args .k) (s .pre .0), s .pre .1))
 

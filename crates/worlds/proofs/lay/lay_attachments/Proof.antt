@@ -7,10 +7,9 @@ use borrow.Author.Needs.{needs}
 use lib.ListN.{length, getD, length-map}
 use Rattle.sets.specs.paper.Sets.{one, anyOf}
 use Rattle.records.specs.paper.Plan.{Attachment}
-use Rattle.records.specs.code.Decoded.{attachmentOf}
+use Rattle.records.specs.code.Decoded.{attachmentOf, attachmentsOf}
 use Rattle.records.specs.declared.plan.Attachment.{Attachment as Coded}
 use Rattle.records.proofs.plan.Attachment.{the-type}
-use Rattle.expressions.specs.code.Coded.{attachmentsOf}
 use Rattle.expressions.specs.paper.Rules.{attachment}
 use Rattle.expressions.proofs.ListLaws.{made-length, made-at, made-each}
 use Rattle.worlds.specs.code.Laid.{Same, AttachmentFits}
@@ -44,13 +43,11 @@ long c = sym (length-map (c .args .t2 .items) (the-type .to)) ∙ c .good .1 .0 
 here : (c : tie.In-loop Inv-loop μ-loop) (d : Coded) →
     let a = c .before .before in
     getD (attachmentsOf (a .before .args .t2)) (c .before .loop .i) none ≡ attachmentOf (getD (a .before .args .t2 .items) (c .before .loop .i) d)
-unfolding attachmentsOf
 here c d =
     let a = c .before .before in
     made-at attachmentOf (a .before .args .t2 .items) (a .before .args .t2 .count) 32 (a .upto .result) (long (a .before)) (a .upto .ensures .0) (c .before .loop .i) d none (search needs)
 
 fits : (c : tie.In-loop Inv-loop μ-loop) (d : Coded) → AttachmentFits (attachmentOf (getD (c .before .before .before .args .t2 .items) (c .before .loop .i) d))
-unfolding attachmentsOf
 fits c d =
     let a = c .before .before in
     made-each attachmentOf (a .before .args .t2 .items) (a .before .args .t2 .count) 32 (a .upto .result) (long (a .before)) (a .upto .ensures .0) AttachmentFits (c .before .loop .i) d (search needs) (a .before .pre)
@@ -85,7 +82,7 @@ loop-again c =
     )
 
 returns : tie.Need-returns Inv-loop μ-loop
-unfolding attachmentsOf attachment
+unfolding attachment
 returns c =
     let l = c .before in
     let a = l .before in

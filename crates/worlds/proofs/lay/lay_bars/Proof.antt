@@ -7,10 +7,9 @@ use borrow.Author.Needs.{needs}
 use lib.ListN.{length, getD, length-map}
 use Rattle.sets.specs.paper.Sets.{one, anyOf}
 use Rattle.records.specs.paper.Plan.{Bar}
-use Rattle.records.specs.code.Decoded.{barOf}
+use Rattle.records.specs.code.Decoded.{barOf, barsOf}
 use Rattle.records.specs.declared.plan.Bar.{Bar as Coded}
 use Rattle.records.proofs.plan.Bar.{the-type}
-use Rattle.expressions.specs.code.Coded.{barsOf}
 use Rattle.expressions.specs.paper.Rules.{bar}
 use Rattle.expressions.proofs.ListLaws.{made-length, made-at, made-each}
 use Rattle.worlds.specs.code.Laid.{Same, BarFits}
@@ -41,13 +40,11 @@ long c = sym (length-map (c .args .t2 .items) (the-type .to)) ∙ c .good .1 .0 
 here : (c : tie.In-loop Inv-loop μ-loop) (d : Coded) →
     let a = c .before .before in
     getD (barsOf (a .before .args .t2)) (c .before .loop .i) none ≡ barOf (getD (a .before .args .t2 .items) (c .before .loop .i) d)
-unfolding barsOf
 here c d =
     let a = c .before .before in
     made-at barOf (a .before .args .t2 .items) (a .before .args .t2 .count) 32 (a .upto .result) (long (a .before)) (a .upto .ensures .0) (c .before .loop .i) d none (search needs)
 
 fits : (c : tie.In-loop Inv-loop μ-loop) (d : Coded) → BarFits (barOf (getD (c .before .before .before .args .t2 .items) (c .before .loop .i) d))
-unfolding barsOf
 fits c d =
     let a = c .before .before in
     made-each barOf (a .before .args .t2 .items) (a .before .args .t2 .count) 32 (a .upto .result) (long (a .before)) (a .upto .ensures .0) BarFits (c .before .loop .i) d (search needs) (a .before .pre)
@@ -76,7 +73,7 @@ loop-again c =
     )
 
 returns : tie.Need-returns Inv-loop μ-loop
-unfolding barsOf bar
+unfolding bar
 returns c =
     let l = c .before in
     let a = l .before in

@@ -7,10 +7,9 @@ use borrow.Author.Needs.{needs}
 use lib.ListN.{length, getD, length-map}
 use Rattle.sets.specs.paper.Sets.{has, one, anyOf}
 use Rattle.records.specs.paper.Plan.{Cut}
-use Rattle.records.specs.code.Decoded.{cutOf}
+use Rattle.records.specs.code.Decoded.{cutOf, cutsOf}
 use Rattle.records.specs.declared.plan.Cut.{Cut as Coded}
 use Rattle.records.proofs.plan.Cut.{the-type}
-use Rattle.expressions.specs.code.Coded.{cutsOf}
 use Rattle.expressions.specs.paper.Influence.{hasVerdict}
 use Rattle.expressions.specs.paper.Rules.{cut}
 use Rattle.expressions.proofs.ListLaws.{made-length, made-at, made-each}
@@ -45,13 +44,11 @@ long c = sym (length-map (c .args .t2 .items) (the-type .to)) ∙ c .good .1 .0 
 here : (c : tie.In-loop Inv-loop μ-loop) (d : Coded) →
     let a = c .before .before in
     getD (cutsOf (a .before .args .t2)) (c .before .loop .i) none ≡ cutOf (getD (a .before .args .t2 .items) (c .before .loop .i) d)
-unfolding cutsOf
 here c d =
     let a = c .before .before in
     made-at cutOf (a .before .args .t2 .items) (a .before .args .t2 .count) 16 (a .upto .result) (long (a .before)) (a .upto .ensures .0) (c .before .loop .i) d none (search needs)
 
 fits : (c : tie.In-loop Inv-loop μ-loop) (d : Coded) → CutFits (cutOf (getD (c .before .before .before .args .t2 .items) (c .before .loop .i) d))
-unfolding cutsOf
 fits c d =
     let a = c .before .before in
     made-each cutOf (a .before .args .t2 .items) (a .before .args .t2 .count) 16 (a .upto .result) (long (a .before)) (a .upto .ensures .0) CutFits (c .before .loop .i) d (search needs) (a .before .pre)
@@ -86,7 +83,7 @@ loop-again c =
     )
 
 returns : tie.Need-returns Inv-loop μ-loop
-unfolding cutsOf cut
+unfolding cut
 returns c =
     let l = c .before in
     let a = l .before in

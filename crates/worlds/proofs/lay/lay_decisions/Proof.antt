@@ -22,15 +22,15 @@ use Rattle.worlds.proofs.lay.lay_decisions.Tie as tie
 abbrev none : Open
 none = record { cut = 16; edge = 64 }
 
-abbrev decided : Open → ℕ → Type 0
-decided x v = v ≡ one (x .edge)
+abbrev onEdge : Open → ℕ → Type 0
+onEdge x v = v ≡ one (x .edge)
 
 abbrev Opens : List Open → List (List ℕ) → List (List ℕ) → ℕ → Type 0
 Opens xs t₀ t i = (c d : ℕ) → has (row t 9 c) d ≡ (has (row t₀ 9 c) d || (ltb d i && eqb (getD xs d none .cut) c))
 
 abbrev Inv-loop : tie.InvT-loop
 Inv-loop t₀ undecided n i₀ t i =
-    (i ≤ n) × Each decided none (opensOf undecided) t 10 i × Opens (opensOf undecided) t₀ t i × Same (10 ∷ 9 ∷ []) t₀ t
+    (i ≤ n) × Each onEdge none (opensOf undecided) t 10 i × Opens (opensOf undecided) t₀ t i × Same (10 ∷ 9 ∷ []) t₀ t
 
 abbrev μ-loop : tie.MeasureT-loop
 μ-loop t₀ undecided n i₀ t i = n - i
@@ -89,7 +89,7 @@ loop-again c =
     let laid1 = c .before .before .before .before .lay .ensures in
     let laid2 = c .lay2 .ensures in (
       more,
-      each-other decided none xs laid2 refl (each-next decided none xs laid1 (c .before .before .before .before .before .bit .ensures ∙ ap (λ (x : Open). one (x .edge)) e) (inv .1)),
+      each-other onEdge none xs laid2 refl (each-next onEdge none xs laid1 (c .before .before .before .before .before .bit .ensures ∙ ap (λ (x : Open). one (x .edge)) e) (inv .1)),
       digit-next (λ (d : ℕ). getD xs d none .cut) (k .before .before .args .t .now) (c .before .before .before .before .lay .last .0) (c .lay2 .last .0) 9 (k .before .loop .i) (w .wide .result) _ laid2
           (ap (union (row (c .before .before .before .before .lay .last .0) 9 (w .wide .result))) (c .before .bit2 .ensures)) (cut w .0)
           (λ x d. ap (λ (m : ℕ). has m d) (laid-other 9 x laid1 refl) ∙ inv .2 x d),

@@ -8,10 +8,9 @@ use borrow.Author.Needs.{needs}
 use lib.ListN.{length, getD, length-map}
 use Rattle.sets.specs.paper.Sets.{one, anyOf}
 use Rattle.records.specs.paper.Plan.{Edge}
-use Rattle.records.specs.code.Decoded.{edgeOf}
+use Rattle.records.specs.code.Decoded.{edgeOf, edgesOf}
 use Rattle.records.specs.declared.plan.Edge.{Edge as Coded}
 use Rattle.records.proofs.plan.Edge.{the-type}
-use Rattle.expressions.specs.code.Coded.{edgesOf}
 use Rattle.expressions.specs.paper.Rules.{endsOf}
 use Rattle.expressions.specs.paper.Rules.{edge, pair}
 use Rattle.expressions.proofs.ListLaws.{made-length, made-at, made-each}
@@ -43,13 +42,11 @@ long c = sym (length-map (c .args .t2 .items) (the-type .to)) ∙ c .good .1 .0 
 here : (c : tie.In-loop Inv-loop μ-loop) (d : Coded) →
     let a = c .before .before in
     getD (edgesOf (a .before .args .t2)) (c .before .loop .i) none ≡ edgeOf (getD (a .before .args .t2 .items) (c .before .loop .i) d)
-unfolding edgesOf
 here c d =
     let a = c .before .before in
     made-at edgeOf (a .before .args .t2 .items) (a .before .args .t2 .count) 64 (a .upto .result) (long (a .before)) (a .upto .ensures .0) (c .before .loop .i) d none (search needs)
 
 fits : (c : tie.In-loop Inv-loop μ-loop) (d : Coded) → EdgeFits (edgeOf (getD (c .before .before .before .args .t2 .items) (c .before .loop .i) d))
-unfolding edgesOf
 fits c d =
     let a = c .before .before in
     made-each edgeOf (a .before .args .t2 .items) (a .before .args .t2 .count) 64 (a .upto .result) (long (a .before)) (a .upto .ensures .0) EdgeFits (c .before .loop .i) d (search needs) (a .before .pre)
@@ -82,7 +79,7 @@ loop-again c =
     )
 
 returns : tie.Need-returns Inv-loop μ-loop
-unfolding edgesOf edge pair
+unfolding edge pair
 returns c =
     let l = c .before in
     let a = l .before in

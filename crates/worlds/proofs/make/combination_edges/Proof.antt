@@ -10,10 +10,9 @@ use lib.Dec.{ltb}
 use borrow.Author.Needs.{needs}
 use Rattle.sets.specs.paper.Sets.{has, union}
 use Rattle.records.specs.paper.Plan.{Edge}
-use Rattle.records.specs.code.Decoded.{edgeOf}
+use Rattle.records.specs.code.Decoded.{edgeOf, edgesOf}
 use Rattle.records.proofs.plan.Edge.{the-type}
 use Rattle.expressions.specs.paper.Rules.{edge}
-use Rattle.expressions.specs.code.Coded.{edgesOf}
 use Rattle.expressions.proofs.ListLaws.{made-at, made-length}
 use Rattle.worlds.proofs.MakeLaws.{upto-none, upto-in, upto-out}
 use Rattle.worlds.proofs.make.combination_edges.Statement.{statement}
@@ -35,7 +34,7 @@ loop-holds : tie.Need-loop-holds Inv-loop μ-loop
 loop-holds c = (search needs, λ e d. upto-none (λ x. getD (edgesOf (c .before .args .t1)) x d .combination) e)
 
 loop-again : tie.Need-loop-again Inv-loop μ-loop
-unfolding edgesOf edgeOf union
+unfolding edgeOf union
 loop-again c =
     let l = c .before .before .before in
     let a = l .before in
@@ -50,7 +49,7 @@ loop-again c =
     )
 
 returns : tie.Need-returns Inv-loop μ-loop
-unfolding edgesOf edge
+unfolding edge
 returns c =
     let l = c .before in
     let a = l .before in

@@ -13,7 +13,6 @@ use Rattle.records.proofs.plan.Attachment as attachment-code
 use Rattle.records.proofs.plan.Bar as bar-code
 use Rattle.records.proofs.plan.Status as status-code
 use Rattle.expressions.specs.paper.Rules.{edge, chained}
-use Rattle.expressions.specs.code.Coded.{edgesOf}
 use Rattle.expressions.proofs.ListLaws.{made-length}
 use Rattle.worlds.proofs.MakeLaws.{kind-has, chained-is, base-has, base-none}
 use Rattle.worlds.proofs.make.common_of.Statement.{statement}
@@ -32,7 +31,7 @@ statuses-long : (c : tie.Start) → length (c .args .plan .statuses .items) ≡ 
 statuses-long c = sym (length-map (c .args .plan .statuses .items) (status-code.the-type .to)) ∙ c .good .0 .1 .1 .1 .1 .1 .1 .1 .1 .1 .1 .1 .1 .0 .1 .1 .1 .0 .1 .0 .1
 
 returns : tie.Need-returns
-unfolding planOf edgesOf
+unfolding planOf
 returns c =
     let k₃ = c .before .before in
     let k₂ = k₃ .before .before in

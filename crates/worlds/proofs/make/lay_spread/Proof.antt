@@ -9,7 +9,7 @@ use Rattle.sets.specs.paper.Sets.{has, one, closeOf, anyOf}
 use Rattle.sets.proofs.SetLaws.{has-none}
 use Rattle.worlds.specs.code.Tables.{row}
 use Rattle.worlds.specs.code.Laid.{Same}
-use Rattle.worlds.proofs.OverLaws.{turn-has}
+use Rattle.sets.proofs.TurnLaws.{turn-has}
 use Rattle.worlds.proofs.LayLaws.{same-start, same-next, laid-here, laid-beside}
 use Rattle.worlds.proofs.RelateLaws.{done-next}
 use Rattle.worlds.proofs.MakeLaws.{spread-gathered}

@@ -7,7 +7,6 @@ use borrow.Author.Needs.{needs}
 use Rattle.sets.specs.paper.Sets.{All}
 use Rattle.records.specs.code.Decoded.{cutOf, planOf}
 use Rattle.records.proofs.plan.Cut.{the-type}
-use Rattle.expressions.specs.code.Coded.{edgesOf, cutsOf, attachmentsOf, barsOf, statusesOf}
 use Rattle.expressions.specs.code.Influences.{setsOf}
 use Rattle.expressions.proofs.ListLaws.{made-length, used-take}
 use Rattle.worlds.specs.code.Laid.{OpenFits}
@@ -25,31 +24,31 @@ influence-long : (c : tie.Start) → length (c .args .influence .sets) ≡ 80
 influence-long c = sym (length-map (c .args .influence .sets) (λ v. v)) ∙ c .good .1 .1 .1 .1 .0 .1 .1 .1 .0 .1 .0 .1
 
 lay-edges-requires : tie.Need-lay-edges-requires
-unfolding planOf edgesOf
+unfolding planOf
 lay-edges-requires c κs =
     let s = c .before .before .before .before .before .before in
     edges-fit (planOf (s .args .plan)) (s .pre .sound)
 
 lay-cuts-requires : tie.Need-lay-cuts-requires
-unfolding planOf cutsOf
+unfolding planOf
 lay-cuts-requires c κs =
     let s = c .before .before .before .before .before .before .before .before in
     cuts-fit (planOf (s .args .plan)) (s .pre .sound)
 
 lay-attachments-requires : tie.Need-lay-attachments-requires
-unfolding planOf attachmentsOf
+unfolding planOf
 lay-attachments-requires c κs =
     let s = c .before .before .before .before .before .before .before .before .before .before in
     attachments-fit (planOf (s .args .plan)) (s .pre .sound)
 
 lay-bars-requires : tie.Need-lay-bars-requires
-unfolding planOf barsOf
+unfolding planOf
 lay-bars-requires c κs =
     let s = c .before .before .before .before .before .before .before .before .before .before .before .before in
     bars-fit (planOf (s .args .plan)) (s .pre .sound)
 
 lay-statuses-requires : tie.Need-lay-statuses-requires
-unfolding planOf statusesOf
+unfolding planOf
 lay-statuses-requires c κs =
     let s = c .before .before .before .before .before .before .before .before .before .before .before .before .before .before in
     statuses-fit (planOf (s .args .plan)) (s .pre .sound)
@@ -60,7 +59,7 @@ lay-decisions-requires c κs =
     (s .pre .sixteen, subst (All OpenFits) (sym (s .pre .opens)) (opens-fit (planOf (s .args .plan)) (s .pre .sound)))
 
 direct-precedence-requires : tie.Need-direct-precedence-requires
-unfolding planOf cutsOf
+unfolding planOf
 direct-precedence-requires c κs =
     let s = c .before .before .before .before .before .before .before .before .before .before .before .before .before .before .before .before .before .before .before .before in
     precedes-fit (planOf (s .args .plan)) (s .pre .sound)
@@ -78,7 +77,7 @@ slice-aggregate-lay-spread-2 : tie.Need-slice-aggregate-lay-spread-2
 slice-aggregate-lay-spread-2 c = sym (length-take-le _ _ (omega (arith, c .before .before .before .upto3 .ensures .1, influence-long (c .before .before .before .before .before .before .before .before .before .before .before .before .before .before .before .before .before .before .before .before .before .before .before .before .before .before .before .before .before .before .before .before .before .before .before))))
 
 returns : tie.Need-returns
-unfolding planOf cutsOf setsOf
+unfolding planOf setsOf
 returns c =
     let k₃ = c .before .before .before .before in
     let k₂ = k₃ .before .before in

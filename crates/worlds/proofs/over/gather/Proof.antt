@@ -6,7 +6,7 @@ use native.Mathlib.Omega.{arith}
 use Rattle.sets.specs.paper.Sets.{union, members, unionOf}
 use Rattle.sets.proofs.UnionLaws.{none-union, union-first, union-end}
 use Rattle.worlds.specs.code.Over.{entry}
-use Rattle.worlds.proofs.OverLaws.{members-none}
+use Rattle.sets.proofs.TurnLaws.{members-none}
 use Rattle.worlds.proofs.over.gather.Statement.{statement}
 use Rattle.worlds.proofs.over.gather.Tie as tie
 

@@ -7,7 +7,8 @@ use native.Mathlib.Omega.{arith}
 use lib.ListN.{length, length-set}
 use Rattle.sets.specs.paper.Sets.{has}
 use Rattle.worlds.specs.code.Over.{entry}
-use Rattle.worlds.proofs.OverLaws.{turn-has, change-next, change-end}
+use Rattle.sets.proofs.TurnLaws.{turn-has}
+use Rattle.worlds.proofs.OverLaws.{change-next, change-end}
 use Rattle.worlds.proofs.over.mark.Statement.{statement}
 use Rattle.worlds.proofs.over.mark.Tie as tie
 
@@ -17,11 +18,11 @@ Inv-loop bytes₀ set byte m₀ bytes m = (m < 2 ^ 64) × (length bytes ≡ 64) 
 abbrev μ-loop : tie.MeasureT-loop
 μ-loop bytes₀ set byte m₀ bytes m = m
 
-whole-bytes-requires : tie.Need-whole-bytes-requires Inv-loop μ-loop
-whole-bytes-requires c κs = tt
+whole-64-bytes-requires : tie.Need-whole-64-bytes-requires Inv-loop μ-loop
+whole-64-bytes-requires c κs = tt
 
 loop-holds : tie.Need-loop-holds Inv-loop μ-loop
-loop-holds c = (c .before .before .fits .set .fits, c .whole-bytes .ensures, λ i. refl)
+loop-holds c = (c .before .before .fits .set .fits, c .whole-64-bytes .ensures, λ i. refl)
 
 low-requires : tie.Need-low-requires Inv-loop μ-loop
 low-requires c κs = c .loop-test .taken
@@ -59,7 +60,7 @@ mark-spec =
     (tie.spec
     Inv-loop
     μ-loop
-    whole-bytes-requires
+    whole-64-bytes-requires
     loop-holds
     low-requires
     element-write-bytes

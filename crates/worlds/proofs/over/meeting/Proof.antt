@@ -8,7 +8,7 @@ use native.Mathlib.Omega.{arith}
 use Rattle.sets.specs.paper.Sets.{has, union, meets}
 use Rattle.sets.proofs.SetLaws.{has-none}
 use Rattle.worlds.specs.code.Over.{entry}
-use Rattle.worlds.proofs.OverLaws.{turn-has, found-in, found-out, and-meets, and-apart}
+use Rattle.sets.proofs.TurnLaws.{turn-has, found-in, found-out, and-meets, and-apart}
 use Rattle.worlds.proofs.over.meeting.Statement.{statement}
 use Rattle.worlds.proofs.over.meeting.Tie as tie
 

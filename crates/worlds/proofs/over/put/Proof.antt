@@ -7,7 +7,8 @@ use native.Mathlib.Omega.{arith}
 use lib.ListN.{length, length-set}
 use Rattle.sets.specs.paper.Sets.{has}
 use Rattle.worlds.specs.code.Over.{entry}
-use Rattle.worlds.proofs.OverLaws.{turn-has, change-next, change-end}
+use Rattle.sets.proofs.TurnLaws.{turn-has}
+use Rattle.worlds.proofs.OverLaws.{change-next, change-end}
 use Rattle.worlds.proofs.over.put.Statement.{statement}
 use Rattle.worlds.proofs.over.put.Tie as tie
 
@@ -17,11 +18,11 @@ Inv-loop table₀ set value m₀ table m = (m < 2 ^ 64) × (length table ≡ 64)
 abbrev μ-loop : tie.MeasureT-loop
 μ-loop table₀ set value m₀ table m = m
 
-whole-requires : tie.Need-whole-requires Inv-loop μ-loop
-whole-requires c κs = tt
+whole-64-words-requires : tie.Need-whole-64-words-requires Inv-loop μ-loop
+whole-64-words-requires c κs = tt
 
 loop-holds : tie.Need-loop-holds Inv-loop μ-loop
-loop-holds c = (c .before .before .fits .set .fits, c .whole .ensures, λ i. refl)
+loop-holds c = (c .before .before .fits .set .fits, c .whole-64-words .ensures, λ i. refl)
 
 low-requires : tie.Need-low-requires Inv-loop μ-loop
 low-requires c κs = c .loop-test .taken
@@ -62,7 +63,7 @@ put-spec =
     (tie.spec
     Inv-loop
     μ-loop
-    whole-requires
+    whole-64-words-requires
     loop-holds
     low-requires
     mul-table

@@ -8,7 +8,7 @@ use lib.ListN.{length, length-set}
 use Rattle.sets.specs.paper.Sets.{has}
 use Rattle.worlds.specs.code.Over.{entry}
 use Rattle.worlds.specs.code.Related.{chainBy}
-use Rattle.worlds.proofs.OverLaws.{turn-has}
+use Rattle.sets.proofs.TurnLaws.{turn-has}
 use Rattle.worlds.proofs.RelateLaws.{filled-next, filled-end}
 use Rattle.worlds.proofs.relate.chains.Statement.{statement}
 use Rattle.worlds.proofs.relate.chains.Tie as tie
@@ -21,11 +21,11 @@ Inv-loop direct cuts steps preceded₀ m₀ preceded m =
 abbrev μ-loop : tie.MeasureT-loop
 μ-loop direct cuts steps preceded₀ m₀ preceded m = m
 
-whole-requires : tie.Need-whole-requires Inv-loop μ-loop
-whole-requires c κs = tt
+whole-64-words-requires : tie.Need-whole-64-words-requires Inv-loop μ-loop
+whole-64-words-requires c κs = tt
 
 loop-holds : tie.Need-loop-holds Inv-loop μ-loop
-loop-holds c = (c .before .before .fits .cuts .fits, c .whole .ensures, λ i. refl)
+loop-holds c = (c .before .before .fits .cuts .fits, c .whole-64-words .ensures, λ i. refl)
 
 low-requires : tie.Need-low-requires Inv-loop μ-loop
 low-requires c κs = c .loop-test .taken
@@ -75,7 +75,7 @@ chains-spec =
     (tie.spec
     Inv-loop
     μ-loop
-    whole-requires
+    whole-64-words-requires
     loop-holds
     low-requires
     mul-own

@@ -7,10 +7,9 @@ use lib.ListN.{length, getD, length-set, length-map}
 use borrow.Author.Needs.{needs}
 use Rattle.sets.specs.paper.Sets.{setOf}
 use Rattle.records.specs.paper.Plan.{Cut}
-use Rattle.records.specs.code.Decoded.{cutOf}
+use Rattle.records.specs.code.Decoded.{cutOf, cutsOf}
 use Rattle.records.proofs.plan.Cut.{the-type}
 use Rattle.expressions.specs.paper.Rules.{cut}
-use Rattle.expressions.specs.code.Coded.{cutsOf}
 use Rattle.expressions.proofs.ListLaws.{made-at, made-each, made-length}
 use Rattle.worlds.specs.code.Over.{entry}
 use Rattle.worlds.specs.code.Related.{PrecedesFit}
@@ -28,17 +27,17 @@ abbrev μ-loop : tie.MeasureT-loop
 long : (c : tie.Start Inv-loop μ-loop) → length (c .args .t1 .items) ≡ 16
 long c = sym (length-map (c .args .t1 .items) (the-type .to)) ∙ c .good .0 .1 .1 .1 .0 .1 .0 .1
 
-whole-requires : tie.Need-whole-requires Inv-loop μ-loop
-whole-requires c κs = tt
+whole-64-words-requires : tie.Need-whole-64-words-requires Inv-loop μ-loop
+whole-64-words-requires c κs = tt
 
 upto-requires : tie.Need-upto-requires Inv-loop μ-loop
 upto-requires c κs = tt
 
 loop-holds : tie.Need-loop-holds Inv-loop μ-loop
-loop-holds c = (search needs, c .before .whole .ensures, λ j h. absurd (omega arith))
+loop-holds c = (search needs, c .before .whole-64-words .ensures, λ j h. absurd (omega arith))
 
 set-of-requires : tie.Need-set-of-requires Inv-loop μ-loop
-unfolding cutsOf cutOf
+unfolding cutOf
 set-of-requires c κs =
     let l = c .before .before .before in
     let a = l .before in
@@ -46,7 +45,7 @@ set-of-requires c κs =
     made-each cutOf (s .args .t1 .items) (s .args .t1 .count) 16 (a .upto .result) (long s) (a .upto .ensures .0) PrecedesFit (l .loop .i) _ (search needs) (s .pre)
 
 loop-again : tie.Need-loop-again Inv-loop μ-loop
-unfolding cutsOf cutOf
+unfolding cutOf
 loop-again c =
     let l = c .before .before .before .before in
     let a = l .before in
@@ -60,7 +59,7 @@ loop-again c =
     )
 
 returns : tie.Need-returns Inv-loop μ-loop
-unfolding cutsOf cut
+unfolding cut
 returns c =
     let l = c .before in
     let a = l .before in
@@ -78,7 +77,7 @@ direct-precedence-spec =
     (tie.spec
     Inv-loop
     μ-loop
-    whole-requires
+    whole-64-words-requires
     upto-requires
     loop-holds
     (λ c. search needs)

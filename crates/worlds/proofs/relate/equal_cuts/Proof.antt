@@ -10,7 +10,7 @@ use borrow.Author.Tests.{eq-eqb, ne-eqb}
 use Rattle.sets.specs.paper.Sets.{has, union}
 use Rattle.sets.proofs.SetLaws.{has-none}
 use Rattle.worlds.specs.code.Over.{entry}
-use Rattle.worlds.proofs.OverLaws.{turn-has, found-in, found-out}
+use Rattle.sets.proofs.TurnLaws.{turn-has, found-in, found-out}
 use Rattle.worlds.proofs.relate.equal_cuts.Statement.{statement}
 use Rattle.worlds.proofs.relate.equal_cuts.Tie as tie
 

@@ -8,7 +8,7 @@ use native.Mathlib.Omega.{arith}
 use Rattle.sets.specs.paper.Sets.{has, union, risingLess}
 use Rattle.sets.proofs.SetLaws.{has-none}
 use Rattle.worlds.specs.code.Over.{entry}
-use Rattle.worlds.proofs.OverLaws.{turn-has, found-in, found-out}
+use Rattle.sets.proofs.TurnLaws.{turn-has, found-in, found-out}
 use Rattle.worlds.proofs.relate.later_cuts.Statement.{statement}
 use Rattle.worlds.proofs.relate.later_cuts.Tie as tie
 

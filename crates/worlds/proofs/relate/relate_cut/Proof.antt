@@ -51,7 +51,7 @@ returns c =
         droppers = λ d. ap (λ (x : ℕ). has x d) (here .2 ∙ drops .minus .ensures)
             ∙ dropping-has (entry (a .preceded .now) d) (entry (a .preceded .now) (a .c)) (a .c) (place .ensures) d (after .meeting4 .result) (share .meeting .result) (after .meeting4 .ensures d) (share .meeting .ensures d);
         clashing = λ d. ap (λ (x : ℕ). has x d) (here .3 ∙ k₄ .before .minus2 .ensures) ∙ clashing-has (share .meeting .result) (twin .equal-cuts .result) d (has (a .cuts) d) (meets (row (a .t .now) 1 d) own) (eqb own (row (a .t .now) 1 d)) (share .meeting .ensures d) (twin .equal-cuts .ensures d);
-        earlier = λ d. ap (λ (x : ℕ). has x d) (here .4) ∙ late .later-cuts .ensures d ∙ ap (λ (b : Bool). b && risingLess own (row (a .t .now) 1 d)) (share .meeting .ensures d);
+        later = λ d. ap (λ (x : ℕ). has x d) (here .4) ∙ late .later-cuts .ensures d ∙ ap (λ (b : Bool). b && risingLess own (row (a .t .now) 1 d)) (share .meeting .ensures d);
         crossing = λ e. ap (λ (x : ℕ). has x e) (here .5) ∙ crosses .meeting3 .ensures e ∙ ap (λ (b : Bool). b && meets (row (a .t .now) 0 e) ((2 ^ 64 - 1) - own)) (inward .meeting2 .ensures e);
       };
       others = six-beside (a .c) (k₁ .lay .ensures) (k₂ .lay2 .ensures) (k₃ .lay3 .ensures) (k₄ .lay4 .ensures) (k₅ .lay5 .ensures) (c .lay6 .ensures);

@@ -8,7 +8,7 @@ use Rattle.sets.specs.paper.Sets.{has, anyOf}
 use Rattle.sets.proofs.SetLaws.{has-none}
 use Rattle.worlds.specs.code.Laid.{Same}
 use Rattle.worlds.specs.code.Related.{RelatedAt}
-use Rattle.worlds.proofs.OverLaws.{turn-has}
+use Rattle.sets.proofs.TurnLaws.{turn-has}
 use Rattle.worlds.proofs.LayLaws.{same-start}
 use Rattle.worlds.proofs.RelateLaws.{done-next, related-before, related-after, same-then}
 use Rattle.worlds.proofs.relate.relate_cuts.Statement.{statement}

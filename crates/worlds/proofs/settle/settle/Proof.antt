@@ -23,7 +23,7 @@ returns c =
     let notes = parts .before .before .before .before .before in
     let a = notes .before .before .args in
     settles (a .t .now) (a .common) (a .active) (a .noted .now) (cuts .settle-cuts .last .1 .1 .0) _ (cuts .settle-cuts .result) (seed .gather .result) (left .minus .result) (moving .gather3 .result) _
-    (notes .whole-notes .ensures)
+    (notes .whole-3-rows .ensures .0)
     (record {
       components = parts .loose-parts .ensures .0;
       renewed = parts .loose-parts .ensures .1;

@@ -9,7 +9,8 @@ use native.Mathlib.Omega.{arith}
 use lib.ListN.{length, set, length-set}
 use Rattle.sets.specs.paper.Sets.{has, minus}
 use Rattle.worlds.specs.code.Over.{entry}
-use Rattle.worlds.proofs.OverLaws.{turn-has, change-end}
+use Rattle.sets.proofs.TurnLaws.{turn-has}
+use Rattle.worlds.proofs.OverLaws.{change-end}
 use Rattle.worlds.proofs.AttachLaws.{regrouped, regrouped-twice, change-at}
 use Rattle.worlds.proofs.world.regroup.Statement.{statement}
 use Rattle.worlds.proofs.world.regroup.Tie as tie
@@ -23,11 +24,11 @@ Inv-loop blocks₀ persons target movers m₀ blocks m =
 abbrev μ-loop : tie.MeasureT-loop
 μ-loop blocks₀ persons target movers m₀ blocks m = m
 
-whole-requires : tie.Need-whole-requires Inv-loop μ-loop
-whole-requires c κs = tt
+whole-64-words-requires : tie.Need-whole-64-words-requires Inv-loop μ-loop
+whole-64-words-requires c κs = tt
 
 loop-holds : tie.Need-loop-holds Inv-loop μ-loop
-loop-holds c = (c .before .before .fits .persons .fits, c .whole .ensures, λ p. refl)
+loop-holds c = (c .before .before .fits .persons .fits, c .whole-64-words .ensures, λ p. refl)
 
 low-requires : tie.Need-low-requires Inv-loop μ-loop
 low-requires c κs = c .loop-test .taken
@@ -108,7 +109,7 @@ regroup-spec =
     (tie.spec
     Inv-loop
     μ-loop
-    whole-requires
+    whole-64-words-requires
     loop-holds
     low-requires
     cast-contains

@@ -28,7 +28,7 @@ loop-holds : tie.Need-loop-holds Inv-loop μ-loop
 loop-holds c =
     let x = c .before .args .t2 in
     let long : length (x .items) ≡ 64 = simp length-map at (c .before .good .1 .0 .1 .1 .1 .0 .1 .0 .1) in
-    (omega arith, omega (arith, c .least .ensures, min-le-right (x .count) 64), c .least .ensures ∙ sym (length-front booleanOf (x .items) (x .count) 64 long), λ P C e. none-yet (c .before .args .first) (booleanFaults P x) C)
+    (omega arith, omega (arith, c .upto .ensures .0, min-le-right (x .count) 64), c .upto .ensures .0 ∙ sym (length-front booleanOf (x .items) (x .count) 64 long), λ P C e. none-yet (c .before .args .first) (booleanFaults P x) C)
 
 returns : tie.Need-returns Inv-loop μ-loop
 unfolding booleanOf

@@ -27,7 +27,7 @@ loop-holds : tie.Need-loop-holds Inv-loop μ-loop
 loop-holds c =
     let x = c .before .args .t2 in
     let long : length (x .items) ≡ 16 = sym (lib.ListN.length-map (x .items) (λ v. v)) ∙ c .before .good .1 .0 .1 .1 .1 .0 .1 .0 .1 in
-    let e = c .least .ensures in
+    let e = c .upto .ensures .0 in
     (omega arith, omega (arith, e, min-le-right (x .count) 16), omega (arith, e, min-le-left (x .count) 16), e ∙ sym (length-take (x .count) (x .items) ∙ rw long), λ P C h. none-yet (c .before .args .first) (constraintFaults P x) C)
 
 returns : tie.Need-returns Inv-loop μ-loop

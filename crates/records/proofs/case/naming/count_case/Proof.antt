@@ -17,20 +17,20 @@ returns c =
     let g = s .good .0 .1 .1 .1 .1 in
     let p = s .args .case in (
       record {
-        headings = c .before .before .before .before .least .ensures ∙ sym (length-take (p .headings) _);
-        families = c .before .before .before .least2 .ensures ∙ sym (length-front familyOf (p .families .items) (p .families .count) 16 (simp length-map at (g .0 .1 .1 .1 .0 .1 .0 .1)));
-        booleans = c .before .before .least3 .ensures ∙ sym (length-front booleanOf (p .booleans .items) (p .booleans .count) 64 (simp length-map at (g .1 .0 .1 .1 .1 .0 .1 .0 .1)));
-        relations = c .before .least4 .ensures ∙ sym (length-front relationOf (p .relations .items) (p .relations .count) 256 (simp length-map at (g .1 .1 .0 .1 .1 .1 .0 .1 .0 .1)));
+        headings = c .before .before .before .before .upto .ensures .0 ∙ sym (length-take (p .headings) _);
+        families = c .before .before .before .upto2 .ensures .0 ∙ sym (length-front familyOf (p .families .items) (p .families .count) 16 (simp length-map at (g .0 .1 .1 .1 .0 .1 .0 .1)));
+        booleans = c .before .before .upto3 .ensures .0 ∙ sym (length-front booleanOf (p .booleans .items) (p .booleans .count) 64 (simp length-map at (g .1 .0 .1 .1 .1 .0 .1 .0 .1)));
+        relations = c .before .upto4 .ensures .0 ∙ sym (length-front relationOf (p .relations .items) (p .relations .count) 256 (simp length-map at (g .1 .1 .0 .1 .1 .1 .0 .1 .0 .1)));
         constraints =
             let long : length (p .constraints .items) ≡ 16 = simp length-map at (g .1 .1 .1 .0 .1 .1 .1 .0 .1 .0 .1) in
-            c .least5 .ensures ∙ sym (length-take (p .constraints .count) (p .constraints .items) ∙ ap (λ (m : ℕ). min (p .constraints .count) m) long);
+            c .upto5 .ensures .0 ∙ sym (length-take (p .constraints .count) (p .constraints .items) ∙ ap (λ (m : ℕ). min (p .constraints .count) m) long);
       },
       record {
-        headings = omega (arith, c .before .before .before .before .least .ensures, min-le-right (p .headings) 1);
-        families = omega (arith, c .before .before .before .least2 .ensures, min-le-right (p .families .count) 16);
-        booleans = omega (arith, c .before .before .least3 .ensures, min-le-right (p .booleans .count) 64);
-        relations = omega (arith, c .before .least4 .ensures, min-le-right (p .relations .count) 256);
-        constraints = omega (arith, c .least5 .ensures, min-le-right (p .constraints .count) 16);
+        headings = omega (arith, c .before .before .before .before .upto .ensures .0, min-le-right (p .headings) 1);
+        families = omega (arith, c .before .before .before .upto2 .ensures .0, min-le-right (p .families .count) 16);
+        booleans = omega (arith, c .before .before .upto3 .ensures .0, min-le-right (p .booleans .count) 64);
+        relations = omega (arith, c .before .upto4 .ensures .0, min-le-right (p .relations .count) 256);
+        constraints = omega (arith, c .upto5 .ensures .0, min-le-right (p .constraints .count) 16);
       },
     )
 

@@ -26,8 +26,8 @@ loop-holds : tie.Need-loop-holds Inv-loop μ-loop
 loop-holds c =
     let f = c .before .args .t1 in
     let long : length (f .items) ≡ 16 = simp length-map at (c .before .good .0 .1 .1 .1 .0 .1 .0 .1) in
-    let e = c .least .ensures ∙ sym (length-front familyOf (f .items) (f .count) 16 long) in
-    (omega arith, omega (arith, c .least .ensures, min-le-right (f .count) 16), e, refl)
+    let e = c .upto .ensures .0 ∙ sym (length-front familyOf (f .items) (f .count) 16 long) in
+    (omega arith, omega (arith, c .upto .ensures .0, min-le-right (f .count) 16), e, refl)
 
 returns : tie.Need-returns Inv-loop μ-loop
 returns c =

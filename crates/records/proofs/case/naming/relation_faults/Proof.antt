@@ -27,7 +27,7 @@ loop-holds : tie.Need-loop-holds Inv-loop μ-loop
 loop-holds c =
     let x = c .before .args .t2 in
     let long : length (x .items) ≡ 256 = simp length-map at (c .before .good .1 .0 .1 .1 .1 .0 .1 .0 .1) in
-    (omega arith, omega (arith, c .least .ensures, min-le-right (x .count) 256), c .least .ensures ∙ sym (length-front relationOf (x .items) (x .count) 256 long), λ P C e. none-yet (c .before .args .first) (relationFaults P C x) C)
+    (omega arith, omega (arith, c .upto .ensures .0, min-le-right (x .count) 256), c .upto .ensures .0 ∙ sym (length-front relationOf (x .items) (x .count) 256 long), λ P C e. none-yet (c .before .args .first) (relationFaults P C x) C)
 
 returns : tie.Need-returns Inv-loop μ-loop
 unfolding relationOf

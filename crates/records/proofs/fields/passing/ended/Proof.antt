@@ -1,5 +1,5 @@
 -- After the last kind: what was refused, or what is refused now.
-use mathlib.Core.Path.{refl, sym, _∙_}
+use mathlib.Core.Path.{refl}
 use denote.Ref.{now}
 use lib.ListN.{length}
 use borrow.Author.Tests.{lt-ltb, le-ltb, eq-eqb, ne-eqb}
@@ -13,14 +13,12 @@ returns c = let a = c .before .before .before .args in (rw (ne-eqb (a .last .num
 returns-2 : tie.Need-returns-2
 returns-2 c =
     let a = c .before .before .before .before .before .before .args in
-    (rw (eq-eqb (a .last .number) 0 (c .before .before .before .if1 .left), lt-ltb (a .last .at) (length (now (a .s))) (c .before .if2 .taken)) (c .refusal .ensures .0), c .refusal .ensures .1)
+    rw (c .refused .ensures, eq-eqb (a .last .number) 0 (c .before .before .before .if1 .left), lt-ltb (a .last .at) (length (now (a .s))) (c .before .if2 .taken)) (refl, refl)
 
 returns-3 : tie.Need-returns-3
 returns-3 c =
-    let a = c .before .before .before .before .before .before .before .before .args in (
-      rw (eq-eqb (a .last .number) 0 (c .before .before .before .before .before .if1 .left), le-ltb (a .last .at) (length (now (a .s))) (c .before .before .before .if2 .left), eq-eqb (a .last .«record») 0 (c .before .if3 .taken)) (c .refusal2 .ensures .0),
-      c .refusal2 .ensures .1 ∙ sym (c .before .if3 .taken),
-    )
+    let a = c .before .before .before .before .before .before .before .before .args in
+    rw (c .refused2 .ensures, eq-eqb (a .last .number) 0 (c .before .before .before .before .before .if1 .left), le-ltb (a .last .at) (length (now (a .s))) (c .before .before .before .if2 .left), eq-eqb (a .last .«record») 0 (c .before .if3 .taken)) (refl, refl)
 
 returns-4 : tie.Need-returns-4
 returns-4 c =

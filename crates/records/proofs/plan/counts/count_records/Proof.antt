@@ -19,24 +19,24 @@ returns c =
     let g = s .good .0 .1 .1 .1 .1 .1 .1 in
     let p = s .args .plan in (
       record {
-        headings = c .before .before .before .before .before .before .before .least .ensures ∙ sym (length-take (p .headings) _);
-        facts = c .before .before .before .before .before .before .least2 .ensures ∙ sym (length-front factOf (p .facts .items) (p .facts .count) 64 (simp length-map at (g .0 .1 .1 .1 .0 .1 .0 .1)));
-        nodes = c .before .before .before .before .before .least3 .ensures ∙ sym (length-front nodeOf (p .nodes .items) (p .nodes .count) 256 (simp length-map at (g .1 .0 .1 .1 .1 .0 .1 .0 .1)));
-        edges = c .before .before .before .before .least4 .ensures ∙ sym (length-front edgeOf (p .edges .items) (p .edges .count) 64 (simp length-map at (g .1 .1 .0 .1 .1 .1 .0 .1 .0 .1)));
-        cuts = c .before .before .before .least5 .ensures ∙ sym (length-front cutOf (p .cuts .items) (p .cuts .count) 16 (simp length-map at (g .1 .1 .1 .0 .1 .1 .1 .0 .1 .0 .1)));
-        attachments = c .before .before .least6 .ensures ∙ sym (length-front attachmentOf (p .attachments .items) (p .attachments .count) 32 (simp length-map at (g .1 .1 .1 .1 .0 .1 .1 .1 .0 .1 .0 .1)));
-        bars = c .before .least7 .ensures ∙ sym (length-front barOf (p .bars .items) (p .bars .count) 32 (simp length-map at (g .1 .1 .1 .1 .1 .0 .1 .1 .1 .0 .1 .0 .1)));
-        statuses = c .least8 .ensures ∙ sym (length-front statusOf (p .statuses .items) (p .statuses .count) 32 (simp length-map at (g .1 .1 .1 .1 .1 .1 .0 .1 .1 .1 .0 .1 .0 .1)));
+        headings = c .before .before .before .before .before .before .before .upto .ensures .0 ∙ sym (length-take (p .headings) _);
+        facts = c .before .before .before .before .before .before .upto2 .ensures .0 ∙ sym (length-front factOf (p .facts .items) (p .facts .count) 64 (simp length-map at (g .0 .1 .1 .1 .0 .1 .0 .1)));
+        nodes = c .before .before .before .before .before .upto3 .ensures .0 ∙ sym (length-front nodeOf (p .nodes .items) (p .nodes .count) 256 (simp length-map at (g .1 .0 .1 .1 .1 .0 .1 .0 .1)));
+        edges = c .before .before .before .before .upto4 .ensures .0 ∙ sym (length-front edgeOf (p .edges .items) (p .edges .count) 64 (simp length-map at (g .1 .1 .0 .1 .1 .1 .0 .1 .0 .1)));
+        cuts = c .before .before .before .upto5 .ensures .0 ∙ sym (length-front cutOf (p .cuts .items) (p .cuts .count) 16 (simp length-map at (g .1 .1 .1 .0 .1 .1 .1 .0 .1 .0 .1)));
+        attachments = c .before .before .upto6 .ensures .0 ∙ sym (length-front attachmentOf (p .attachments .items) (p .attachments .count) 32 (simp length-map at (g .1 .1 .1 .1 .0 .1 .1 .1 .0 .1 .0 .1)));
+        bars = c .before .upto7 .ensures .0 ∙ sym (length-front barOf (p .bars .items) (p .bars .count) 32 (simp length-map at (g .1 .1 .1 .1 .1 .0 .1 .1 .1 .0 .1 .0 .1)));
+        statuses = c .upto8 .ensures .0 ∙ sym (length-front statusOf (p .statuses .items) (p .statuses .count) 32 (simp length-map at (g .1 .1 .1 .1 .1 .1 .0 .1 .1 .1 .0 .1 .0 .1)));
       },
       record {
-        headings = at-most (p .headings) 1 (c .before .before .before .before .before .before .before .least .ensures);
-        facts = at-most (p .facts .count) 64 (c .before .before .before .before .before .before .least2 .ensures);
-        nodes = at-most (p .nodes .count) 256 (c .before .before .before .before .before .least3 .ensures);
-        edges = at-most (p .edges .count) 64 (c .before .before .before .before .least4 .ensures);
-        cuts = at-most (p .cuts .count) 16 (c .before .before .before .least5 .ensures);
-        attachments = at-most (p .attachments .count) 32 (c .before .before .least6 .ensures);
-        bars = at-most (p .bars .count) 32 (c .before .least7 .ensures);
-        statuses = at-most (p .statuses .count) 32 (c .least8 .ensures);
+        headings = at-most (p .headings) 1 (c .before .before .before .before .before .before .before .upto .ensures .0);
+        facts = at-most (p .facts .count) 64 (c .before .before .before .before .before .before .upto2 .ensures .0);
+        nodes = at-most (p .nodes .count) 256 (c .before .before .before .before .before .upto3 .ensures .0);
+        edges = at-most (p .edges .count) 64 (c .before .before .before .before .upto4 .ensures .0);
+        cuts = at-most (p .cuts .count) 16 (c .before .before .before .upto5 .ensures .0);
+        attachments = at-most (p .attachments .count) 32 (c .before .before .upto6 .ensures .0);
+        bars = at-most (p .bars .count) 32 (c .before .upto7 .ensures .0);
+        statuses = at-most (p .statuses .count) 32 (c .upto8 .ensures .0);
       },
     )
 

@@ -3,6 +3,7 @@ use mathlib.Core.Path.{refl, sym, ap}
 use Prim.Native.Nat.{_/_, _%_}
 use lib.Dec.{eqb}
 use denote.Ref.{now}
+use Rattle.records.specs.paper.Fields.{evidence}
 use Rattle.records.specs.paper.Case.{caseFormats, booleanFrom}
 use Rattle.records.specs.code.Readers.{fieldRead, pairsRead, mapRead, first}
 use Rattle.records.specs.code.Passes.{withBits}
@@ -37,7 +38,7 @@ unfolding caseFormats
 returns-4 c = (
   sym (ap (mapRead (withBits booleanFrom)) (raw-bad caseFormats 3 (now (c .before .before .before .before .before .before .before .before .before .before .before .before .before .before .before .before .args .s)) (c .before .before .before .before .before .before .before .before .before .before .before .before .before .before .before .before .args .at) (seen fieldRead (c .before .before .before .before .before .before .before .before .before .before .before .before .before .before .byte-at .ensures) (c .before .before .before .before .before .before .before .before .before .before .before .before .bits .given .1))
       (skip _ _ _ _ refl _ _ (found first _ (seen fieldRead (c .before .before .before .before .before .before .before .before .before .before .opt-at .ensures) (c .before .before .before .before .before .before .before .before .fact .given .1)) .is)
-      (skip _ _ _ _ (half-of _ 2) _ _ (given-of (eqb (c .before .before .before .before .before .before .before .before .before .before .before .before .bits .given .0 .0 / 2 % 2) 1) (now (c .before .before .before .before .before .before .before .before .before .before .before .before .before .before .before .before .args .s)) (c .before .before .before .before .before .before .before .before .fact .given .0 .1 .0) (record { low = 0; top = 63 }) (seen fieldRead (c .before .before .before .before .before .before .opt-at2 .ensures) (c .before .before .before .before .evidence .given .1)))
+      (skip _ _ _ _ (half-of _ 2) _ _ (given-of (eqb (c .before .before .before .before .before .before .before .before .before .before .before .before .bits .given .0 .0 / 2 % 2) 1) (now (c .before .before .before .before .before .before .before .before .before .before .before .before .before .before .before .before .args .s)) (c .before .before .before .before .before .before .before .before .fact .given .0 .1 .0) evidence (seen fieldRead (c .before .before .before .before .before .before .opt-at2 .ensures) (c .before .before .before .before .evidence .given .1)))
       (stop _ _ _ _ (half-of _ 4) _ _ (seen (pairsRead (now (c .before .before .before .before .before .before .before .before .before .before .before .before .before .before .before .before .args .s))) (c .before .before .pairs-at .ensures .0) (c .enum-told4 .given .1))))))),
   tt,
 )
@@ -49,7 +50,7 @@ returns-5 c =
       rw (
         raw-got caseFormats 3 (now (c .before .before .before .before .before .before .before .before .before .before .before .before .before .before .before .before .before .before .args .s)) (c .before .before .before .before .before .before .before .before .before .before .before .before .before .before .before .before .before .before .args .at) (seen fieldRead (c .before .before .before .before .before .before .before .before .before .before .before .before .before .before .before .before .byte-at .ensures) (c .before .before .before .before .before .before .before .before .before .before .before .before .before .before .bits .given .1))
             (more _ _ _ _ refl _ _ (found first _ (seen fieldRead (c .before .before .before .before .before .before .before .before .before .before .before .before .opt-at .ensures) (c .before .before .before .before .before .before .before .before .before .before .fact .given .1)) .is)
-            (more _ _ _ _ (half-of _ 2) _ _ (given-of (eqb (c .before .before .before .before .before .before .before .before .before .before .before .before .before .before .bits .given .0 .0 / 2 % 2) 1) (now (c .before .before .before .before .before .before .before .before .before .before .before .before .before .before .before .before .before .before .args .s)) (c .before .before .before .before .before .before .before .before .before .before .fact .given .0 .1 .0) (record { low = 0; top = 63 }) (seen fieldRead (c .before .before .before .before .before .before .before .before .opt-at2 .ensures) (c .before .before .before .before .before .before .evidence .given .1)))
+            (more _ _ _ _ (half-of _ 2) _ _ (given-of (eqb (c .before .before .before .before .before .before .before .before .before .before .before .before .before .before .bits .given .0 .0 / 2 % 2) 1) (now (c .before .before .before .before .before .before .before .before .before .before .before .before .before .before .before .before .before .before .args .s)) (c .before .before .before .before .before .before .before .before .before .before .fact .given .0 .1 .0) evidence (seen fieldRead (c .before .before .before .before .before .before .before .before .opt-at2 .ensures) (c .before .before .before .before .before .before .evidence .given .1)))
             (more _ _ _ _ (half-of _ 4) _ _ (seen (pairsRead (now (c .before .before .before .before .before .before .before .before .before .before .before .before .before .before .before .before .before .before .args .s))) (c .before .before .before .before .pairs-at .ensures .0) (c .before .before .first .given .1))
             (last _ _ _ (c .if1 .taken))))),
         found first _ (seen fieldRead (c .before .before .before .before .before .before .before .before .before .before .before .before .opt-at .ensures) (c .before .before .before .before .before .before .before .before .before .before .fact .given .1)) .means,
@@ -62,7 +63,7 @@ unfolding caseFormats
 returns-6 c = (
   sym (ap (mapRead (withBits booleanFrom)) (raw-bad caseFormats 3 (now (c .before .before .before .before .before .before .before .before .before .before .before .before .before .before .before .before .before .before .args .s)) (c .before .before .before .before .before .before .before .before .before .before .before .before .before .before .before .before .before .before .args .at) (seen fieldRead (c .before .before .before .before .before .before .before .before .before .before .before .before .before .before .before .before .byte-at .ensures) (c .before .before .before .before .before .before .before .before .before .before .before .before .before .before .bits .given .1))
       (skip _ _ _ _ refl _ _ (found first _ (seen fieldRead (c .before .before .before .before .before .before .before .before .before .before .before .before .opt-at .ensures) (c .before .before .before .before .before .before .before .before .before .before .fact .given .1)) .is)
-      (skip _ _ _ _ (half-of _ 2) _ _ (given-of (eqb (c .before .before .before .before .before .before .before .before .before .before .before .before .before .before .bits .given .0 .0 / 2 % 2) 1) (now (c .before .before .before .before .before .before .before .before .before .before .before .before .before .before .before .before .before .before .args .s)) (c .before .before .before .before .before .before .before .before .before .before .fact .given .0 .1 .0) (record { low = 0; top = 63 }) (seen fieldRead (c .before .before .before .before .before .before .before .before .opt-at2 .ensures) (c .before .before .before .before .before .before .evidence .given .1)))
+      (skip _ _ _ _ (half-of _ 2) _ _ (given-of (eqb (c .before .before .before .before .before .before .before .before .before .before .before .before .before .before .bits .given .0 .0 / 2 % 2) 1) (now (c .before .before .before .before .before .before .before .before .before .before .before .before .before .before .before .before .before .before .args .s)) (c .before .before .before .before .before .before .before .before .before .before .fact .given .0 .1 .0) evidence (seen fieldRead (c .before .before .before .before .before .before .before .before .opt-at2 .ensures) (c .before .before .before .before .before .before .evidence .given .1)))
       (skip _ _ _ _ (half-of _ 4) _ _ (seen (pairsRead (now (c .before .before .before .before .before .before .before .before .before .before .before .before .before .before .before .before .before .before .args .s))) (c .before .before .before .before .pairs-at .ensures .0) (c .before .before .first .given .1))
       (unknown _ _ _ (c .if1 .left))))))),
   tt,

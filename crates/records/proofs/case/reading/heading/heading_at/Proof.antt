@@ -3,7 +3,7 @@ use mathlib.Core.Path.{refl, sym, ap}
 use Prim.Native.Nat.{_/_, _%_}
 use lib.Dec.{eqb}
 use denote.Ref.{now}
-use Rattle.records.specs.paper.Fields.{little}
+use Rattle.records.specs.paper.Fields.{evidence, little}
 use Rattle.records.specs.paper.Case.{caseFormats, caseHeadingFrom}
 use Rattle.records.specs.code.Decoded.{caseHeadingOf}
 use Rattle.records.specs.code.Readers.{fieldRead, wideRead, shortRead, mapRead, first}
@@ -63,7 +63,7 @@ returns-7 c = sym (ap (mapRead (withBits caseHeadingFrom)) (raw-bad caseFormats 
     (skip _ _ _ _ (half-of _ 4) _ _ (found first _ (seen fieldRead (c .before .before .before .before .before .before .before .before .before .before .before .before .before .before .opt-at3 .ensures) (c .before .before .before .before .before .before .before .before .before .before .before .before .segment .given .1)) .is)
     (skip _ _ _ _ (half-of _ 8) _ _ (no-field (now (c .before .before .before .before .before .before .before .before .before .before .before .before .before .before .before .before .before .before .before .before .before .before .before .before .before .before .before .before .args .s)) (c .before .before .before .before .before .before .before .before .before .before .before .before .segment .given .0 .1 .0) (eqb (c .before .before .before .before .before .before .before .before .before .before .before .before .before .before .before .before .before .before .before .before .before .before .before .before .bits .given .0 .0 / 8 % 2) 1))
     (skip _ _ _ _ (half-of _ 16) _ _ (found little _ (seen wideRead (c .before .before .before .before .before .before .before .before .before .before .mask-at .ensures) (c .before .before .before .before .before .before .before .before .roster .given .1)) .is)
-    (skip _ _ _ _ (half-of _ 32) _ _ (given-of (eqb (c .before .before .before .before .before .before .before .before .before .before .before .before .before .before .before .before .before .before .before .before .before .before .before .before .bits .given .0 .0 / 32 % 2) 1) (now (c .before .before .before .before .before .before .before .before .before .before .before .before .before .before .before .before .before .before .before .before .before .before .before .before .before .before .before .before .args .s)) (c .before .before .before .before .before .before .before .before .roster .given .0 .1 .0) (record { low = 0; top = 63 }) (seen fieldRead (c .before .before .before .before .before .before .opt-at4 .ensures) (c .before .before .before .before .evidence .given .1)))
+    (skip _ _ _ _ (half-of _ 32) _ _ (given-of (eqb (c .before .before .before .before .before .before .before .before .before .before .before .before .before .before .before .before .before .before .before .before .before .before .before .before .bits .given .0 .0 / 32 % 2) 1) (now (c .before .before .before .before .before .before .before .before .before .before .before .before .before .before .before .before .before .before .before .before .before .before .before .before .before .before .before .before .args .s)) (c .before .before .before .before .before .before .before .before .roster .given .0 .1 .0) evidence (seen fieldRead (c .before .before .before .before .before .before .opt-at4 .ensures) (c .before .before .before .before .evidence .given .1)))
     (stop _ _ _ _ (half-of _ 64) _ _ (none little _ (seen shortRead (c .before .before .short-at .ensures) (c .enum-told7 .given .1))))))))))))
 
 returns-8 : tie.Need-returns-8
@@ -75,7 +75,7 @@ returns-8 c = rw (
       (more _ _ _ _ (half-of _ 4) _ _ (found first _ (seen fieldRead (c .before .before .before .before .before .before .before .before .before .before .before .before .before .before .before .before .opt-at3 .ensures) (c .before .before .before .before .before .before .before .before .before .before .before .before .before .before .segment .given .1)) .is)
       (more _ _ _ _ (half-of _ 8) _ _ (no-field (now (c .before .before .before .before .before .before .before .before .before .before .before .before .before .before .before .before .before .before .before .before .before .before .before .before .before .before .before .before .before .before .args .s)) (c .before .before .before .before .before .before .before .before .before .before .before .before .before .before .segment .given .0 .1 .0) (eqb (c .before .before .before .before .before .before .before .before .before .before .before .before .before .before .before .before .before .before .before .before .before .before .before .before .before .before .bits .given .0 .0 / 8 % 2) 1))
       (more _ _ _ _ (half-of _ 16) _ _ (found little _ (seen wideRead (c .before .before .before .before .before .before .before .before .before .before .before .before .mask-at .ensures) (c .before .before .before .before .before .before .before .before .before .before .roster .given .1)) .is)
-      (more _ _ _ _ (half-of _ 32) _ _ (given-of (eqb (c .before .before .before .before .before .before .before .before .before .before .before .before .before .before .before .before .before .before .before .before .before .before .before .before .before .before .bits .given .0 .0 / 32 % 2) 1) (now (c .before .before .before .before .before .before .before .before .before .before .before .before .before .before .before .before .before .before .before .before .before .before .before .before .before .before .before .before .before .before .args .s)) (c .before .before .before .before .before .before .before .before .before .before .roster .given .0 .1 .0) (record { low = 0; top = 63 }) (seen fieldRead (c .before .before .before .before .before .before .before .before .opt-at4 .ensures) (c .before .before .before .before .before .before .evidence .given .1)))
+      (more _ _ _ _ (half-of _ 32) _ _ (given-of (eqb (c .before .before .before .before .before .before .before .before .before .before .before .before .before .before .before .before .before .before .before .before .before .before .before .before .before .before .bits .given .0 .0 / 32 % 2) 1) (now (c .before .before .before .before .before .before .before .before .before .before .before .before .before .before .before .before .before .before .before .before .before .before .before .before .before .before .before .before .before .before .args .s)) (c .before .before .before .before .before .before .before .before .before .before .roster .given .0 .1 .0) evidence (seen fieldRead (c .before .before .before .before .before .before .before .before .opt-at4 .ensures) (c .before .before .before .before .before .before .evidence .given .1)))
       (more _ _ _ _ (half-of _ 64) _ _ (found little _ (seen shortRead (c .before .before .before .before .short-at .ensures) (c .before .before .most .given .1)) .is)
       (last _ _ _ (c .if1 .taken))))))))),
   found first _ (seen fieldRead (c .before .before .before .before .before .before .before .before .before .before .before .before .before .before .before .before .before .before .before .before .before .before .before .before .opt-at .ensures) (c .before .before .before .before .before .before .before .before .before .before .before .before .before .before .before .before .before .before .before .before .before .before .relation .given .1)) .means,
@@ -94,7 +94,7 @@ returns-9 c = sym (ap (mapRead (withBits caseHeadingFrom)) (raw-bad caseFormats 
     (skip _ _ _ _ (half-of _ 4) _ _ (found first _ (seen fieldRead (c .before .before .before .before .before .before .before .before .before .before .before .before .before .before .before .before .opt-at3 .ensures) (c .before .before .before .before .before .before .before .before .before .before .before .before .before .before .segment .given .1)) .is)
     (skip _ _ _ _ (half-of _ 8) _ _ (no-field (now (c .before .before .before .before .before .before .before .before .before .before .before .before .before .before .before .before .before .before .before .before .before .before .before .before .before .before .before .before .before .before .args .s)) (c .before .before .before .before .before .before .before .before .before .before .before .before .before .before .segment .given .0 .1 .0) (eqb (c .before .before .before .before .before .before .before .before .before .before .before .before .before .before .before .before .before .before .before .before .before .before .before .before .before .before .bits .given .0 .0 / 8 % 2) 1))
     (skip _ _ _ _ (half-of _ 16) _ _ (found little _ (seen wideRead (c .before .before .before .before .before .before .before .before .before .before .before .before .mask-at .ensures) (c .before .before .before .before .before .before .before .before .before .before .roster .given .1)) .is)
-    (skip _ _ _ _ (half-of _ 32) _ _ (given-of (eqb (c .before .before .before .before .before .before .before .before .before .before .before .before .before .before .before .before .before .before .before .before .before .before .before .before .before .before .bits .given .0 .0 / 32 % 2) 1) (now (c .before .before .before .before .before .before .before .before .before .before .before .before .before .before .before .before .before .before .before .before .before .before .before .before .before .before .before .before .before .before .args .s)) (c .before .before .before .before .before .before .before .before .before .before .roster .given .0 .1 .0) (record { low = 0; top = 63 }) (seen fieldRead (c .before .before .before .before .before .before .before .before .opt-at4 .ensures) (c .before .before .before .before .before .before .evidence .given .1)))
+    (skip _ _ _ _ (half-of _ 32) _ _ (given-of (eqb (c .before .before .before .before .before .before .before .before .before .before .before .before .before .before .before .before .before .before .before .before .before .before .before .before .before .before .bits .given .0 .0 / 32 % 2) 1) (now (c .before .before .before .before .before .before .before .before .before .before .before .before .before .before .before .before .before .before .before .before .before .before .before .before .before .before .before .before .before .before .args .s)) (c .before .before .before .before .before .before .before .before .before .before .roster .given .0 .1 .0) evidence (seen fieldRead (c .before .before .before .before .before .before .before .before .opt-at4 .ensures) (c .before .before .before .before .before .before .evidence .given .1)))
     (skip _ _ _ _ (half-of _ 64) _ _ (found little _ (seen shortRead (c .before .before .before .before .short-at .ensures) (c .before .before .most .given .1)) .is)
     (unknown _ _ _ (c .if1 .left)))))))))))
 

@@ -17,16 +17,16 @@ abbrev μ-loop : tie.MeasureT-loop
 μ-loop edge i d n j₀ j = n - j
 
 loop-holds : tie.Need-loop-holds Inv-loop μ-loop
-loop-holds c = (omega (arith, c .before .pre, c .to-index .ensures), refl)
+loop-holds c = (omega (arith, c .before .pre, c .wide .ensures), refl)
 
 returns : tie.Need-returns Inv-loop μ-loop
-returns c = any-here (c .before .before .before .before .before .args .t1) (c .before .before .before .before .before .args .edge) (c .before .before .before .loop .j) (omega (arith, c .before .before .loop-test .taken, c .before .before .before .before .to-index .ensures)) (c .if1 .taken) ∙ c .before .before .before .loop .inv .1
+returns c = any-here (c .before .before .before .before .before .args .t1) (c .before .before .before .before .before .args .edge) (c .before .before .before .loop .j) (omega (arith, c .before .before .loop-test .taken, c .before .before .before .before .wide .ensures)) (c .if1 .taken) ∙ c .before .before .before .loop .inv .1
 
 loop-again : tie.Need-loop-again Inv-loop μ-loop
-loop-again c = (omega arith, any-later (c .before .before .before .before .before .args .t1) (c .before .before .before .before .before .args .edge) (c .before .before .before .loop .j) (omega (arith, c .before .before .loop-test .taken, c .before .before .before .before .to-index .ensures)) (c .if1 .left) ∙ c .before .before .before .loop .inv .1)
+loop-again c = (omega arith, any-later (c .before .before .before .before .before .args .t1) (c .before .before .before .before .before .args .edge) (c .before .before .before .loop .j) (omega (arith, c .before .before .loop-test .taken, c .before .before .before .before .wide .ensures)) (c .if1 .left) ∙ c .before .before .before .loop .inv .1)
 
 returns-2 : tie.Need-returns-2 Inv-loop μ-loop
-returns-2 c = any-none (c .before .before .before .args .t1) (c .before .before .before .args .edge) (c .before .loop .j) (omega (arith, c .loop-test .left, c .before .before .to-index .ensures)) ∙ c .before .loop .inv .1
+returns-2 c = any-none (c .before .before .before .args .t1) (c .before .before .before .args .edge) (c .before .loop .j) (omega (arith, c .loop-test .left, c .before .before .wide .ensures)) ∙ c .before .loop .inv .1
 
 pub decided-from-spec : {M : Type 1} → statement M
 decided-from-spec =

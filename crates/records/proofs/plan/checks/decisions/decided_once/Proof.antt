@@ -20,16 +20,16 @@ loop-holds : tie.Need-loop-holds Inv-loop μ-loop
 loop-holds c = (omega arith, ap decidedOnce (from-all (c .before .args .t1)))
 
 decided-from-requires : tie.Need-decided-from-requires Inv-loop μ-loop
-decided-from-requires c κs = (c .before .before .before .before .pre, omega (arith, c .before .loop-test .taken, c .before .before .before .to-index .ensures))
+decided-from-requires c κs = (c .before .before .before .before .pre, omega (arith, c .before .loop-test .taken, c .before .before .before .wide .ensures))
 
 returns : tie.Need-returns Inv-loop μ-loop
-returns c = once-not (c .before .before .before .before .before .before .args .t1) (c .before .before .before .before .loop .i) (omega (arith, c .before .before .before .loop-test .taken, c .before .before .before .before .before .to-index .ensures)) (sym (c .if1 .taken) ∙ c .before .decided-from .ensures) ∙ c .before .before .before .before .loop .inv .1
+returns c = once-not (c .before .before .before .before .before .before .args .t1) (c .before .before .before .before .loop .i) (omega (arith, c .before .before .before .loop-test .taken, c .before .before .before .before .before .wide .ensures)) (sym (c .if1 .taken) ∙ c .before .decided-from .ensures) ∙ c .before .before .before .before .loop .inv .1
 
 loop-again : tie.Need-loop-again Inv-loop μ-loop
-loop-again c = (omega arith, once-more (c .before .before .before .before .before .before .args .t1) (c .before .before .before .before .loop .i) (omega (arith, c .before .before .before .loop-test .taken, c .before .before .before .before .before .to-index .ensures)) (sym (c .if1 .left) ∙ c .before .decided-from .ensures) ∙ c .before .before .before .before .loop .inv .1)
+loop-again c = (omega arith, once-more (c .before .before .before .before .before .before .args .t1) (c .before .before .before .before .loop .i) (omega (arith, c .before .before .before .loop-test .taken, c .before .before .before .before .before .wide .ensures)) (sym (c .if1 .left) ∙ c .before .decided-from .ensures) ∙ c .before .before .before .before .loop .inv .1)
 
 returns-2 : tie.Need-returns-2 Inv-loop μ-loop
-returns-2 c = once-done (c .before .before .before .args .t1) (c .before .loop .i) (omega (arith, c .loop-test .left, c .before .before .to-index .ensures)) ∙ c .before .loop .inv .1
+returns-2 c = once-done (c .before .before .before .args .t1) (c .before .loop .i) (omega (arith, c .loop-test .left, c .before .before .wide .ensures)) ∙ c .before .loop .inv .1
 
 pub decided-once-spec : {M : Type 1} → statement M
 decided-once-spec =

@@ -26,15 +26,15 @@ add-total c = let h = c .before .before .before .loop .inv in search (needs, h)
 loop-again : tie.Need-loop-again Inv-loop μ-loop
 loop-again c =
     let l = c .before .before .before .loop in
-    let q : l .i < c .before .before .before .before .before .args .t1 .count = omega (arith, c .before .before .loop-test .taken, c .before .before .before .before .to-index .ensures) in
+    let q : l .i < c .before .before .before .before .before .args .t1 .count = omega (arith, c .before .before .loop-test .taken, c .before .before .before .before .wide .ensures) in
     let h = ⊎-elim (λ w. open-some (c .before .before .before .before .before .args .t1) (l .i) (l .total) (c .if1 .total) q (w .0 .taken) (w .1)) (λ w. open-other (c .before .before .before .before .before .args .t1) (l .i) (l .total) (c .if1 .total) q (w .0 .left) (w .1)) (c .if1 .came) in
     (omega arith, omega (arith, h .0, l .inv .1), h .1 ∙ l .inv .2)
 
 returns : tie.Need-returns Inv-loop μ-loop
 returns c =
     let l = c .before .loop in
-    let z = open-done (c .before .before .before .args .t1) (l .i) (omega (arith, c .loop-test .left, c .before .before .to-index .ensures)) in
-    (omega (arith, z, l .inv .2), omega (arith, l .inv .1, l .inv .0, c .before .before .before .pre, c .before .before .to-index .ensures))
+    let z = open-done (c .before .before .before .args .t1) (l .i) (omega (arith, c .loop-test .left, c .before .before .wide .ensures)) in
+    (omega (arith, z, l .inv .2), omega (arith, l .inv .1, l .inv .0, c .before .before .before .pre, c .before .before .wide .ensures))
 
 pub unresolved-in-spec : {M : Type 1} → statement M
 unresolved-in-spec =

@@ -24,29 +24,29 @@ returns c =
     let a = c .before .before .before .before .before .args in
     let la : length (a .t1) ≡ 4 = search needs in
     let lb : length (a .t3) ≡ 4 = search needs in
-    lex-short (a .t1) (a .t3) (a .m) (a .n) (c .before .before .loop .i) (omega (arith, la, c .before .before .before .before .before .pre)) (omega (arith, lb, c .before .before .before .before .before .pre)) (omega (arith, c .before .loop-test .taken, c .before .before .before .before .to-index .ensures)) (omega (arith, c .if1 .taken, c .before .before .before .to-index2 .ensures)) ∙ c .before .before .loop .inv .2
+    lex-short (a .t1) (a .t3) (a .m) (a .n) (c .before .before .loop .i) (omega (arith, la, c .before .before .before .before .before .pre)) (omega (arith, lb, c .before .before .before .before .before .pre)) (omega (arith, c .before .loop-test .taken, c .before .before .before .before .wide .ensures)) (omega (arith, c .if1 .taken, c .before .before .before .wide2 .ensures)) ∙ c .before .before .loop .inv .2
 
 returns-2 : tie.Need-returns-2 Inv-loop μ-loop
 returns-2 c =
     let a = c .before .before .before .before .before .before .args in
     let la : length (a .t1) ≡ 4 = search needs in
     let lb : length (a .t3) ≡ 4 = search needs in
-    lex-differ (a .t1) (a .t3) (a .m) (a .n) (c .before .before .before .loop .i) (omega (arith, la, c .before .before .before .before .before .before .pre)) (omega (arith, lb, c .before .before .before .before .before .before .pre)) (omega (arith, c .before .before .loop-test .taken, c .before .before .before .before .before .to-index .ensures)) (omega (arith, c .before .if1 .left, c .before .before .before .before .to-index2 .ensures)) (c .if2 .taken) ∙ c .before .before .before .loop .inv .2
+    lex-differ (a .t1) (a .t3) (a .m) (a .n) (c .before .before .before .loop .i) (omega (arith, la, c .before .before .before .before .before .before .pre)) (omega (arith, lb, c .before .before .before .before .before .before .pre)) (omega (arith, c .before .before .loop-test .taken, c .before .before .before .before .before .wide .ensures)) (omega (arith, c .before .if1 .left, c .before .before .before .before .wide2 .ensures)) (c .if2 .taken) ∙ c .before .before .before .loop .inv .2
 
 loop-again : tie.Need-loop-again Inv-loop μ-loop
 loop-again c =
     let a = c .before .before .before .before .before .before .args in
     let la : length (a .t1) ≡ 4 = search needs in
     let lb : length (a .t3) ≡ 4 = search needs in
-    (omega arith, omega arith, lex-same (a .t1) (a .t3) (a .m) (a .n) (c .before .before .before .loop .i) (omega (arith, la, c .before .before .before .before .before .before .pre)) (omega (arith, lb, c .before .before .before .before .before .before .pre)) (omega (arith, c .before .before .loop-test .taken, c .before .before .before .before .before .to-index .ensures)) (omega (arith, c .before .if1 .left, c .before .before .before .before .to-index2 .ensures)) (c .if2 .left) ∙ c .before .before .before .loop .inv .2)
+    (omega arith, omega arith, lex-same (a .t1) (a .t3) (a .m) (a .n) (c .before .before .before .loop .i) (omega (arith, la, c .before .before .before .before .before .before .pre)) (omega (arith, lb, c .before .before .before .before .before .before .pre)) (omega (arith, c .before .before .loop-test .taken, c .before .before .before .before .before .wide .ensures)) (omega (arith, c .before .if1 .left, c .before .before .before .before .wide2 .ensures)) (c .if2 .left) ∙ c .before .before .before .loop .inv .2)
 
 returns-3 : tie.Need-returns-3 Inv-loop μ-loop
 returns-3 c =
     let a = c .before .before .before .before .args in
     let la : length (a .t1) ≡ 4 = search needs in
     let lb : length (a .t3) ≡ 4 = search needs in
-    ap (λ (x : ℕ). ltb x (c .before .before .to-index2 .result)) (c .before .before .before .to-index .ensures .0) ∙ ap (ltb (a .m)) (c .before .before .to-index2 .ensures .0)
-    ∙ lex-end (a .t1) (a .t3) (a .m) (a .n) (c .before .loop .i) (omega (arith, la, c .before .before .before .before .pre)) (omega (arith, lb, c .before .before .before .before .pre)) (omega (arith, c .loop-test .left, c .before .before .before .to-index .ensures, c .before .loop .inv .0)) (omega (arith, c .before .loop .inv .1, c .before .before .to-index2 .ensures)) ∙ c .before .loop .inv .2
+    ap (λ (x : ℕ). ltb x (c .before .before .wide2 .result)) (c .before .before .before .wide .ensures .0) ∙ ap (ltb (a .m)) (c .before .before .wide2 .ensures .0)
+    ∙ lex-end (a .t1) (a .t3) (a .m) (a .n) (c .before .loop .i) (omega (arith, la, c .before .before .before .before .pre)) (omega (arith, lb, c .before .before .before .before .pre)) (omega (arith, c .loop-test .left, c .before .before .before .wide .ensures, c .before .loop .inv .0)) (omega (arith, c .before .loop .inv .1, c .before .before .wide2 .ensures)) ∙ c .before .loop .inv .2
 
 pub tuple-less-spec : {M : Type 1} → statement M
 tuple-less-spec =

@@ -21,22 +21,22 @@ abbrev μ-loop : tie.MeasureT-loop
 μ-loop bound items count i₀ i = count - i
 
 loop-holds : tie.Need-loop-holds Inv-loop μ-loop
-loop-holds c = (omega arith, omega (arith, c .least .ensures), refl)
+loop-holds c = (omega arith, omega (arith, c .upto .ensures .0), refl)
 
 returns : tie.Need-returns Inv-loop μ-loop
 unfolding numbersOf
 returns c =
     let s = c .before .before .before .before .before .before .before in let l = c .before .before .before .loop in
-    let xs = s .args .n .items in let n = c .before .before .before .before .least .result in let b = s .args .bound in
+    let xs = s .args .n .items in let n = c .before .before .before .before .upto .result in let b = s .args .bound in
     let long : length xs ≡ 16 = search needs in
     let front : length (take n xs) ≡ n = length-take-le n xs (omega arith) in
     let t : ltb (getD (take n xs) (l .i) 0) b ≡ false = rw (getD-take n xs (l .i) 0 (omega arith), ← c .before .wide2 .ensures .0) (le-ltb _ _ (c .if1 .taken)) in
-    all-fails (λ (x : ℕ). ltb x b) (take n xs) (l .i) 0 (allUnder b (take n xs)) (omega arith) t (l .inv .2) ∙ rw (c .before .before .before .before .least .ensures, take-min _ 16 xs long, c .before .before .before .before .before .wide .ensures .0)
+    all-fails (λ (x : ℕ). ltb x b) (take n xs) (l .i) 0 (allUnder b (take n xs)) (omega arith) t (l .inv .2) ∙ rw (c .before .before .before .before .upto .ensures .0, take-min _ 16 xs long, c .before .before .before .before .before .wide .ensures .0)
 
 loop-again : tie.Need-loop-again Inv-loop μ-loop
 loop-again c =
     let s = c .before .before .before .before .before .before .before in let l = c .before .before .before .loop in
-    let xs = s .args .n .items in let n = c .before .before .before .before .least .result in let b = s .args .bound in
+    let xs = s .args .n .items in let n = c .before .before .before .before .upto .result in let b = s .args .bound in
     let long : length xs ≡ 16 = search needs in
     let front : length (take n xs) ≡ n = length-take-le n xs (omega arith) in
     let t : ltb (getD (take n xs) (l .i) 0) b ≡ true = rw (getD-take n xs (l .i) 0 (omega arith), ← c .before .wide2 .ensures .0) (lt-ltb _ _ (c .if1 .left)) in
@@ -46,10 +46,10 @@ returns-2 : tie.Need-returns-2 Inv-loop μ-loop
 unfolding numbersOf
 returns-2 c =
     let s = c .before .before .before .before .before in let l = c .before .loop in
-    let xs = s .args .n .items in let n = c .before .before .least .result in let b = s .args .bound in
+    let xs = s .args .n .items in let n = c .before .before .upto .result in let b = s .args .bound in
     let long : length xs ≡ 16 = search needs in
     let front : length (take n xs) ≡ n = length-take-le n xs (omega arith) in
-    all-ends (λ (x : ℕ). ltb x b) (take n xs) (l .i) (allUnder b (take n xs)) (omega arith) (l .inv .2) ∙ rw (c .before .before .least .ensures, take-min _ 16 xs long, c .before .before .before .wide .ensures .0)
+    all-ends (λ (x : ℕ). ltb x b) (take n xs) (l .i) (allUnder b (take n xs)) (omega arith) (l .inv .2) ∙ rw (c .before .before .upto .ensures .0, take-min _ 16 xs long, c .before .before .before .wide .ensures .0)
 
 pub all-under-spec : {M : Type 1} → statement M
 all-under-spec =

@@ -31,7 +31,7 @@ unfolding unionBelow
 loop-holds c =
     let x = c .before .args .t1 in
     let long : length (x .items) ≡ 64 = simp length-map at (c .before .good .0 .1 .1 .1 .0 .1 .0 .1) in
-    (omega arith, omega (arith, c .least .ensures, min-le-right (x .count) 64), c .least .ensures ∙ sym (length-front factOf (x .items) (x .count) 64 long), refl)
+    (omega arith, omega (arith, c .upto .ensures .0, min-le-right (x .count) 64), c .upto .ensures .0 ∙ sym (length-front factOf (x .items) (x .count) 64 long), refl)
 
 loop-again : tie.Need-loop-again Inv-loop μ-loop
 loop-again c =

@@ -1,6 +1,5 @@
 -- The pass over the attachments.
 use mathlib.Core.Path.{_≡_, refl}
-use mathlib.Core.Bool.{true, false}
 use Prim.Native.Nat.{_-_, _≤_}
 use native.Mathlib.Omega.{arith}
 use denote.Ref.{now}
@@ -55,7 +54,7 @@ loop-again c =
     let f = seen attachmentRead (c .before .before .before .before .before .before .before .attachment-at .ensures) (c .before .before .before .before .before .bits .given .1) in
     let z = goes-later attachmentKind _ _ (i .3) (c .before .before .before .before .before .before .before .before .before .before .if2 .taken) (i .0) (c .before .before .before .before .before .before .before .before .before .before .before .before .if1 .taken) (c .before .before .before .before .before .before .before .before .if3 .left) tt f in
     let h = c .before .before .before .judged .ensures .1 (c .before .if4 .left) in
-    let j = judge-same 32 (l .count) (length (attachmentsOf l)) false false _ (fields.needs 31 b) (c .before .before .before .before .before .before .before .before .before .before .before .before .before .before .before .before .before .args .from .headed) true true (c .before .before .before .judged .ensures .0) (length-made attachmentOf (l .items) (l .count) (omega (arith, i .1, i .2))) refl (needs-test b 31) refl in (
+    let j = judge-same 32 (l .count) (length (attachmentsOf l)) _ (fields.needs 31 b) (c .before .before .before .before .before .before .before .before .before .before .before .before .before .before .before .before .before .args .from .headed) (c .before .before .before .judged .ensures .0) (length-made attachmentOf (l .items) (l .count) (omega (arith, i .1, i .2))) (needs-test b 31) in (
       omega (arith, z),
       omega (arith, h),
       rw length-set (i .2),
@@ -65,34 +64,35 @@ loop-again c =
 
 returns : tie.Need-returns Inv-loop μ-loop
 returns c =
-    let i = c .before .before .before .before .loop .inv in
-    (ends-refused attachmentKind _ _ (i .3) (c .if2 .left), i .0, i .4)
+    let i = c .before .before .before .before .before .before .before .before .before .before .loop .inv in
+    rw (c .refused .ensures) (refused-bad attachmentKind _ _ (i .3) (c .before .before .before .before .before .before .if2 .taken) (i .0) (c .before .before .before .before .before .before .before .before .if1 .taken) (c .before .before .before .before .if3 .left) (seen attachmentRead (c .before .before .before .attachment-at .ensures) (c .before .enum-told .given .1)), i .0, i .4)
 
 returns-2 : tie.Need-returns-2 Inv-loop μ-loop
 returns-2 c =
-    let i = c .before .before .loop .inv in
-    (ends-short attachmentKind _ _ (i .3) (c .if1 .left), i .0, i .4)
+    let i = c .before .before .before .before .loop .inv in
+    (ends-refused attachmentKind _ _ (i .3) (c .if2 .left), i .0, i .4)
 
 returns-3 : tie.Need-returns-3 Inv-loop μ-loop
 returns-3 c =
-    let i = c .before .before .before .before .before .before .loop .inv in
-    (ends-other attachmentKind _ _ (i .3) (c .if3 .taken), i .0, i .4)
+    let i = c .before .before .loop .inv in
+    (ends-short attachmentKind _ _ (i .3) (c .if1 .left), i .0, i .4)
 
 returns-4 : tie.Need-returns-4 Inv-loop μ-loop
 returns-4 c =
-    let i = c .before .before .before .before .before .before .before .before .before .loop .inv in
-    (refused-bad attachmentKind _ _ (i .3) (c .before .before .before .before .before .if2 .taken) (i .0) (c .before .before .before .before .before .before .before .if1 .taken) (c .before .before .before .if3 .left) (seen attachmentRead (c .before .before .attachment-at .ensures) (c .enum-told .given .1)), i .0, i .4)
+    let i = c .before .before .before .before .before .before .loop .inv in
+    (ends-other attachmentKind _ _ (i .3) (c .if3 .taken), i .0, i .4)
 
 returns-5 : tie.Need-returns-5 Inv-loop μ-loop
 returns-5 c =
     let i = c .before .before .before .before .before .before .before .before .before .before .before .before .before .loop .inv in
     let l = c .before .before .before .before .before .before .before .before .before .before .before .before .before .loop .attachments in
-    let j = judge-same 32 (l .count) (length (attachmentsOf l)) false false _ (fields.needs 31 (c .before .before .before .before .bits .given .0 .0)) (c .before .before .before .before .before .before .before .before .before .before .before .before .before .before .before .before .args .from .headed) true true (c .before .before .judged .ensures .0) (length-made attachmentOf (l .items) (l .count) (omega (arith, i .1, i .2))) refl (needs-test (c .before .before .before .before .bits .given .0 .0) 31) refl in
+    let j = judge-same 32 (l .count) (length (attachmentsOf l)) _ (fields.needs 31 (c .before .before .before .before .bits .given .0 .0)) (c .before .before .before .before .before .before .before .before .before .before .before .before .before .before .before .before .args .from .headed) (c .before .before .judged .ensures .0) (length-made attachmentOf (l .items) (l .count) (omega (arith, i .1, i .2))) (needs-test (c .before .before .before .before .bits .given .0 .0) 31) in
     (refused-judged attachmentKind _ _ (i .3) (c .before .before .before .before .before .before .before .before .before .if2 .taken) (i .0) (c .before .before .before .before .before .before .before .before .before .before .before .if1 .taken) (c .before .before .before .before .before .before .before .if3 .left) tt (seen attachmentRead (c .before .before .before .before .before .before .attachment-at .ensures) (c .before .before .before .before .bits .given .1)) _ j (c .if4 .taken), i .0, i .4)
 
 pub read-attachments-spec : {M : Type 1} → statement M
 read-attachments-spec =
     tie.close
     (tie.spec Inv-loop μ-loop (λ c κs. search needs) loop-holds (λ c. search needs) add-attachment-at
-    (λ c κs. search needs) (λ c. search needs) (λ c. search needs) (λ c κs. search needs) (λ c. search needs)
-    element-set-from-attachment add-attachments add-here loop-less loop-again returns returns-2 returns-3 returns-4 returns-5)
+    (λ c κs. search needs) (λ c. search needs) (λ c. search needs) (λ c κs. search needs) returns
+    (λ c κs. search needs) (λ c. search needs) element-set-from-attachment add-attachments add-here loop-less
+    loop-again returns-2 returns-3 returns-4 returns-5)

@@ -1,7 +1,6 @@
 -- The pass over the edges.
 use mathlib.Core.Path.{_≡_, refl, _∙_, ap}
 use mathlib.Core.List.{[], _∷_, _++_}
-use mathlib.Core.Bool.{true, false}
 use Prim.Native.Nat.{_-_, _≤_}
 use native.Mathlib.Omega.{arith}
 use denote.Ref.{now}
@@ -59,7 +58,7 @@ loop-again c =
     let f = seen (edgeRead (now (c .before .before .before .before .before .before .before .before .before .before .before .before .before .before .before .before .before .before .args .s))) (c .before .before .before .before .before .before .before .before .edge-at .ensures .0) (c .before .before .before .before .before .before .bits .given .1) in
     let z = goes-later edgeKind _ _ (i .3) (c .before .before .before .before .before .before .before .before .before .before .before .if2 .taken) (i .0) (c .before .before .before .before .before .before .before .before .before .before .before .before .before .if1 .taken) (c .before .before .before .before .before .before .before .before .before .if3 .left) tt f in
     let h = c .before .before .before .before .judged .ensures .1 (c .before .before .if4 .left) in
-    let j = judge-same 64 (l .count) (length (edgesOf l)) false false _ (fields.needs 15 b) (c .before .before .before .before .before .before .before .before .before .before .before .before .before .before .before .before .before .before .args .from .headed) true true (c .before .before .before .before .judged .ensures .0) (length-made edgeOf (l .items) (l .count) (omega (arith, i .1, i .2))) refl (needs-test b 15) refl in (
+    let j = judge-same 64 (l .count) (length (edgesOf l)) _ (fields.needs 15 b) (c .before .before .before .before .before .before .before .before .before .before .before .before .before .before .before .before .before .before .args .from .headed) (c .before .before .before .before .judged .ensures .0) (length-made edgeOf (l .items) (l .count) (omega (arith, i .1, i .2))) (needs-test b 15) in (
       omega (arith, z),
       omega (arith, h),
       rw length-set (i .2),
@@ -70,34 +69,36 @@ loop-again c =
 
 returns : tie.Need-returns Inv-loop μ-loop
 returns c =
-    let i = c .before .before .before .before .loop .inv in
-    (ends-refused edgeKind _ _ (i .3) (c .if2 .left), i .0, i .4)
+    let i = c .before .before .before .before .before .before .before .before .before .before .loop .inv in
+    rw (c .refused .ensures) (refused-bad edgeKind _ _ (i .3) (c .before .before .before .before .before .before .if2 .taken) (i .0) (c .before .before .before .before .before .before .before .before .if1 .taken) (c .before .before .before .before .if3 .left) (seen (edgeRead (now (c .before .before .before .before .before .before .before .before .before .before .before .before .before .args .s))) (c .before .before .before .edge-at .ensures .0) (c .before .enum-told .given .1)), i .0, i .4)
 
 returns-2 : tie.Need-returns-2 Inv-loop μ-loop
 returns-2 c =
-    let i = c .before .before .loop .inv in
-    (ends-short edgeKind _ _ (i .3) (c .if1 .left), i .0, i .4)
+    let i = c .before .before .before .before .loop .inv in
+    (ends-refused edgeKind _ _ (i .3) (c .if2 .left), i .0, i .4)
 
 returns-3 : tie.Need-returns-3 Inv-loop μ-loop
 returns-3 c =
-    let i = c .before .before .before .before .before .before .loop .inv in
-    (ends-other edgeKind _ _ (i .3) (c .if3 .taken), i .0, i .4)
+    let i = c .before .before .loop .inv in
+    (ends-short edgeKind _ _ (i .3) (c .if1 .left), i .0, i .4)
 
 returns-4 : tie.Need-returns-4 Inv-loop μ-loop
 returns-4 c =
-    let i = c .before .before .before .before .before .before .before .before .before .loop .inv in
-    (refused-bad edgeKind _ _ (i .3) (c .before .before .before .before .before .if2 .taken) (i .0) (c .before .before .before .before .before .before .before .if1 .taken) (c .before .before .before .if3 .left) (seen (edgeRead (now (c .before .before .before .before .before .before .before .before .before .before .before .before .args .s))) (c .before .before .edge-at .ensures .0) (c .enum-told .given .1)), i .0, i .4)
+    let i = c .before .before .before .before .before .before .loop .inv in
+    (ends-other edgeKind _ _ (i .3) (c .if3 .taken), i .0, i .4)
 
 returns-5 : tie.Need-returns-5 Inv-loop μ-loop
 returns-5 c =
     let i = c .before .before .before .before .before .before .before .before .before .before .before .before .before .loop .inv in
     let l = c .before .before .before .before .before .before .before .before .before .before .before .before .before .loop .edges in
-    let j = judge-same 64 (l .count) (length (edgesOf l)) false false _ (fields.needs 15 (c .before .before .before .before .bits .given .0 .0)) (c .before .before .before .before .before .before .before .before .before .before .before .before .before .before .before .before .args .from .headed) true true (c .before .before .judged .ensures .0) (length-made edgeOf (l .items) (l .count) (omega (arith, i .1, i .2))) refl (needs-test (c .before .before .before .before .bits .given .0 .0) 15) refl in
+    let j = judge-same 64 (l .count) (length (edgesOf l)) _ (fields.needs 15 (c .before .before .before .before .bits .given .0 .0)) (c .before .before .before .before .before .before .before .before .before .before .before .before .before .before .before .before .args .from .headed) (c .before .before .judged .ensures .0) (length-made edgeOf (l .items) (l .count) (omega (arith, i .1, i .2))) (needs-test (c .before .before .before .before .bits .given .0 .0) 15) in
     (refused-judged edgeKind _ _ (i .3) (c .before .before .before .before .before .before .before .before .before .if2 .taken) (i .0) (c .before .before .before .before .before .before .before .before .before .before .before .if1 .taken) (c .before .before .before .before .before .before .before .if3 .left) tt (seen (edgeRead (now (c .before .before .before .before .before .before .before .before .before .before .before .before .before .before .before .before .args .s))) (c .before .before .before .before .before .before .edge-at .ensures .0) (c .before .before .before .before .bits .given .1)) _ j (c .if4 .taken), i .0, i .4)
 
 pub read-edges-spec : {M : Type 1} → statement M
 read-edges-spec =
     tie.close
     (tie.spec Inv-loop μ-loop (λ c κs. search needs) loop-holds (λ c. search needs) add-edge-at
-    (λ c κs. search needs) (λ c. search needs) (λ c. search needs) (λ c κs. search needs) edge-from-requires
-    (λ c. let h = c .before .before .before .judged .ensures .1 (c .before .if4 .left) in search (needs, h)) element-set-from-edges add-edges add-here loop-less loop-again returns returns-2 returns-3 returns-4 returns-5)
+    (λ c κs. search needs) (λ c. search needs) (λ c. search needs) (λ c κs. search needs) returns
+    (λ c κs. search needs) edge-from-requires
+    (λ c. let h = c .before .before .before .judged .ensures .1 (c .before .if4 .left) in search (needs, h))
+    element-set-from-edges add-edges add-here loop-less loop-again returns-2 returns-3 returns-4 returns-5)

@@ -14,7 +14,7 @@ use Rattle.records.proofs.Reading.{seen}
 use Rattle.records.proofs.Passing.{Going, going, ends-short, ends-other, ends-refused, refused-bad, refused-judged, goes-on, goes-later, counted}
 use Rattle.records.proofs.FactLaws.{lastFact, last-none, last-more, rise-more}
 use Rattle.sets.proofs.SetLaws.{and-parts}
-use Rattle.records.proofs.KindLaws.{factKind, made-more, judge-same, is-sound, it-fits, no-tuple}
+use Rattle.records.proofs.KindLaws.{factKind, made-more, judge-same-fully, is-sound, it-fits, no-tuple}
 use borrow.Author.Needs.{needs}
 use Rattle.records.proofs.plan.reading.facts.read_facts.Statement.{statement}
 use Rattle.records.proofs.plan.reading.facts.read_facts.Tie as tie
@@ -51,10 +51,10 @@ fact-rises-requires : tie.Need-fact-rises-requires Inv-loop μ-loop
 fact-rises-requires c κs = let f = rw (c .before .before .bits .given .1) at (c .before .before .before .before .fact-at .ensures .1) in let n = c .fact-from .ensures .1 in (c .before .before .before .before .before .before .before .before .before .before .before .loop .inv .6, omega (arith, f .0, n), c .before .before .before .before .before .before .before .before .before .before .before .loop .inv .7)
 
 element-set-from-fact : tie.Need-element-set-from-fact Inv-loop μ-loop
-element-set-from-fact c = let h = c .before .before .judged .ensures .1 (c .if4 .left) in search (needs, h)
+element-set-from-fact c = let h = c .before .before .judged-fully .ensures .1 (c .if4 .left) in search (needs, h)
 
 add-facts : tie.Need-add-facts Inv-loop μ-loop
-add-facts c = let h = c .before .before .judged .ensures .1 (c .if4 .left) in search (needs, h)
+add-facts c = let h = c .before .before .judged-fully .ensures .1 (c .if4 .left) in search (needs, h)
 
 add-fact-at : tie.Need-add-fact-at Inv-loop μ-loop
 add-fact-at c = search needs
@@ -76,14 +76,14 @@ loop-again c =
     let g = rw (c .before .before .before .before .before .before .before .before .bits .given .1) at (c .before .before .before .before .before .before .before .before .before .before .fact-at .ensures .1) in
     let f = seen (factRead (now (c .before .before .before .before .before .before .before .before .before .before .before .before .before .before .before .before .before .before .before .before .before .args .s))) (c .before .before .before .before .before .before .before .before .before .before .fact-at .ensures .0) (c .before .before .before .before .before .before .before .before .bits .given .1) in
     let z = goes-later factKind _ _ (i .3) (c .before .before .before .before .before .before .before .before .before .before .before .before .before .if2 .taken) (i .0) (c .before .before .before .before .before .before .before .before .before .before .before .before .before .before .before .if1 .taken) (c .before .before .before .before .before .before .before .before .before .before .before .if3 .left) (i .4) f in
-    let h = c .before .before .before .judged .ensures .1 (c .before .if4 .left) in
+    let h = c .before .before .before .judged-fully .ensures .1 (c .before .if4 .left) in
     let n = c .before .before .before .before .before .before .fact-from .ensures in
     let x = n .0 in
     let d = c .before .before .before .before .before .fact-rises .ensures ∙ ap₂ rises (sym (i .5)) x in
-    let j = judge-same 64 (l .count) (length (factsOf l)) false false _ (factBits b) (c .before .before .before .before .before .before .before .before .before .before .before .before .before .before .before .before .before .before .before .before .before .args .from .headed) _ _ (c .before .before .before .judged .ensures .0) (length-made factOf (l .items) (l .count) (omega (arith, i .1, i .2))) refl (c .before .before .before .before .both-or-none .ensures) d in
+    let j = judge-same-fully 64 (l .count) (length (factsOf l)) false false _ (factBits b) (c .before .before .before .before .before .before .before .before .before .before .before .before .before .before .before .before .before .before .before .before .before .args .from .headed) _ _ (c .before .before .before .judged-fully .ensures .0) (length-made factOf (l .items) (l .count) (omega (arith, i .1, i .2))) refl (c .before .before .before .before .both-or-none .ensures) d in
     let more = made-more factOf (l .items) (l .count) _ (omega (arith, i .2, h)) ∙ ap (λ (y : Fact). factsOf l ++ (y ∷ [])) x in
-    let r = is-sound 64 (l .count) false (c .before .before .before .before .both-or-none .result && c .before .before .before .before .before .before .before .before .before .before .before .before .before .before .before .before .before .before .before .before .before .args .from .headed) (c .before .before .before .before .before .fact-rises .result) (c .before .before .before .judged .ensures .0) (c .before .if4 .left) in
-    let t = it-fits 64 (l .count) false (c .before .before .before .before .both-or-none .result && c .before .before .before .before .before .before .before .before .before .before .before .before .before .before .before .before .before .before .before .before .before .args .from .headed) (c .before .before .before .before .before .fact-rises .result) (c .before .before .before .judged .ensures .0) (c .before .if4 .left) in (
+    let r = is-sound 64 (l .count) false (c .before .before .before .before .both-or-none .result && c .before .before .before .before .before .before .before .before .before .before .before .before .before .before .before .before .before .before .before .before .before .args .from .headed) (c .before .before .before .before .before .fact-rises .result) (c .before .before .before .judged-fully .ensures .0) (c .before .if4 .left) in
+    let t = it-fits 64 (l .count) false (c .before .before .before .before .both-or-none .result && c .before .before .before .before .before .before .before .before .before .before .before .before .before .before .before .before .before .before .before .before .before .args .from .headed) (c .before .before .before .before .before .fact-rises .result) (c .before .before .before .judged-fully .ensures .0) (c .before .if4 .left) in (
       omega (arith, z),
       omega (arith, h),
       rw length-set (i .2),
@@ -97,23 +97,23 @@ loop-again c =
 
 returns : tie.Need-returns Inv-loop μ-loop
 returns c =
-    let i = c .before .before .before .before .loop .inv in
-    (ends-refused factKind _ _ (i .3) (c .if2 .left), i .0, i .8, i .4)
+    let i = c .before .before .before .before .before .before .before .before .before .before .loop .inv in
+    rw (c .refused .ensures) (refused-bad factKind _ _ (i .3) (c .before .before .before .before .before .before .if2 .taken) (i .0) (c .before .before .before .before .before .before .before .before .if1 .taken) (c .before .before .before .before .if3 .left) (seen (factRead (now (c .before .before .before .before .before .before .before .before .before .before .before .before .before .before .args .s))) (c .before .before .before .fact-at .ensures .0) (c .before .enum-told .given .1)), i .0, i .8, i .4)
 
 returns-2 : tie.Need-returns-2 Inv-loop μ-loop
 returns-2 c =
-    let i = c .before .before .loop .inv in
-    (ends-short factKind _ _ (i .3) (c .if1 .left), i .0, i .8, i .4)
+    let i = c .before .before .before .before .loop .inv in
+    (ends-refused factKind _ _ (i .3) (c .if2 .left), i .0, i .8, i .4)
 
 returns-3 : tie.Need-returns-3 Inv-loop μ-loop
 returns-3 c =
-    let i = c .before .before .before .before .before .before .loop .inv in
-    (ends-other factKind _ _ (i .3) (c .if3 .taken), i .0, i .8, i .4)
+    let i = c .before .before .loop .inv in
+    (ends-short factKind _ _ (i .3) (c .if1 .left), i .0, i .8, i .4)
 
 returns-4 : tie.Need-returns-4 Inv-loop μ-loop
 returns-4 c =
-    let i = c .before .before .before .before .before .before .before .before .before .loop .inv in
-    (refused-bad factKind _ _ (i .3) (c .before .before .before .before .before .if2 .taken) (i .0) (c .before .before .before .before .before .before .before .if1 .taken) (c .before .before .before .if3 .left) (seen (factRead (now (c .before .before .before .before .before .before .before .before .before .before .before .before .before .args .s))) (c .before .before .fact-at .ensures .0) (c .enum-told .given .1)), i .0, i .8, i .4)
+    let i = c .before .before .before .before .before .before .loop .inv in
+    (ends-other factKind _ _ (i .3) (c .if3 .taken), i .0, i .8, i .4)
 
 returns-5 : tie.Need-returns-5 Inv-loop μ-loop
 returns-5 c =
@@ -122,13 +122,13 @@ returns-5 c =
     let b = c .before .before .before .before .before .before .before .bits .given .0 .0 in
     let x = c .before .before .before .before .before .fact-from .ensures .0 in
     let d = c .before .before .before .before .fact-rises .ensures ∙ ap₂ rises (sym (i .5)) x in
-    let j = judge-same 64 (l .count) (length (factsOf l)) false false _ (factBits b) (c .before .before .before .before .before .before .before .before .before .before .before .before .before .before .before .before .before .before .before .before .args .from .headed) _ _ (c .before .before .judged .ensures .0) (length-made factOf (l .items) (l .count) (omega (arith, i .1, i .2))) refl (c .before .before .before .both-or-none .ensures) d in
+    let j = judge-same-fully 64 (l .count) (length (factsOf l)) false false _ (factBits b) (c .before .before .before .before .before .before .before .before .before .before .before .before .before .before .before .before .before .before .before .before .args .from .headed) _ _ (c .before .before .judged-fully .ensures .0) (length-made factOf (l .items) (l .count) (omega (arith, i .1, i .2))) refl (c .before .before .before .both-or-none .ensures) d in
     (refused-judged factKind _ _ (i .3) (c .before .before .before .before .before .before .before .before .before .before .before .before .if2 .taken) (i .0) (c .before .before .before .before .before .before .before .before .before .before .before .before .before .before .if1 .taken) (c .before .before .before .before .before .before .before .before .before .before .if3 .left) (i .4) (seen (factRead (now (c .before .before .before .before .before .before .before .before .before .before .before .before .before .before .before .before .before .before .before .before .args .s))) (c .before .before .before .before .before .before .before .before .before .fact-at .ensures .0) (c .before .before .before .before .before .before .before .bits .given .1)) _ j (c .if4 .taken), i .0, i .8, i .4)
 
 pub read-facts-spec : {M : Type 1} → statement M
 read-facts-spec =
     tie.close
-    (tie.spec Inv-loop μ-loop (λ c κs. search needs) (λ c κs. search needs) loop-holds (λ c. search needs) add-fact-at
-    (λ c κs. search needs) (λ c. search needs) (λ c. search needs) fact-from-requires fact-rises-requires
-    (λ c κs. search needs) (λ c κs. search needs) (λ c. search needs) element-set-from-fact add-facts add-here loop-less
-    loop-again returns returns-2 returns-3 returns-4 returns-5)
+    (tie.spec Inv-loop μ-loop (λ c κs. search needs) (λ c κs. search needs) loop-holds (λ c. search needs)
+    add-fact-at (λ c κs. search needs) (λ c. search needs) (λ c. search needs) (λ c κs. search needs) returns
+    fact-from-requires fact-rises-requires (λ c κs. search needs) (λ c κs. search needs) (λ c. search needs)
+    element-set-from-fact add-facts add-here loop-less loop-again returns-2 returns-3 returns-4 returns-5)

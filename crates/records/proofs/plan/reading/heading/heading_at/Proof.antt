@@ -5,6 +5,7 @@ use lib.Dec.{eqb}
 use denote.Ref.{now}
 use Rattle.records.specs.code.Readers.{fieldRead, mapRead, first}
 use Rattle.records.specs.code.Passes.{withBits}
+use Rattle.records.specs.paper.Fields.{citation}
 use Rattle.records.specs.paper.Plan.{headingFrom}
 use Rattle.records.proofs.Reading.{seen, found, none}
 use Rattle.records.proofs.Chain.{more, skip, stop, last, unknown, half-of, one-given, raw-got, raw-bits, raw-bad}
@@ -38,7 +39,7 @@ returns-4 c =
           (more _ _ _ _ (half-of _ 2) _ _ (found first _ (seen fieldRead (c .before .before .before .before .opt-at2 .ensures) (c .before .before .chain .given .1)) .is)
           (last _ _ _ (c .if1 .taken)))),
       found first _ (seen fieldRead (c .before .before .before .before .before .before .before .before .opt-at .ensures) (c .before .before .before .before .before .before .relation .given .1)) .means,
-      one-given (now (c .before .before .before .before .before .before .before .before .before .before .before .before .before .before .args .s)) (c .before .before .before .before .before .before .relation .given .0 .1 .0) (eqb (c .before .before .before .before .before .before .before .before .before .before .bits .given .0 .0 / 2 % 2) 1) (record { low = 0; top = 63 }) (found first _ (seen fieldRead (c .before .before .before .before .opt-at2 .ensures) (c .before .before .chain .given .1)) .is) (found first _ (seen fieldRead (c .before .before .before .before .opt-at2 .ensures) (c .before .before .chain .given .1)) .means),
+      one-given (now (c .before .before .before .before .before .before .before .before .before .before .before .before .before .before .args .s)) (c .before .before .before .before .before .before .relation .given .0 .1 .0) (eqb (c .before .before .before .before .before .before .before .before .before .before .bits .given .0 .0 / 2 % 2) 1) citation (found first _ (seen fieldRead (c .before .before .before .before .opt-at2 .ensures) (c .before .before .chain .given .1)) .is) (found first _ (seen fieldRead (c .before .before .before .before .opt-at2 .ensures) (c .before .before .chain .given .1)) .means),
     )
 
 returns-5 : tie.Need-returns-5

@@ -1,6 +1,5 @@
 -- The pass over the nodes.
 use mathlib.Core.Path.{_≡_, refl, _∙_, ap}
-use mathlib.Core.Bool.{true, false}
 use mathlib.Core.List.{[], _∷_, _++_}
 use Prim.Native.Nat.{_+_, _-_, _≤_}
 use native.Mathlib.Omega.{arith}
@@ -59,7 +58,7 @@ loop-again c =
     let f = seen (nodeRead (now (c .before .before .before .before .before .before .before .before .before .before .before .before .before .before .before .before .before .before .before .args .s))) (c .before .before .before .before .before .before .before .before .before .node-at .ensures .0) (c .before .before .before .before .before .before .before .bits .given .1) in
     let z = goes-later nodeKind _ _ (i .3) (c .before .before .before .before .before .before .before .before .before .before .before .before .if2 .taken) (i .0) (c .before .before .before .before .before .before .before .before .before .before .before .before .before .before .if1 .taken) (c .before .before .before .before .before .before .before .before .before .before .if3 .left) tt f in
     let h = c .before .before .before .before .judged .ensures .1 (c .before .before .if4 .left) in
-    let j = judge-same 256 (l .count) (length (nodesOf l)) false false _ (fields.single b) (c .before .before .before .before .before .before .before .before .before .before .before .before .before .before .before .before .before .before .before .args .from .headed) true true (c .before .before .before .before .judged .ensures .0) (length-made nodeOf (l .items) (l .count) (omega (arith, i .1, i .2))) refl (c .before .before .before .before .before .one-bit .ensures) refl in (
+    let j = judge-same 256 (l .count) (length (nodesOf l)) _ (fields.single b) (c .before .before .before .before .before .before .before .before .before .before .before .before .before .before .before .before .before .before .before .args .from .headed) (c .before .before .before .before .judged .ensures .0) (length-made nodeOf (l .items) (l .count) (omega (arith, i .1, i .2))) (c .before .before .before .before .before .one-bit .ensures) in (
       omega (arith, z),
       omega (arith, h),
       rw length-set (i .2),
@@ -69,34 +68,36 @@ loop-again c =
 
 returns : tie.Need-returns Inv-loop μ-loop
 returns c =
-    let i = c .before .before .before .before .loop .inv in
-    (ends-refused nodeKind _ _ (i .3) (c .if2 .left), i .0, i .4)
+    let i = c .before .before .before .before .before .before .before .before .before .before .loop .inv in
+    rw (c .refused .ensures) (refused-bad nodeKind _ _ (i .3) (c .before .before .before .before .before .before .if2 .taken) (i .0) (c .before .before .before .before .before .before .before .before .if1 .taken) (c .before .before .before .before .if3 .left) (seen (nodeRead (now (c .before .before .before .before .before .before .before .before .before .before .before .before .before .args .s))) (c .before .before .before .node-at .ensures .0) (c .before .enum-told .given .1)), i .0, i .4)
 
 returns-2 : tie.Need-returns-2 Inv-loop μ-loop
 returns-2 c =
-    let i = c .before .before .loop .inv in
-    (ends-short nodeKind _ _ (i .3) (c .if1 .left), i .0, i .4)
+    let i = c .before .before .before .before .loop .inv in
+    (ends-refused nodeKind _ _ (i .3) (c .if2 .left), i .0, i .4)
 
 returns-3 : tie.Need-returns-3 Inv-loop μ-loop
 returns-3 c =
-    let i = c .before .before .before .before .before .before .loop .inv in
-    (ends-other nodeKind _ _ (i .3) (c .if3 .taken), i .0, i .4)
+    let i = c .before .before .loop .inv in
+    (ends-short nodeKind _ _ (i .3) (c .if1 .left), i .0, i .4)
 
 returns-4 : tie.Need-returns-4 Inv-loop μ-loop
 returns-4 c =
-    let i = c .before .before .before .before .before .before .before .before .before .loop .inv in
-    (refused-bad nodeKind _ _ (i .3) (c .before .before .before .before .before .if2 .taken) (i .0) (c .before .before .before .before .before .before .before .if1 .taken) (c .before .before .before .if3 .left) (seen (nodeRead (now (c .before .before .before .before .before .before .before .before .before .before .before .before .args .s))) (c .before .before .node-at .ensures .0) (c .enum-told .given .1)), i .0, i .4)
+    let i = c .before .before .before .before .before .before .loop .inv in
+    (ends-other nodeKind _ _ (i .3) (c .if3 .taken), i .0, i .4)
 
 returns-5 : tie.Need-returns-5 Inv-loop μ-loop
 returns-5 c =
     let i = c .before .before .before .before .before .before .before .before .before .before .before .before .before .before .loop .inv in
     let l = c .before .before .before .before .before .before .before .before .before .before .before .before .before .before .loop .nodes in
-    let j = judge-same 256 (l .count) (length (nodesOf l)) false false _ (fields.single (c .before .before .before .before .before .bits .given .0 .0)) (c .before .before .before .before .before .before .before .before .before .before .before .before .before .before .before .before .before .args .from .headed) true true (c .before .before .judged .ensures .0) (length-made nodeOf (l .items) (l .count) (omega (arith, i .1, i .2))) refl (c .before .before .before .one-bit .ensures) refl in
+    let j = judge-same 256 (l .count) (length (nodesOf l)) _ (fields.single (c .before .before .before .before .before .bits .given .0 .0)) (c .before .before .before .before .before .before .before .before .before .before .before .before .before .before .before .before .before .args .from .headed) (c .before .before .judged .ensures .0) (length-made nodeOf (l .items) (l .count) (omega (arith, i .1, i .2))) (c .before .before .before .one-bit .ensures) in
     (refused-judged nodeKind _ _ (i .3) (c .before .before .before .before .before .before .before .before .before .before .if2 .taken) (i .0) (c .before .before .before .before .before .before .before .before .before .before .before .before .if1 .taken) (c .before .before .before .before .before .before .before .before .if3 .left) tt (seen (nodeRead (now (c .before .before .before .before .before .before .before .before .before .before .before .before .before .before .before .before .before .args .s))) (c .before .before .before .before .before .before .before .node-at .ensures .0) (c .before .before .before .before .before .bits .given .1)) _ j (c .if4 .taken), i .0, i .4)
 
 pub read-nodes-spec : {M : Type 1} → statement M
 read-nodes-spec =
     tie.close
-    (tie.spec Inv-loop μ-loop (λ c κs. search needs) loop-holds (λ c. search needs) add-node-at (λ c κs. search needs)
-    (λ c. search needs) (λ c. search needs) (λ c κs. search needs) (λ c κs. search needs) node-from-requires
-    (λ c. let h = c .before .before .before .judged .ensures .1 (c .before .if4 .left) in search (needs, h)) element-set-from-nodes add-nodes add-here loop-less loop-again returns returns-2 returns-3 returns-4 returns-5)
+    (tie.spec Inv-loop μ-loop (λ c κs. search needs) loop-holds (λ c. search needs) add-node-at
+    (λ c κs. search needs) (λ c. search needs) (λ c. search needs) (λ c κs. search needs) returns
+    (λ c κs. search needs) (λ c κs. search needs) node-from-requires
+    (λ c. let h = c .before .before .before .judged .ensures .1 (c .before .if4 .left) in search (needs, h))
+    element-set-from-nodes add-nodes add-here loop-less loop-again returns-2 returns-3 returns-4 returns-5)
