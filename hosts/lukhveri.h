@@ -114,7 +114,7 @@ extern "C" {
 #define LUKHVERI_MOST_EVENTS_LENGTH ((1368 + 21 * LUKHVERI_WORLDS) * LUKHVERI_EVENT)
 
 /* Bytes of stack that are enough for a call, whatever is lent: hosts/measure found 96,759. Many events take little time: an answer with 4,096
- * of kind 9 took 2 ms, one with 16,384 took 22 ms. */
+ * of kind 9 took 2 ms, one with 16,384 took 21 ms. */
 #define LUKHVERI_STACK (256 * 1024)
 
 /* Checks a plan. */

@@ -15,7 +15,7 @@ pub const EVENTS_LENGTH: usize = 4096 * EVENT;
 
 /// Bytes that hold the events of every case. Kinds 1 to 8 have at most 64 + 16 + 1,024 + 120 + 32 + 32 + 32 + 48 events; kind 9 at most 21
 /// in a world, since a component that is left to discretion has three persons or more, and there are at most 4,096 worlds.
-/// So many take little time: an answer with 4,096 events of kind 9 took 2 ms, one with 16,384 took 22 ms.
+/// So many take little time: an answer with 4,096 events of kind 9 took 2 ms, one with 16,384 took 21 ms.
 pub const MOST_EVENTS_LENGTH: usize = (1368 + 21 * 4096) * EVENT;
 
 /// Bytes of stack that are enough for a call, whatever is lent.
