@@ -68,6 +68,7 @@ mod foreign;
 mod handles;
 pub mod limits;
 mod line;
+pub mod names;
 mod operations;
 mod persons;
 mod plan;

@@ -6,7 +6,6 @@
     deny(clippy::unwrap_used, clippy::expect_used, clippy::panic, clippy::indexing_slicing)
 )]
 
-mod names;
 mod open;
 mod possible;
 mod story;
@@ -16,8 +15,8 @@ use std::io::Write;
 use std::path::Path;
 use std::process::ExitCode;
 
+use lukhveri::names::Names;
 use lukhveri::{CaseRecords, Plan, Refusal};
-use names::Names;
 use open::Setting;
 use possible::Possible;
 use story::Story;

@@ -2,7 +2,7 @@
 
 use lukhveri::{CaseRecords, Fact, Plan};
 
-use crate::names::Names;
+use lukhveri::names::Names;
 
 /// Plan, case and names of the things in them.
 pub struct Setting<'a> {

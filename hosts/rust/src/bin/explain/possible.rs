@@ -4,7 +4,7 @@ use std::collections::BTreeMap;
 
 use lukhveri::{Buffers, Line, LineKind, Role};
 
-use crate::names::Names;
+use lukhveri::names::Names;
 
 /// No more worlds than these are gone through.
 const MOST: u64 = 64;

@@ -2,9 +2,9 @@
 
 use lukhveri::{Answer, Event, Line, LineKind, Persons, Role};
 
-use crate::names::{listed, sentence};
 use crate::open::Setting;
 use crate::possible::Possible;
+use lukhveri::names::{listed, sentence};
 
 /// What is told: the answer, and what happens in each world if there are few.
 pub struct Story<'a> {
