@@ -2,6 +2,7 @@
 
 use crate::persons::Persons;
 use crate::read::{File, Reader, Record};
+use crate::write::Writer;
 
 /// What is told of a family.
 #[derive(Clone, Copy, Debug, PartialEq, Eq)]
@@ -59,6 +60,42 @@ impl CaseRecords {
         reader.rest().is_empty().then_some(case)
     }
 
+    /// What case.bin holds: these records, one after another. A scope or a segment of 0 is left out.
+    pub fn bytes(&self) -> Vec<u8> {
+        let mut bytes = Vec::new();
+        self.heading_record().finish(&mut bytes);
+        for family in &self.families {
+            let writer = Writer::new(2).byte(0, family.number).optional(1, given(family.scope));
+            writer.optional(2, family.complete).finish(&mut bytes);
+        }
+        for boolean in &self.booleans {
+            let pairs = boolean.observations.iter();
+            let pairs: Vec<[u8; 2]> =
+                pairs.map(|&(value, evidence)| [u8::from(value), evidence]).collect();
+            let writer = Writer::new(3).byte(0, boolean.fact).optional(1, boolean.unknown);
+            writer.some(2, &pairs).finish(&mut bytes);
+        }
+        for relation in &self.relations {
+            let writer = Writer::new(4).byte(0, relation.fact).byte(1, u8::from(relation.value));
+            writer.byte(2, relation.evidence).finish(&mut bytes);
+        }
+        for &node in &self.constraints {
+            Writer::new(5).byte(0, node).finish(&mut bytes);
+        }
+        bytes
+    }
+
+    fn heading_record(&self) -> Writer {
+        Writer::new(1)
+            .byte(0, self.relation)
+            .optional(1, given(self.scope))
+            .optional(2, given(self.segment))
+            .flag(3, self.segment_complete)
+            .bytes(4, &self.roster.mask().to_le_bytes())
+            .optional(5, self.complete)
+            .bytes(6, &self.most_worlds.to_le_bytes())
+    }
+
     fn add(&mut self, record: &Record) -> Option<()> {
         match record.kind {
             1 => self.heading(record)?,
@@ -92,6 +129,11 @@ impl CaseRecords {
         self.most_worlds = u16::from_le_bytes(*record.field(6)?.first_chunk()?);
         Some(())
     }
+}
+
+/// None for 0, which is empty.
+fn given(number: u8) -> Option<u8> {
+    Some(number).filter(|number| *number != 0)
 }
 
 fn pairs(bytes: &[u8]) -> Vec<(bool, u8)> {

@@ -69,6 +69,7 @@ mod handles;
 pub mod limits;
 mod line;
 pub mod names;
+pub mod near;
 mod operations;
 mod persons;
 mod plan;
@@ -78,6 +79,7 @@ mod ranges;
 mod read;
 mod records;
 mod refusal;
+pub mod words;
 mod write;
 
 pub use build_error::BuildError;

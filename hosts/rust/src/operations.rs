@@ -185,3 +185,8 @@ pub fn answer(plan: &[u8], case: &[u8]) -> Result<Answer, Refusal> {
 pub fn show(plan: &[u8], case: &[u8], world: u64) -> Result<Answer, Refusal> {
     Buffers::new().show(plan, case, world).map(|answered| answered.to_answer())
 }
+
+/// STANDIN
+pub fn circle(plan: &[u8], case: &[u8], person: u8) -> Option<Persons> {
+    crate::near::joined::circle(plan, case, person)
+}

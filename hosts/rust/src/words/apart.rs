@@ -1,0 +1,136 @@
+//! The rules that name a decided person one by one: cuts, bars and statuses, what they do and why they do nothing.
+
+use crate::line::{Line, Role};
+use crate::names::listed;
+use crate::near::{Acts, Rule, rules};
+use crate::words::{Telling, either};
+
+/// In which worlds something is so.
+#[derive(Clone, Copy, Debug, PartialEq, Eq)]
+pub(crate) enum When {
+    Always,
+    Sometimes,
+    Never,
+}
+
+pub(crate) fn when(worlds: impl IntoIterator<Item = bool>) -> When {
+    let (mut yes, mut no) = (false, false);
+    worlds.into_iter().for_each(|is| if is { yes = true } else { no = true });
+    match (yes, no) {
+        (true, false) => When::Always,
+        (true, true) => When::Sometimes,
+        _ => When::Never,
+    }
+}
+
+fn stands(mask: u64, number: u8) -> bool {
+    mask.checked_shr(u32::from(number)).is_some_and(|rest| rest & 1 == 1)
+}
+
+/// Whether a rule acted: an edge froze, a cut was applied, an attachment, a bar or a status took effect.
+fn acted(acts: &Acts, rule: Rule) -> bool {
+    match rule {
+        Rule::Edge(number) => stands(acts.frozen, number),
+        Rule::Cut(number) => stands(acts.applied, number),
+        Rule::Attachment(number) => stands(acts.attached, number),
+        Rule::Bar(number) => stands(acts.barred, number),
+        Rule::Status(number) => stands(acts.excluded, number),
+    }
+}
+
+impl Telling<'_> {
+    /// In which worlds a rule acts.
+    pub(crate) fn acting(&self, rule: Rule) -> When {
+        when(self.near.worlds().iter().map(|world| acted(&world.acts, rule)))
+    }
+
+    /// The rules of a sort that name a person.
+    pub(crate) fn naming(&self, person: u8, sort: impl Fn(Rule) -> bool) -> Vec<Rule> {
+        let all = rules(self.near.plan().records());
+        let named = all.filter(|rule| rule.persons.holds(person) && sort(rule.rule));
+        named.map(|rule| rule.rule).collect()
+    }
+
+    /// What cuts, bars and statuses do to a person with a block and a role.
+    pub(crate) fn one_by_one(&self, line: &Line) -> Vec<String> {
+        let mut said: Vec<String> = self.role(line).into_iter().collect();
+        let cuts = self.naming(line.person, |rule| matches!(rule, Rule::Cut(_)));
+        said.extend(cuts.into_iter().map(|cut| self.cut(cut, line)));
+        let others =
+            self.naming(line.person, |rule| matches!(rule, Rule::Bar(_) | Rule::Status(_)));
+        said.extend(others.into_iter().filter_map(|rule| self.without_effect(rule, line)));
+        said
+    }
+
+    /// By what somebody is barred or excluded.
+    fn role(&self, line: &Line) -> Option<String> {
+        let name = self.names.person(line.person);
+        let (word, rules) = match line.role {
+            Role::Barred => {
+                ("barred", self.naming(line.person, |rule| matches!(rule, Rule::Bar(_))))
+            }
+            Role::Excluded => {
+                ("excluded", self.naming(line.person, |rule| matches!(rule, Rule::Status(_))))
+            }
+            Role::Member | Role::None => return None,
+        };
+        let by = |wanted: When| {
+            let found = rules.iter().copied().filter(move |rule| self.acting(*rule) == wanted);
+            found.map(|rule| self.things.rule(rule)).collect::<Vec<String>>()
+        };
+        let (always, sometimes) = (by(When::Always), by(When::Sometimes));
+        Some(match always.is_empty() {
+            false => format!("{name} is {word} by {}.", listed(always)),
+            true => {
+                format!("{name} is {word}, as the open answers turn out, by {}.", either(sometimes))
+            }
+        })
+    }
+
+    fn cut(&self, rule: Rule, line: &Line) -> String {
+        let (name, cut) = (self.names.person(line.person), self.things.rule(rule));
+        match (self.acting(rule), when(self.holding(rule))) {
+            (When::Always, _) => format!("{name} is set apart by {cut}."),
+            (When::Sometimes, _) => {
+                format!("Whether {cut} acts hangs on what is open, and changes nothing for {name}.")
+            }
+            (When::Never, When::Never) => format!("{cut} does not act: {}.", self.why_not(rule)),
+            (When::Never, _) => format!("{cut} does not act: {}.", self.stopped(rule)),
+        }
+    }
+
+    /// What stops a cut whose condition holds.
+    fn stopped(&self, rule: Rule) -> String {
+        let blocked = self.near.worlds().iter().flat_map(|world| &world.acts.blocked);
+        let mut edges: Vec<u8> =
+            blocked.filter(|(cut, _)| Rule::Cut(*cut) == rule).map(|(_, edge)| *edge).collect();
+        edges.sort_unstable();
+        edges.dedup();
+        match edges.is_empty() {
+            true => "it gives way to a cut that goes first".to_string(),
+            false => format!(
+                "it is blocked by {}",
+                listed(edges.into_iter().map(|edge| self.things.edge(edge)))
+            ),
+        }
+    }
+
+    /// A bar or a status that names a person and does nothing to that person.
+    fn without_effect(&self, rule: Rule, line: &Line) -> Option<String> {
+        let (name, words) = (self.names.person(line.person), self.things.rule(rule));
+        match (self.acting(rule), when(self.holding(rule)), rule) {
+            (When::Never, When::Never, _) => {
+                Some(format!("{words} does not act: {}.", self.why_not(rule)))
+            }
+            (When::Never, _, Rule::Bar(_)) => {
+                Some(format!("{words} spares {name}: all whom it names came by attachments."))
+            }
+            (When::Sometimes, ..)
+                if !matches!(line.role, Role::Barred | Role::Excluded | Role::None) =>
+            {
+                Some(format!("Whether {words} acts hangs on what is open."))
+            }
+            _ => None,
+        }
+    }
+}

@@ -1,0 +1,98 @@
+//! What is said of a fact, in words.
+
+use std::collections::BTreeSet;
+
+use crate::names::listed;
+use crate::near::{Told, Variable};
+use crate::words::Telling;
+
+impl Telling<'_> {
+    fn papers(&self, pairs: &BTreeSet<(bool, u8)>, wanted: bool) -> String {
+        let papers = pairs.iter().filter(|(value, _)| *value == wanted);
+        listed(papers.map(|(_, evidence)| self.names.of("evidence", *evidence)))
+    }
+
+    /// Why a fact is open.
+    fn why_open(&self, told: &Told) -> String {
+        match told {
+            Told::Unknown { evidence } => {
+                format!("said to be unknown, by {}", self.names.of("evidence", *evidence))
+            }
+            Told::Observed(pairs) => self.conflict(pairs),
+            Told::NoFamily { family } => {
+                format!("nothing is told of {}", self.names.of("family", *family))
+            }
+            Told::OtherScope { family } => {
+                format!("what is told of {} is of another scope", self.names.of("family", *family))
+            }
+            Told::Nothing | Told::Default { .. } | Told::Silence { .. } => "not told".to_string(),
+        }
+    }
+
+    fn conflict(&self, pairs: &BTreeSet<(bool, u8)>) -> String {
+        let has = |wanted: bool| pairs.iter().any(|(value, _)| *value == wanted);
+        match (has(false), has(true)) {
+            (true, true) => {
+                let (no, yes) = (self.papers(pairs, false), self.papers(pairs, true));
+                format!("told yes by {yes} and no by {no}")
+            }
+            (_, yes) => {
+                let (word, papers) = (if yes { "yes" } else { "no" }, self.papers(pairs, yes));
+                format!("told {word} by different papers, {papers}, which is a conflict")
+            }
+        }
+    }
+
+    /// An open fact or decision, and why it is open.
+    pub(crate) fn variable(&self, variable: Variable) -> String {
+        match variable {
+            Variable::Fact(number) => {
+                let why = self.near.told(number).map(|told| self.why_open(told));
+                format!("{} ({})", self.things.fact(number), why.unwrap_or_default())
+            }
+            Variable::Decision(_) => self.called(variable),
+        }
+    }
+
+    /// An open fact or decision.
+    pub(crate) fn called(&self, variable: Variable) -> String {
+        match variable {
+            Variable::Fact(number) => self.things.fact(number),
+            Variable::Decision(place) => match self.near.decision(place) {
+                Some((cut, edge)) => self.things.decision(place, cut, edge),
+                None => format!("decision {place}"),
+            },
+        }
+    }
+
+    /// A known fact with its answer and where that comes from.
+    pub(crate) fn known(&self, number: u8, value: bool) -> String {
+        let fact = self.things.fact(number);
+        let word = if value { "yes" } else { "no" };
+        let because = self.near.told(number).and_then(|told| self.whence(told));
+        match because {
+            Some(because) => format!("{fact}: {word}, {because}"),
+            None => format!("{fact}: {word}"),
+        }
+    }
+
+    fn whence(&self, told: &Told) -> Option<String> {
+        match told {
+            Told::Observed(pairs) => {
+                let papers = pairs.iter().map(|(_, evidence)| self.names.of("evidence", *evidence));
+                Some(format!("by {}", listed(papers)))
+            }
+            Told::Default { actor, citation, .. } => {
+                let (actor, citation) =
+                    (self.names.of("actor", *actor), self.names.of("citation", *citation));
+                Some(format!("by default, as {actor} has not said otherwise ({citation})"))
+            }
+            Told::Silence { family, evidence } => {
+                let (family, paper) =
+                    (self.names.of("family", *family), self.names.of("evidence", *evidence));
+                Some(format!("as the register of {family} is complete ({paper}) and silent on it"))
+            }
+            _ => None,
+        }
+    }
+}

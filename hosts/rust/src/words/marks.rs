@@ -1,0 +1,67 @@
+//! Persons who are marked: by which cuts or which chain, and along what it reaches them.
+
+use crate::line::LineKind;
+use crate::names::listed;
+use crate::near::{Link, Mark, Seed};
+use crate::words::Telling;
+
+impl Telling<'_> {
+    /// Whether a person has a mark of this kind in every world.
+    fn always(&self, person: u8, kind: LineKind) -> bool {
+        let mut views = self.near.worlds().iter().map(|world| world.view(person));
+        views.all(|view| view.is_some_and(|view| view.kind == kind))
+    }
+
+    /// The sentences about a person whose line has kind 3.
+    pub(crate) fn overlap(&self, person: u8) -> Vec<String> {
+        let name = self.names.person(person);
+        let when = match self.always(person, LineKind::Overlap) {
+            true => "cuts overlap",
+            false => "by some of the open answers, cuts overlap",
+        };
+        let marks = self.near.marks(person, LineKind::Overlap);
+        let mut said = vec![format!("Nothing is decided of {name}: {when}.")];
+        said.extend(marks.iter().map(|mark| self.mark(mark, person)));
+        said.push("The plan can say which of two cuts goes first.".to_string());
+        said
+    }
+
+    /// The sentences about a person whose line has kind 4.
+    pub(crate) fn discretion(&self, person: u8) -> Vec<String> {
+        let name = self.names.person(person);
+        let when = match self.always(person, LineKind::Discretion) {
+            true => "",
+            false => ", by some of the open answers",
+        };
+        let marks = self.near.marks(person, LineKind::Discretion);
+        let mut said = vec![format!("{name} is left to discretion{when}.")];
+        said.extend(marks.iter().map(|mark| self.mark(mark, person)));
+        said
+    }
+
+    fn mark(&self, mark: &Mark, person: u8) -> String {
+        let what = match mark.seed {
+            Seed::Overlap(earlier, later) => {
+                format!("{} overlaps with {}", self.things.cut(earlier), self.things.cut(later))
+            }
+            Seed::Chain(persons) => format!(
+                "{} hang together by a chain in which not everyone is joined with everyone, and the plan has no citation for chains",
+                self.names.persons(persons)
+            ),
+        };
+        match mark.links.is_empty() {
+            true => format!("{what}."),
+            false => {
+                let links = listed(mark.links.iter().map(|link| self.link(*link)));
+                format!("{what}; this reaches {} through {links}.", self.names.person(person))
+            }
+        }
+    }
+
+    fn link(&self, link: Link) -> String {
+        match link {
+            Link::Rule(rule) => self.things.rule(rule),
+            Link::Variable(variable) => format!("the open question of {}", self.called(variable)),
+        }
+    }
+}

@@ -1,0 +1,83 @@
+//! Why a rule does not hold.
+
+use std::collections::BTreeSet;
+
+use crate::handles::NodeId;
+use crate::names::listed;
+use crate::near::{Bound, Rule, rules};
+use crate::records::Node;
+use crate::words::Telling;
+
+/// Facts, with their values, that make a node have its value.
+type Causes = BTreeSet<(u8, bool)>;
+
+impl Telling<'_> {
+    fn node(&self, id: NodeId) -> Option<&Node> {
+        self.near.plan().records().nodes.get(usize::from(id.number()))
+    }
+
+    /// The known facts that make a node true, or false, whatever is open; none where they do not.
+    fn causes(&self, id: NodeId, wanted: bool) -> Option<Causes> {
+        match self.node(id)? {
+            Node::Literal(value) => (*value == wanted).then(Causes::new),
+            Node::Fact(fact) => {
+                let number = self.near.plan().fact_number(*fact)?;
+                let bound = self.near.told(number)?.bound();
+                (bound == Bound::Known(wanted)).then(|| Causes::from([(number, wanted)]))
+            }
+            Node::Not(child) => self.causes(*child, !wanted),
+            Node::And(children) if wanted => self.all(children, wanted),
+            Node::Or(children) if !wanted => self.all(children, wanted),
+            Node::And(children) | Node::Or(children) => {
+                children.iter().find_map(|child| self.causes(*child, wanted))
+            }
+        }
+    }
+
+    fn all(&self, children: &[NodeId], wanted: bool) -> Option<Causes> {
+        let causes: Option<Vec<Causes>> =
+            children.iter().map(|child| self.causes(*child, wanted)).collect();
+        Some(causes?.into_iter().flatten().collect())
+    }
+
+    fn in_words(&self, causes: &Causes) -> String {
+        match causes.is_empty() {
+            true => "the plan itself says so".to_string(),
+            false => listed(causes.iter().map(|(fact, value)| self.known(*fact, *value))),
+        }
+    }
+
+    /// Condition and defeaters of a rule.
+    fn asked(&self, rule: Rule) -> Option<(NodeId, Vec<NodeId>)> {
+        let records = self.near.plan().records();
+        let found = rules(records).find(|found| found.rule == rule)?;
+        Some((found.condition, found.defeaters.to_vec()))
+    }
+
+    /// Whether a rule's condition holds and no defeater does, in each world.
+    pub(crate) fn holding(&self, rule: Rule) -> Vec<bool> {
+        let Some((condition, defeaters)) = self.asked(rule) else {
+            return Vec::new();
+        };
+        let worlds = self.near.worlds().iter();
+        let in_world = worlds.map(|world| {
+            let is = |node: &NodeId| world.nodes.get(usize::from(node.number())) == Some(&true);
+            is(&condition) && !defeaters.iter().any(is)
+        });
+        in_world.collect()
+    }
+
+    /// Why a rule holds in no world.
+    pub(crate) fn why_not(&self, rule: Rule) -> String {
+        let Some((condition, defeaters)) = self.asked(rule) else {
+            return String::new();
+        };
+        if let Some(causes) = self.causes(condition, false) {
+            return self.in_words(&causes);
+        }
+        match defeaters.iter().find_map(|defeater| self.causes(*defeater, true)) {
+            Some(causes) => format!("it is defeated; {}", self.in_words(&causes)),
+            None => "whatever the open answers are, something stands against it".to_string(),
+        }
+    }
+}
