@@ -91,7 +91,7 @@ pub use handles::{BooleanId, CutId, EdgeId, FactId, NodeId, RelationId};
 pub use line::{LINE, Line, LineKind, Role};
 pub use operations::{
     Answer, Answered, Buffers, EVENTS_LENGTH, LINES_LENGTH, MOST_EVENTS_LENGTH, STACK, answer,
-    answer_into, check, show, show_into,
+    answer_into, check, circle, show, show_into,
 };
 pub use persons::{Numbers, Persons};
 pub use plan::Plan;

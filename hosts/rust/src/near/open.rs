@@ -1,5 +1,6 @@
 //! What is open in a circle: facts without one answer, and decisions that nobody has taken.
 
+use crate::case_records::{BooleanRecord, CaseRecords};
 use crate::line::Line;
 use crate::near::kept::Kept;
 use crate::near::told::Bound;
@@ -18,6 +19,8 @@ pub enum Variable {
 pub(crate) struct Open {
     variables: Vec<Variable>,
     candidates: Vec<Vec<bool>>,
+    /// How many of the variables are boolean facts; these come first.
+    booleans: usize,
     /// The places of the circle's decisions among all of the plan's.
     decisions: Vec<u8>,
 }
@@ -48,7 +51,8 @@ impl Open {
             kept.decisions.iter().map(|place| (Variable::Decision(*place), vec![false, true]));
         let all = facts(true).chain(decisions).chain(facts(false));
         let (variables, candidates) = all.unzip();
-        Open { variables, candidates, decisions: kept.decisions.clone() }
+        let booleans = facts(true).count();
+        Open { variables, candidates, booleans, decisions: kept.decisions.clone() }
     }
 
     pub(crate) fn variables(&self) -> &[Variable] {
@@ -57,6 +61,24 @@ impl Open {
 
     pub(crate) fn candidates(&self) -> &[Vec<bool>] {
         &self.candidates
+    }
+
+    pub(crate) fn booleans(&self) -> usize {
+        self.booleans
+    }
+
+    /// The case in which the open boolean facts have these values, each told by two papers: such a fact is open still and has its influence, but
+    /// one value alone, so that few worlds are left to be gone through.
+    pub(crate) fn chosen(&self, case: &CaseRecords, values: &[bool]) -> CaseRecords {
+        let mut chosen = case.clone();
+        for (variable, value) in self.variables.iter().zip(values).take(self.booleans) {
+            if let Variable::Fact(fact) = *variable {
+                chosen.booleans.retain(|record| record.fact != fact);
+                let observations = vec![(*value, 0), (*value, 1)];
+                chosen.booleans.push(BooleanRecord { fact, unknown: None, observations });
+            }
+        }
+        chosen
     }
 
     /// A line of the circle's plan with its open decisions numbered as in the whole plan.

@@ -5,7 +5,7 @@ use std::collections::BTreeSet;
 use crate::event::Event;
 use crate::line::{Line, LineKind, Role};
 use crate::near::kept::Kept;
-use crate::near::open::Open;
+use crate::near::open::{Open, Variable};
 use crate::near::told::Bound;
 use crate::near::values::node_values;
 use crate::operations::{Answer, Answered, Buffers};
@@ -109,11 +109,10 @@ impl Worlds {
         let radices: Vec<usize> = open.candidates().iter().map(Vec::len).collect();
         let complete = found.lines.iter().all(|line| line.kind != LineKind::RosterIncomplete);
         let count = if complete { radices.iter().product() } else { 0 };
-        let mut looking =
-            Looking { kept, open, bytes: kept.case.bytes(), buffers: Buffers::new(), next: 0 };
+        let mut looking = Looking::of(kept, open, &radices);
         let choices: Option<Vec<Option<World>>> =
-            (0..count).map(|choice| looking.at(choice, &radices)).collect();
-        let choices = choices.filter(|_| looking.next == found.worlds)?;
+            (0..count).map(|choice| looking.at(choice)).collect();
+        let choices = choices.filter(|_| looking.shown == found.worlds)?;
         Some(Worlds { choices, radices })
     }
 
@@ -138,31 +137,48 @@ impl Worlds {
 struct Looking<'a> {
     kept: &'a Kept,
     open: &'a Open,
-    bytes: Vec<u8>,
-    buffers: Buffers,
+    radices: &'a [usize],
+    /// How many choices there are for each choice of the boolean facts, which come first.
+    behind: usize,
+    /// The case in which the boolean facts have their values.
+    case: Vec<u8>,
+    /// The number of the next admissible world of that case.
     next: u64,
+    /// How many worlds were shown.
+    shown: u64,
+    buffers: Buffers,
 }
 
-impl Looking<'_> {
+impl<'a> Looking<'a> {
+    fn of(kept: &'a Kept, open: &'a Open, radices: &'a [usize]) -> Looking<'a> {
+        let behind = radices.iter().skip(open.booleans()).product();
+        let (case, buffers) = (Vec::new(), Buffers::new());
+        Looking { kept, open, radices, behind, case, next: 0, shown: 0, buffers }
+    }
+
     /// What stands at a choice; none where the proved code does not show it.
-    fn at(&mut self, choice: usize, radices: &[usize]) -> Option<Option<World>> {
-        let values = self.values(choice, radices)?;
+    fn at(&mut self, choice: usize) -> Option<Option<World>> {
+        let values = self.values(choice)?;
+        if choice.checked_rem(self.behind)? == 0 {
+            self.case = self.open.chosen(&self.kept.case, &values).bytes();
+            self.next = 0;
+        }
         let nodes = node_values(&self.kept.plan, |fact| self.fact(fact, &values));
         let holds = |node: &u8| nodes.get(usize::from(*node)) == Some(&true);
         if !self.kept.case.constraints.iter().all(holds) {
             return Some(None);
         }
-        let shown = self.buffers.show(self.kept.plan.bytes(), &self.bytes, self.next).ok()?;
-        self.next += 1;
+        let shown = self.buffers.show(self.kept.plan.bytes(), &self.case, self.next).ok()?;
+        (self.next, self.shown) = (self.next + 1, self.shown + 1);
         let (views, acts) = (views(&shown, self.kept.circle), acts(&shown));
         Some(Some(World { values, nodes, views, acts }))
     }
 
     /// The digits of the choice's number, the last variable's lowest.
-    fn values(&self, choice: usize, radices: &[usize]) -> Option<Vec<bool>> {
+    fn values(&self, choice: usize) -> Option<Vec<bool>> {
         let mut values = Vec::new();
         let mut rest = choice;
-        for (radix, candidates) in radices.iter().zip(self.open.candidates()).rev() {
+        for (radix, candidates) in self.radices.iter().zip(self.open.candidates()).rev() {
             values.push(*candidates.get(rest.checked_rem(*radix)?)?);
             rest /= radix;
         }
@@ -171,7 +187,7 @@ impl Looking<'_> {
     }
 
     fn fact(&self, fact: u8, values: &[bool]) -> bool {
-        let variable = super::Variable::Fact(fact);
+        let variable = Variable::Fact(fact);
         let open = self.open.variables().iter().zip(values).find(|(own, _)| **own == variable);
         let known = || {
             let told = self.kept.facts.iter().find(|(touching, _)| touching.fact == fact);

@@ -65,7 +65,7 @@ impl Telling<'_> {
         }
     }
 
-    /// A known fact with its answer and where that comes from.
+    /// A fact of one value, with its answer and where that comes from.
     pub(crate) fn known(&self, number: u8, value: bool) -> String {
         let fact = self.things.fact(number);
         let word = if value { "yes" } else { "no" };

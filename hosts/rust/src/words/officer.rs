@@ -6,15 +6,17 @@ use crate::operations::Answer;
 use crate::plan::Plan;
 use crate::words::event;
 
-/// The counts of an answer and all of its events.
+/// The counts of an answer, and all of its events below a heading.
 pub fn officer(plan: &Plan, answer: &Answer, names: &Names) -> Vec<String> {
     let mut said = vec![summary(answer)];
-    let happened = match answer.worlds {
-        1 => "",
-        _ => " in some world",
+    let heading = match (answer.events.is_empty(), answer.worlds) {
+        (true, _) => "There are no events.",
+        (false, 1) => "Events:",
+        (false, _) => "Events, each of some world:",
     };
-    let events = answer.events.iter();
-    said.extend(events.map(|found| sentence(&format!("{}{happened}.", event(plan, names, found)))));
+    said.push(heading.to_string());
+    let events = answer.events.iter().map(|found| event(plan, names, found));
+    said.extend(events.map(|clause| format!("  {}.", sentence(&clause))));
     said
 }
 

@@ -11,19 +11,29 @@ use crate::words::Telling;
 /// Facts, with their values, that make a node have its value.
 type Causes = BTreeSet<(u8, bool)>;
 
+/// The one value that a fact can have, also by papers that are in conflict and all say the same.
+fn only(bound: Bound) -> Option<bool> {
+    match bound {
+        Bound::Known(value) => Some(value),
+        Bound::Open { no: true, yes: false } => Some(false),
+        Bound::Open { no: false, yes: true } => Some(true),
+        Bound::Open { .. } => None,
+    }
+}
+
 impl Telling<'_> {
     fn node(&self, id: NodeId) -> Option<&Node> {
         self.near.plan().records().nodes.get(usize::from(id.number()))
     }
 
-    /// The known facts that make a node true, or false, whatever is open; none where they do not.
+    /// The facts of one value that make a node true, or false, whatever is open; none where they do not.
     fn causes(&self, id: NodeId, wanted: bool) -> Option<Causes> {
         match self.node(id)? {
             Node::Literal(value) => (*value == wanted).then(Causes::new),
             Node::Fact(fact) => {
                 let number = self.near.plan().fact_number(*fact)?;
                 let bound = self.near.told(number)?.bound();
-                (bound == Bound::Known(wanted)).then(|| Causes::from([(number, wanted)]))
+                (only(bound) == Some(wanted)).then(|| Causes::from([(number, wanted)]))
             }
             Node::Not(child) => self.causes(*child, !wanted),
             Node::And(children) if wanted => self.all(children, wanted),

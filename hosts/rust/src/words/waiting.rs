@@ -39,14 +39,16 @@ impl Telling<'_> {
             outcome.settling.iter().filter(|settling| settling.always).collect();
         if !sure.is_empty() {
             let all = either(sure.iter().map(|settling| self.called(settling.variable)));
-            return Some(format!("First find out {all}: whatever comes out, it settles the rest."));
+            return Some(format!("Begin with {all}: whatever comes out, it settles the rest."));
         }
-        let all = either(outcome.settling.iter().map(|settling| self.settles(settling)));
-        Some(format!("First find out what may settle the rest at once: {all}."))
+        let ends = ["settles the rest"].into_iter().chain(std::iter::repeat("does"));
+        let all =
+            outcome.settling.iter().zip(ends).map(|(settling, end)| self.settles(settling, end));
+        Some(format!("Begin with {}.", all.collect::<Vec<String>>().join(", or with ")))
     }
 
-    fn settles(&self, settling: &Settling) -> String {
+    fn settles(&self, settling: &Settling, end: &str) -> String {
         let word = if settling.answers.contains(&true) { "yes" } else { "no" };
-        format!("{}, by a {word}", self.called(settling.variable))
+        format!("{}, where a {word} {end}", self.called(settling.variable))
     }
 }
