@@ -117,7 +117,7 @@ extern "C" {
 /* Bytes that hold every text of the lister. */
 #define LUKHVERI_TEXT_LENGTH 13216
 
-/* Bytes of stack that are enough for a call, whatever is lent: hosts/measure found 96,759. Many events take little time: an answer with 4,096
+/* Bytes of stack that are enough for a call, whatever is lent: hosts/measure found 97,015. Many events take little time: an answer with 4,096
  * of kind 9 took 2 ms, one with 16,384 took 21 ms. */
 #define LUKHVERI_STACK (256 * 1024)
 
