@@ -48,6 +48,8 @@
 //! # }
 //! ```
 //!
+//! [`list`] gives the lister's text, [`circle`] the persons with whom somebody is joined, directly or through others.
+//!
 //! [`answer_into`] and [`show_into`] work in buffers that the caller lends and allocate nothing; [`Buffers`] keeps such buffers for many calls.
 //! Calls from several threads are independent. A call takes less than 256 KB of its thread's stack ([`STACK`]).
 
@@ -68,6 +70,7 @@ mod foreign;
 mod handles;
 pub mod limits;
 mod line;
+mod listing;
 pub mod names;
 pub mod near;
 mod operations;
@@ -89,6 +92,7 @@ pub use case_records::{BooleanRecord, CaseRecords, FamilyRecord, RelationRecord}
 pub use event::{EVENT, Event, Evidence};
 pub use handles::{BooleanId, CutId, EdgeId, FactId, NodeId, RelationId};
 pub use line::{LINE, Line, LineKind, Role};
+pub use listing::{Listing, TEXT_LENGTH, list};
 pub use operations::{
     Answer, Answered, Buffers, EVENTS_LENGTH, LINES_LENGTH, MOST_EVENTS_LENGTH, STACK, answer,
     answer_into, check, circle, show, show_into,

@@ -1,4 +1,4 @@
-//! Check a plan, answer a case, show a world.
+//! Check a plan, answer a case, show a world; the circle of a person.
 
 use crate::event::{EVENT, Event};
 use crate::foreign::{self, Told};
@@ -186,7 +186,11 @@ pub fn show(plan: &[u8], case: &[u8], world: u64) -> Result<Answer, Refusal> {
     Buffers::new().show(plan, case, world).map(|answered| answered.to_answer())
 }
 
-/// STANDIN
+/// The circle of a person: that person and all who are reached by rules, unresolved decisions and facts that join persons, on the roster or
+/// off it. What a case says of a fact that touches nobody of the circle does not show in the person's line. Plan, heading and constraints
+/// alone make a circle. None for a number above 63, for a plan that is refused, and for a case that is refused by 1 to 4; a case that a later
+/// number refuses has circles.
 pub fn circle(plan: &[u8], case: &[u8], person: u8) -> Option<Persons> {
-    crate::near::joined::circle(plan, case, person)
+    let circle = Persons::from_mask(foreign::circle(plan, case, person));
+    (!circle.is_empty()).then_some(circle)
 }

@@ -1,9 +1,9 @@
-//! Check, answer and show through the static library.
+//! Check, answer, show, list and circles through the static library.
 
 use lukhveri::{
     Buffers, CaseBuilder, Cut, Decision, EVENTS_LENGTH, Edge, Election, Event, File, LINES_LENGTH,
     LineKind, MOST_EVENTS_LENGTH, Persons, Plan, PlanBuilder, Policy, Reason, Role, STACK, Status,
-    answer, answer_into, check, show,
+    TEXT_LENGTH, answer, answer_into, check, circle, list, show,
 };
 
 fn persons(numbers: &[u8]) -> Persons {
@@ -119,6 +119,8 @@ fn more_events_than_the_lister_takes() {
     let (mut lines, mut events) = ([0; LINES_LENGTH], vec![0; EVENTS_LENGTH]);
     let short = answer_into(plan.bytes(), &case, &mut lines, &mut events).map(|_| ());
     assert_eq!(short.map_err(|refusal| refusal.reason), Err(Reason::EventsDoNotFit));
+    let listing = list(plan.bytes(), &case);
+    assert!(!listing.refused && listing.text.lines().count() == 33 + 2);
     let mut buffers = Buffers::new();
     let answered = buffers.answer(plan.bytes(), &case).expect("an answer");
     assert_eq!(answered.worlds(), 4096);
@@ -237,4 +239,70 @@ fn threads_are_independent() {
             });
         }
     });
+}
+
+/// The rows of document 01, and those of refusals.
+#[test]
+fn the_text_of_the_lister() {
+    let plan = pair();
+    let case = complete(&plan, &[0, 1, 2]);
+    let listing = list(plan.bytes(), &case);
+    let rows = "person kind role block\n0 0 1 0,1\n1 0 1 0,1\n2 0 1 2\nunits 2\n";
+    assert_eq!((listing.to_string().as_str(), listing.refused), (rows, false));
+    let of_plan = list(&plan.bytes()[..9], &case);
+    assert_eq!((of_plan.text.as_str(), of_plan.refused), ("refused 1 2\n", true));
+    let of_case = list(plan.bytes(), &[]);
+    assert_eq!((of_case.text.as_str(), of_case.refused), ("refused 3 0\n", true));
+    let open = CaseBuilder::new(&plan, 1, 2, persons(&[0, 1])).expect("a case");
+    let open = list(plan.bytes(), open.finish().expect("a case").bytes());
+    assert_eq!(open.text, "person kind role block\n0 5 0 -\n1 5 0 -\nunits 0\n");
+}
+
+/// Everybody has the longest row: 64 persons in one block.
+#[test]
+fn the_longest_rows() {
+    let mut plan = PlanBuilder::new(7);
+    let always = plan.literal(true).expect("a node");
+    plan.base_chain(1).expect("a citation");
+    for left in 0..63 {
+        plan.edge(Edge::base(left, left + 1, always, 5)).expect("an edge");
+    }
+    let plan = plan.finish().expect("a plan");
+    let everybody: Vec<u8> = (0..64).collect();
+    let listing = list(plan.bytes(), &complete(&plan, &everybody));
+    assert!(listing.text.len() <= TEXT_LENGTH && listing.text.ends_with("62,63\nunits 1\n"));
+}
+
+/// An edge joins 0 and 1, a relation that 1's status uses joins 1 and 60, who is not on the roster, a fact that two statuses use joins 2 and 3, an
+/// unresolved decision joins a cut's member with an edge's ends; 9 stands alone, and so does whoever is named by what no rule uses.
+#[test]
+fn circles() {
+    let mut plan = PlanBuilder::new(1);
+    let always = plan.literal(true).expect("a node");
+    let lives = plan.relation(4, &[1, 60]).expect("a fact");
+    plan.relation(4, &[9, 61]).expect("a fact");
+    let wish = plan.boolean().expect("a fact");
+    let (live, wished) = (plan.holds(lives).expect("a node"), plan.holds(wish).expect("a node"));
+    plan.edge(Edge::base(0, 1, always, 1)).expect("an edge");
+    let edge = plan.edge(Edge::combination(4, 5, always, 1)).expect("an edge");
+    let cut = Cut::new(persons(&[4, 6]), always, 2).deciding(edge, Decision::Unresolved);
+    plan.cut(cut).expect("a cut");
+    plan.status(Status::new(1, live, 0)).expect("a status");
+    plan.status(Status::new(2, wished, 0)).expect("a status");
+    plan.status(Status::new(3, wished, 0)).expect("a status");
+    let plan = plan.finish().expect("a plan");
+    let mut case = complete(&plan, &[0, 1, 2, 3, 4, 5, 6, 9]);
+    let of = |person: u8, case: &[u8]| circle(plan.bytes(), case, person);
+    let wanted: [&[u8]; 5] = [&[0, 1, 60], &[2, 3], &[4, 5, 6], &[9], &[61]];
+    for persons in wanted {
+        let wanted = Some(Persons::of(persons).expect("persons"));
+        assert!(persons.iter().all(|&person| of(person, &case) == wanted), "{persons:?}");
+    }
+    assert!((64..=255).all(|person| of(person, &case).is_none()));
+    assert_eq!(circle(&plan.bytes()[..9], &case, 0), None);
+    assert_eq!(of(0, &case[..9]), None);
+    // Person 0 off the roster: refusal 9, and the circle that there was.
+    case[5] -= 1;
+    let refusal = answer(plan.bytes(), &case).expect_err("off the roster");
+    assert_eq!((refusal.reason, of(1, &case)), (Reason::Heading, Some(persons(&[0, 1, 60]))));
 }

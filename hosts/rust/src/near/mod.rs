@@ -4,7 +4,6 @@
 //! of them. Plan, heading and constraints are kept, so a line of the circle is the line of the whole case, which demand 3 promises; and
 //! whatever is made of a `Near` alone cannot show what a case says of strangers.
 
-pub(crate) mod joined;
 mod kept;
 mod open;
 mod outcome;
