@@ -54,6 +54,7 @@ impl Telling<'_> {
     /// What cuts, bars and statuses do to a person with a block and a role.
     pub(crate) fn one_by_one(&self, line: &Line) -> Vec<String> {
         let mut said: Vec<String> = self.role(line).into_iter().collect();
+        said.extend(self.moved(line.person));
         let cuts = self.naming(line.person, |rule| matches!(rule, Rule::Cut(_)));
         said.extend(cuts.into_iter().map(|cut| self.cut(cut, line)));
         let others =
@@ -85,6 +86,17 @@ impl Telling<'_> {
                 format!("{name} is {word}, as the open answers turn out, by {}.", either(sometimes))
             }
         })
+    }
+
+    /// The attachments that move a person in every world.
+    fn moved(&self, person: u8) -> Vec<String> {
+        let rules = self.near.plan().records().attachments.iter().zip(0..);
+        let own = rules.filter(|(rule, _)| rule.members.holds(person) && rule.anchor != person);
+        let acting = own
+            .map(|(_, number)| Rule::Attachment(number))
+            .filter(|rule| self.acting(*rule) == When::Always);
+        let name = self.names.person(person);
+        acting.map(|rule| format!("{name} is moved by {}.", self.things.rule(rule))).collect()
     }
 
     fn cut(&self, rule: Rule, line: &Line) -> String {
@@ -122,9 +134,12 @@ impl Telling<'_> {
             (When::Never, When::Never, _) => {
                 Some(format!("{words} does not act: {}.", self.why_not(rule)))
             }
-            (When::Never, _, Rule::Bar(_)) => {
+            (When::Never, When::Always, Rule::Bar(_)) => {
                 Some(format!("{words} spares {name}: all whom it names came by attachments."))
             }
+            (When::Never, _, Rule::Bar(_)) => Some(format!(
+                "{words} spares {name}: where it holds, all whom it names came by attachments."
+            )),
             (When::Sometimes, ..)
                 if !matches!(line.role, Role::Barred | Role::Excluded | Role::None) =>
             {

@@ -34,7 +34,7 @@ impl Telling<'_> {
         match (has(false), has(true)) {
             (true, true) => {
                 let (no, yes) = (self.papers(pairs, false), self.papers(pairs, true));
-                format!("told yes by {yes} and no by {no}")
+                format!("told yes by {yes}, and no by {no}")
             }
             (_, yes) => {
                 let (word, papers) = (if yes { "yes" } else { "no" }, self.papers(pairs, yes));

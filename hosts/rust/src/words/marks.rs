@@ -36,7 +36,7 @@ impl Telling<'_> {
         let marks = self.near.marks(person, LineKind::Discretion);
         let mut said = vec![format!("{name} is left to discretion{when}.")];
         said.extend(marks.iter().map(|mark| self.mark(mark, person)));
-        said.push("It is for a person to decide, unless the plan names a paragraph by which chains are enough.".to_string());
+        said.push("An officer has to decide, unless the plan names a paragraph by which chains are enough.".to_string());
         said
     }
 

@@ -50,11 +50,9 @@ impl Telling<'_> {
         Some(causes?.into_iter().flatten().collect())
     }
 
-    fn in_words(&self, causes: &Causes) -> String {
-        match causes.is_empty() {
-            true => "the plan itself says so".to_string(),
-            false => listed(causes.iter().map(|(fact, value)| self.known(*fact, *value))),
-        }
+    fn in_words(&self, causes: &Causes) -> Option<String> {
+        let facts = causes.iter().map(|(fact, value)| self.known(*fact, *value));
+        (!causes.is_empty()).then(|| listed(facts))
     }
 
     /// Condition and defeaters of a rule.
@@ -83,10 +81,15 @@ impl Telling<'_> {
             return String::new();
         };
         if let Some(causes) = self.causes(condition, false) {
-            return self.in_words(&causes);
+            return self
+                .in_words(&causes)
+                .unwrap_or_else(|| "by the plan it never does".to_string());
         }
         match defeaters.iter().find_map(|defeater| self.causes(*defeater, true)) {
-            Some(causes) => format!("it is defeated; {}", self.in_words(&causes)),
+            Some(causes) => {
+                let always = || "by the plan it always is".to_string();
+                format!("it is defeated; {}", self.in_words(&causes).unwrap_or_else(always))
+            }
             None => "whatever the open answers are, something stands against it".to_string(),
         }
     }

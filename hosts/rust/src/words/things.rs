@@ -22,10 +22,10 @@ impl Things<'_> {
             Some(Fact::Relation { family, tuple }) => {
                 let family = self.names.of("family", *family);
                 match tuple.is_empty() {
-                    true => format!("fact {number} ({family})"),
+                    true => format!("fact {number}, {family}"),
                     false => {
                         let persons = self.names.persons(tuple.iter().copied());
-                        format!("fact {number} ({family} of {persons})")
+                        format!("fact {number}, {family} of {persons}")
                     }
                 }
             }

@@ -1,0 +1,175 @@
+//! What is said of persons: true, and of nobody's strangers.
+
+use lukhveri::names::Names;
+use lukhveri::near::NearError;
+use lukhveri::words;
+
+fn hex(text: &str) -> Vec<u8> {
+    let digits: Vec<char> = text.chars().filter(|letter| !letter.is_whitespace()).collect();
+    let byte =
+        |pair: &[char]| u8::from_str_radix(&pair.iter().collect::<String>(), 16).expect("hex");
+    digits.chunks(2).map(byte).collect()
+}
+
+/// The sentences on a person, a line each.
+fn said(plan: &str, case: &str, person: u8) -> String {
+    let told = words::explain_person(&hex(plan), &hex(case), &Names::default(), person);
+    told.expect("a paragraph").sentences.join("\n")
+}
+
+/// Persons 0 to 2 are one chain, 3 to 5 another, 6 is joined to 5.
+const CHAINS: &str = "010101030101040f00010001040f01020001040f03040001040f04050001042f05060002";
+
+#[test]
+fn a_mark_comes_from_where_it_comes_from() {
+    let case = "017f0101017f00000000000000001000";
+    let told = said(CHAINS, case, 6);
+    let wanted = "Person 6 is left to discretion.
+Person 3, person 4 and person 5 hang together by a chain in which not everyone is joined with everyone, and the plan has no citation for chains; this reaches person 6 through edge 4 between person 5 and person 6 (citation 2).
+An officer has to decide, unless the plan names a paragraph by which chains are enough.";
+    assert_eq!(told, wanted);
+    for stranger in ["person 0", "person 1", "person 2"] {
+        assert!(!told.to_lowercase().contains(stranger), "{stranger} in {told}");
+    }
+}
+
+/// Cuts {0,1} and {1,2} overlap, so do {3,4} and {4,5}; 6 is joined to 5.
+const OVERLAPS: &str = "010101 030101 040f05060001 0507 0300000000000000 0002 0507 0600000000000000 0002 0507 1800000000000000 0002
+    0507 3000000000000000 0002";
+
+#[test]
+fn an_overlap_comes_from_where_it_comes_from() {
+    let told = said(OVERLAPS, "017f0101017f00000000000000001000", 6);
+    let wanted = "Nothing is decided of person 6: cuts overlap.
+Cut 2 of person 3 and person 4 (citation 2) overlaps with cut 3 of person 4 and person 5 (citation 2); this reaches person 6 through edge 0 between person 5 and person 6 (citation 1).
+The plan can say which of two cuts goes first.";
+    assert_eq!(told, wanted);
+}
+
+/// Facts 0 and 1 are asked by edges 0–1 (of a pair that is fixed anyway) and 1–2.
+const FIXED_PAIR: &str = "01010102000200030101030200030201040f00010001042f00010102042f01020202";
+
+#[test]
+fn what_decides_and_what_does_not() {
+    let case = "017f0101010700000000000000001000";
+    let wanted = "It is open with whom person 0 is counted.
+Possible: with person 1; with person 1 and person 2.
+It waits for fact 1 (not told).
+Open as well, but changing nothing as things stand: fact 0 (not told).";
+    assert_eq!(said(FIXED_PAIR, case, 0), wanted);
+    for person in [1, 2] {
+        let told = said(FIXED_PAIR, case, person);
+        assert!(told.contains("It waits for fact 1 (not told).\n"), "{told}");
+        assert!(told.contains("nothing as things stand: fact 0 (not told)."), "{told}");
+    }
+}
+
+/// Fact 0 joins 0 and 1, facts 1 to 7 join 2 with 3 to 9, an edge each.
+fn many_strangers() -> Vec<u8> {
+    let mut plan = hex("010101 0200 0200 0200 0200 0200 0200 0200 0200");
+    (0..8).for_each(|fact| plan.extend([3, 2, fact]));
+    plan.extend([4, 0x2f, 0, 1, 0, 1]);
+    (1..8).for_each(|fact| plan.extend([4, 0x2f, 2, 2 + fact, fact, 2]));
+    plan
+}
+
+#[test]
+fn strangers_answers_change_no_paragraph() {
+    let (plan, names) = (many_strangers(), Names::default());
+    let heading = hex("017f010101 ff03000000000000 00 0010");
+    let told = |case: &[u8]| words::explain_person(&plan, case, &names, 0).expect("a paragraph");
+    let all_open = told(&heading);
+    assert_eq!(all_open.possible, ["alone", "with person 1"]);
+    let mut case = heading.clone();
+    for fact in 1..8 {
+        case.extend([3, 5, fact, 1, fact % 2, 5]);
+        assert_eq!(told(&case), all_open, "facts 1 to {fact} are told");
+    }
+}
+
+/// Silence in a complete register, and a defeater.
+#[test]
+fn why_somebody_is_alone() {
+    let plan = "010101 0200 020301020001 020302020102 030101 030200 030201 030202 040f00010201 040f01020302 041f03040003 0101";
+    let case = "017f010101 1f00000000000000 00 0010 0207010107 0207020108 030500010109";
+    assert_eq!(
+        said(plan, case, 0),
+        "Person 0 is counted alone.
+Edge 0 between person 0 and person 1 (citation 1) does not hold: fact 1, family 1 of person 0 and person 1: no, as the register of family 1 is complete (evidence 7) and silent on it."
+    );
+    assert_eq!(
+        said(plan, case, 3),
+        "Person 3 is counted alone.
+Edge 2 between person 3 and person 4 (citation 3) does not hold: it is defeated; fact 0: yes, by evidence 9."
+    );
+}
+
+#[test]
+fn a_default_stands_beside_the_rule() {
+    let plan = "010101 0200 030101 030200 040f00010001 050f 0100000000000000 0102 00080103";
+    let case = "017f010101 0300000000000000 00 0010";
+    assert_eq!(
+        said(plan, case, 0),
+        "Person 0 is counted together with person 1, under citation 1.
+Cut 0 of person 0 (citation 2) does not act: fact 0: no, by default, as actor 8 has not said otherwise (citation 3)."
+    );
+}
+
+#[test]
+fn only_roles_that_can_come_about() {
+    let plan = "010101 0200 030101 030200 040f00010001 0807000102";
+    let told = said(plan, "017f010101 0300000000000000 00 0010", 0);
+    assert!(told.contains("Whether as a member or excluded is open."), "{told}");
+    assert!(!told.contains("barred"), "{told}");
+}
+
+#[test]
+fn which_to_ask_first() {
+    // edges 0–1 by fact 0, 1–2 by facts 0 and 1: a no to fact 0 settles all of person 1
+    let plan = "010101 0200 0200 030200 030201 0304020001 042f00010001 042f01020202";
+    let told = said(plan, "017f010101 0700000000000000 00 0010", 1);
+    assert!(
+        told.contains("Begin with fact 0, where a no settles the rest.\n")
+            || told.ends_with("Begin with fact 0, where a no settles the rest."),
+        "{told}"
+    );
+}
+
+/// A constraint ties two facts together: neither decides alone, either settles it.
+#[test]
+fn facts_that_a_constraint_ties() {
+    // nodes: 0 fact 0, 1 fact 1, 2 both, 3 not 0, 4 not 1, 5 neither, 6 alike
+    let plan = "010101 0200 0200 030200 030201 0304020001 031000 031001 0304020304 0308020205 040f00010001";
+    let case = "017f010101 0300000000000000 00 0010 050106";
+    let told = said(plan, case, 0);
+    assert!(!told.contains("It waits for"), "{told}");
+    assert!(
+        told.contains("What is known of fact 0 (not told); fact 1 (not told) can change it."),
+        "{told}"
+    );
+    assert!(
+        told.contains("Begin with fact 0 or fact 1: whatever comes out, it settles the rest."),
+        "{told}"
+    );
+}
+
+#[test]
+fn rosters_that_are_not_complete_and_cases_that_contradict() {
+    let told = said(FIXED_PAIR, "015f0101010700000000000000 0010", 0);
+    assert!(
+        told.starts_with(
+            "Nothing is decided of person 0: the roster is not complete.\nHave it confirmed"
+        ),
+        "{told}"
+    );
+    let plan = "010101 0200 030200";
+    let told = said(plan, "017f010101 0100000000000000 00 0010 030500010004 050100", 0);
+    assert!(told.contains("Constraint 0 uses fact 0: no, by evidence 4."), "{told}");
+}
+
+#[test]
+fn who_is_not_on_the_roster_has_no_paragraph() {
+    let case = hex("017f0101010700000000000000001000");
+    let found = words::explain_person(&hex(FIXED_PAIR), &case, &Names::default(), 9);
+    assert_eq!(found, Err(NearError::OffRoster { person: 9 }));
+}

@@ -1,0 +1,209 @@
+//! told N SEED: what the paragraphs of N random cases say, held to the answers to the whole case: which blocks and roles are possible, which open
+//! facts and decisions change nothing, which answer settles a line, which rules act and which do not.
+
+use std::collections::BTreeSet;
+use std::time::Instant;
+
+use inputs::generate::Input;
+use inputs::random::Random;
+use inputs::wire::{BLOCKED, Node, OVERRIDES, Plan, UNRESOLVED};
+use lukhveri::near::{Near, Outcome, Variable, View};
+use lukhveri::{Answer, Event, Line, LineKind, words};
+use wrapped::strangers;
+
+/// No more worlds than these are gone through.
+const MOST: u64 = 256;
+
+/// The plan in which a variable has a value.
+fn settled(plan: &Plan, variable: Variable, value: bool) -> Plan {
+    let mut plan = plan.clone();
+    match variable {
+        Variable::Fact(fact) => {
+            let nodes = plan.nodes.iter_mut().filter(|node| **node == Node::Fact(fact));
+            nodes.for_each(|node| *node = Node::Literal(u8::from(value)));
+        }
+        Variable::Decision(place) => {
+            let mut open: Vec<(usize, u8, &mut u8)> = Vec::new();
+            for (number, cut) in plan.cuts.iter_mut().enumerate() {
+                let entries = cut.decisions.iter_mut().flatten();
+                open.extend(
+                    entries
+                        .filter(|entry| entry.1 == UNRESOLVED)
+                        .map(|entry| (number, entry.0, &mut entry.1)),
+                );
+            }
+            open.sort_by_key(|(cut, edge, _)| (*cut, *edge));
+            *open[usize::from(place)].2 = if value { OVERRIDES } else { BLOCKED };
+        }
+    }
+    plan
+}
+
+fn view(line: &Line) -> View {
+    View { kind: line.kind, role: line.role, block: line.block }
+}
+
+/// A person's line if a variable had a value; none where no world would be left.
+fn line_if(input: &Input, person: u8, variable: Variable, value: bool) -> Option<Line> {
+    let plan = settled(&input.plan, variable, value).encode();
+    let answer = lukhveri::answer(&plan, &input.case.encode()).expect("fewer worlds are answered");
+    answer.line(person).copied().filter(|line| line.kind != LineKind::Inconsistent)
+}
+
+/// What every world of the whole case shows a person.
+fn shown(plan: &[u8], case: &[u8], answer: &Answer) -> Vec<Answer> {
+    (0..answer.worlds)
+        .map(|world| lukhveri::show(plan, case, world).expect("an admissible world"))
+        .collect()
+}
+
+fn possible(worlds: &[Answer], person: u8) -> BTreeSet<View> {
+    worlds.iter().filter_map(|world| world.line(person)).map(view).collect()
+}
+
+fn outcome(input: &Input, line: &Line, outcome: &Outcome) -> Result<(), String> {
+    for &variable in &outcome.idle {
+        for value in [false, true] {
+            let then = line_if(input, line.person, variable, value);
+            if then.is_some_and(|then| view(&then) != view(line))
+                && can_have(input, variable, value)
+            {
+                return Err(format!(
+                    "person {}: {variable:?} is said to change nothing",
+                    line.person
+                ));
+            }
+        }
+    }
+    for settling in &outcome.settling {
+        for &value in &settling.answers {
+            let then = line_if(input, line.person, settling.variable, value);
+            if then.is_none_or(|then| then.kind != LineKind::Decided) {
+                return Err(format!("person {}: {settling:?} does not settle", line.person));
+            }
+        }
+    }
+    Ok(())
+}
+
+/// A conflict whose papers all say the same has one value.
+fn can_have(input: &Input, variable: Variable, value: bool) -> bool {
+    let Variable::Fact(fact) = variable else {
+        return true;
+    };
+    let booleans = input.case.booleans.iter().filter(|record| record.fact == fact);
+    let mut told: Vec<u8> = booleans
+        .flat_map(|record| record.observations.iter().flatten())
+        .map(|pair| pair.0)
+        .collect();
+    let scoped = |family: u8| {
+        input
+            .case
+            .families
+            .iter()
+            .any(|record| record.number == family && record.scope == input.case.scope)
+    };
+    let in_scope =
+        input.plan.facts[usize::from(fact)].as_ref().is_some_and(|(family, _)| scoped(*family));
+    let relations = input.case.relations.iter().filter(|record| in_scope && record.fact == fact);
+    told.extend(relations.map(|record| record.value));
+    told.is_empty() || told.contains(&u8::from(value))
+}
+
+/// The number behind a word, such as the 3 of "edge 3".
+fn numbers<'a>(sentence: &'a str, word: &'a str) -> impl Iterator<Item = u8> + 'a {
+    sentence
+        .to_lowercase()
+        .leak()
+        .split(word)
+        .skip(1)
+        .filter_map(|rest| rest.split(|letter: char| !letter.is_ascii_digit()).next()?.parse().ok())
+}
+
+fn acts(event: &Event, word: &str, number: u8) -> bool {
+    match *event {
+        Event::Frozen { edge, .. } => word == "edge " && edge == number,
+        Event::Applied { cut, .. } => word == "cut " && cut == number,
+        Event::Attached { attachment, .. } => word == "attachment " && attachment == number,
+        Event::Barred { bar } => word == "bar " && bar == number,
+        Event::Excluded { status, .. } => word == "status " && status == number,
+        _ => false,
+    }
+}
+
+/// A rule that is said not to hold, or not to act, does so in no world; one that sets somebody apart does so in some.
+fn sentence(text: &str, answer: &Answer) -> Result<(), String> {
+    let first = text.to_lowercase();
+    let denied = first.split_once(" does not ").map(|(rule, _)| rule.to_string());
+    for word in ["edge ", "cut ", "attachment ", "bar ", "status "] {
+        let happens = |number: u8| answer.events.iter().any(|event| acts(event, word, number));
+        if let Some(rule) = denied.as_ref().filter(|rule| rule.starts_with(word))
+            && let Some(number) = numbers(rule, word).next()
+            && happens(number)
+        {
+            return Err(format!("untrue: {text}"));
+        }
+    }
+    if let Some((_, cut)) = first.split_once(" is set apart by ")
+        && let Some(number) = numbers(cut, "cut ").next()
+        && !answer.events.iter().any(|event| acts(event, "cut ", number))
+    {
+        return Err(format!("untrue: {text}"));
+    }
+    Ok(())
+}
+
+fn case(random: &mut Random, done: &mut u64) -> Result<(), String> {
+    let input = strangers::input(random);
+    let (plan, case) = (input.plan.encode(), input.case.encode());
+    let Ok(answer) = lukhveri::answer(&plan, &case) else {
+        return Ok(());
+    };
+    if answer.worlds > MOST {
+        return Ok(());
+    }
+    *done += 1;
+    let worlds = shown(&plan, &case, &answer);
+    let names = Default::default();
+    for near in Near::all(&plan, &case).map_err(|error| error.to_string())? {
+        for line in near.lines() {
+            let found = near.outcome(line.person).ok_or("no outcome")?;
+            if found.possible.iter().copied().collect::<BTreeSet<View>>()
+                != possible(&worlds, line.person)
+            {
+                return Err(format!("person {}: other things are possible", line.person));
+            }
+            outcome(&input, line, &found)?;
+            if matches!(line.kind, LineKind::Overlap | LineKind::Discretion)
+                && near.marks(line.person, line.kind).is_empty()
+            {
+                return Err(format!("person {}: nothing marks the person", line.person));
+            }
+            let paragraph = words::paragraph(&near, &names, line.person).ok_or("no paragraph")?;
+            paragraph.sentences.iter().try_for_each(|text| sentence(text, &answer))?;
+        }
+    }
+    Ok(())
+}
+
+fn main() {
+    let (count, seed) = wrapped::count_and_seed("told N SEED");
+    let (start, mut done) = (Instant::now(), 0);
+    for number in 0.. {
+        if done >= count {
+            break;
+        }
+        if let Err(what) = case(&mut Random::stream(seed, number), &mut done) {
+            let input = strangers::input(&mut Random::stream(seed, number));
+            let hex =
+                |bytes: &[u8]| bytes.iter().map(|byte| format!("{byte:02x}")).collect::<String>();
+            println!(
+                "{what}\nplan {}\ncase {}",
+                hex(&input.plan.encode()),
+                hex(&input.case.encode())
+            );
+            std::process::exit(1);
+        }
+    }
+    println!("{done} cases told as they are, in {:.1} s", start.elapsed().as_secs_f64());
+}
