@@ -2,6 +2,7 @@
 //! paragraph of each roster person of the circle is the same in both, byte for byte. With --spoiled a paragraph ends with a sentence on all worlds,
 //! and the pairs must tell it.
 
+use std::sync::atomic::{AtomicU64, Ordering};
 use std::time::Instant;
 
 use inputs::random::Random;
@@ -68,22 +69,44 @@ fn pair(random: &mut Random, spoiled: bool, tally: &mut Tally) -> Result<(), Str
     Err(format!("differ: plan {} cases {first} and {second}\n{before:#?}\n{after:#?}", hex(&plan)))
 }
 
+/// Pairs by streams of random numbers, one stream after another among the workers, until there are enough.
+fn work(
+    count: u64,
+    seed: u64,
+    spoiled: bool,
+    next: &AtomicU64,
+    done: &AtomicU64,
+) -> Result<Tally, String> {
+    let mut tally = Tally::default();
+    while done.load(Ordering::Relaxed) < count {
+        let before = tally.pairs;
+        let stream = next.fetch_add(1, Ordering::Relaxed);
+        pair(&mut Random::stream(seed, stream), spoiled, &mut tally)?;
+        done.fetch_add(tally.pairs - before, Ordering::Relaxed);
+    }
+    Ok(tally)
+}
+
 fn main() {
     let mut words: Vec<String> = std::env::args().skip(1).collect();
     let spoiled = words.iter().any(|word| word == "--spoiled");
     words.retain(|word| word != "--spoiled");
     let (count, seed) = wrapped::numbers(&words, USAGE);
-    let (start, mut tally) = (Instant::now(), Tally::default());
-    for number in 0.. {
-        if tally.pairs >= count {
-            break;
-        }
-        if let Err(what) = pair(&mut Random::stream(seed, number), spoiled, &mut tally) {
-            println!("{what}");
-            std::process::exit(1);
-        }
-    }
-    let Tally { pairs, paragraphs, telling } = tally;
+    let start = Instant::now();
+    let (next, done) = (AtomicU64::new(0), AtomicU64::new(0));
+    let workers = std::thread::available_parallelism().map_or(1, |number| number.get());
+    let tallies: Result<Vec<Tally>, String> = std::thread::scope(|scope| {
+        let one = || scope.spawn(|| work(count, seed, spoiled, &next, &done));
+        let all: Vec<_> = (0..workers).map(|_| one()).collect();
+        all.into_iter().map(|worker| worker.join().expect("a worker ends")).collect()
+    });
+    let tallies = tallies.unwrap_or_else(|what| {
+        println!("{what}");
+        std::process::exit(1)
+    });
+    let sum = |of: fn(&Tally) -> u64| tallies.iter().map(of).sum::<u64>();
+    let (pairs, paragraphs, telling) =
+        (sum(|t| t.pairs), sum(|t| t.paragraphs), sum(|t| t.telling));
     let seconds = start.elapsed().as_secs_f64();
     println!(
         "{pairs} pairs, {paragraphs} paragraphs alike, in {seconds:.1} s; {telling} pairs differ in something else"

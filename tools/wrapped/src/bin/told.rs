@@ -111,13 +111,9 @@ fn can_have(input: &Input, variable: Variable, value: bool) -> bool {
 }
 
 /// The number behind a word, such as the 3 of "edge 3".
-fn numbers<'a>(sentence: &'a str, word: &'a str) -> impl Iterator<Item = u8> + 'a {
-    sentence
-        .to_lowercase()
-        .leak()
-        .split(word)
-        .skip(1)
-        .filter_map(|rest| rest.split(|letter: char| !letter.is_ascii_digit()).next()?.parse().ok())
+fn number(sentence: &str, word: &str) -> Option<u8> {
+    let (_, rest) = sentence.split_once(word)?;
+    rest.split(|letter: char| !letter.is_ascii_digit()).next()?.parse().ok()
 }
 
 fn acts(event: &Event, word: &str, number: u8) -> bool {
@@ -138,14 +134,14 @@ fn sentence(text: &str, answer: &Answer) -> Result<(), String> {
     for word in ["edge ", "cut ", "attachment ", "bar ", "status "] {
         let happens = |number: u8| answer.events.iter().any(|event| acts(event, word, number));
         if let Some(rule) = denied.as_ref().filter(|rule| rule.starts_with(word))
-            && let Some(number) = numbers(rule, word).next()
+            && let Some(number) = number(rule, word)
             && happens(number)
         {
             return Err(format!("untrue: {text}"));
         }
     }
     if let Some((_, cut)) = first.split_once(" is set apart by ")
-        && let Some(number) = numbers(cut, "cut ").next()
+        && let Some(number) = number(cut, "cut ")
         && !answer.events.iter().any(|event| acts(event, "cut ", number))
     {
         return Err(format!("untrue: {text}"));
