@@ -1,6 +1,5 @@
 //! What exactly is wrong where an operation refuses: the value, the number or the pair of records that a refusal's number does not tell.
 
-use crate::handles::PlanId;
 use crate::persons::Persons;
 use crate::plan_reader;
 use crate::ranges;
@@ -185,7 +184,7 @@ fn elections(record: &Record) -> Option<String> {
 
 /// The first Combination edge that crosses the cut and that the cut does not decide.
 fn undecided(place: Place, plan: &[u8]) -> Option<String> {
-    let records = plan_reader::read(PlanId::next(), plan)?;
+    let (_, records) = plan_reader::read(plan)?;
     let before = 1 + records.facts.len() + records.nodes.len() + records.edges.len();
     let number = usize::try_from(place.record).ok()?.checked_sub(before)?;
     let cut = records.cuts.get(number)?;
@@ -198,7 +197,7 @@ fn undecided(place: Place, plan: &[u8]) -> Option<String> {
 }
 
 fn heading(record: &Record, plan: &[u8]) -> Option<String> {
-    let records = plan_reader::read(PlanId::next(), plan)?;
+    let (_, records) = plan_reader::read(plan)?;
     let relation = record.byte(0)?;
     if relation != records.relation {
         let other = records.relation;

@@ -138,6 +138,8 @@ pub struct Refusal {
     pub reason: Reason,
     /// Where, for the refusals that name a record: 1 to 10.
     pub place: Option<Place>,
+    /// The world that was to be shown, if one was.
+    pub(crate) world: Option<u64>,
 }
 
 impl Refusal {
@@ -152,7 +154,7 @@ impl Refusal {
             Some(case) => Place::find(File::Case, case, record),
             None => Place::find(File::Plan, plan, record),
         };
-        Some(Refusal { reason, place: reason.has_record().then(place) })
+        Some(Refusal { reason, place: reason.has_record().then(place), world: None })
     }
 
     /// Its number in document 01.
