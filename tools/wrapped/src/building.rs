@@ -3,8 +3,8 @@
 use inputs::random::Random;
 use lukhveri::{
     Actor, Attachment, AttachmentId, Bar, BarId, BooleanId, BuildError, Case, CaseBuilder,
-    Citation, Cut, CutId, Decision, Edge, EdgeId, Election, Family, Frame, NodeId, Paper, Persons,
-    Plan, PlanBuilder, Policy, RelationId, Status, StatusId,
+    Citation, Cut, CutId, Decision, Edge, EdgeId, Election, Family, Frame, Node, NodeId, Paper,
+    Persons, Plan, PlanBuilder, Policy, RelationId, RuleId, Status, StatusId,
 };
 
 /// What a random maker has got so far, and how often it was turned away.
@@ -238,6 +238,85 @@ impl<'a> Maker<'a> {
         }
         self.decide_all();
         self.plan.finish()
+    }
+
+    /// The plan opened again, with random rules, nodes, decisions and persons changed or taken out.
+    pub fn changed(&mut self, plan: &Plan) -> Result<Plan, BuildError> {
+        self.plan = PlanBuilder::reopen(plan);
+        for _ in 0..self.random.between(1, 12) {
+            self.change();
+        }
+        if self.random.percent(30) {
+            self.plan.remove_unused();
+        }
+        self.decide_all();
+        self.plan.finish()
+    }
+
+    fn change(&mut self) {
+        let done = match self.random.below(8) {
+            0 => self.remove_rule(),
+            1 => self.plan.remove_person(self.random.byte(64)).map(drop),
+            2 => self.replace_node(),
+            3 => self.replace_edge(),
+            4 => self.replace_cut(),
+            5 => self.redecide(),
+            6 => self.remove_node(),
+            _ => {
+                self.add();
+                Ok(())
+            }
+        };
+        self.given(done);
+    }
+
+    fn remove_rule(&mut self) -> Result<(), BuildError> {
+        let edges = self.edges.iter().map(|edge| RuleId::Edge(*edge));
+        let cuts = self.cuts.iter().map(|cut| RuleId::Cut(*cut));
+        let rules = self.attachments.iter().map(|rule| RuleId::Attachment(*rule));
+        let bars = self.bars.iter().map(|bar| RuleId::Bar(*bar));
+        let statuses = self.statuses.iter().map(|status| RuleId::Status(*status));
+        let all: Vec<RuleId> = edges.chain(cuts).chain(rules).chain(bars).chain(statuses).collect();
+        if all.is_empty() { Ok(()) } else { self.plan.remove_rule(self.random.pick(&all)) }
+    }
+
+    fn replace_node(&mut self) -> Result<(), BuildError> {
+        let (node, children) = (self.node(), self.some_nodes(3));
+        let changed =
+            if self.random.percent(50) { Node::And(children) } else { Node::Or(children) };
+        node.map_or(Ok(()), |node| self.plan.replace_node(node, changed))
+    }
+
+    fn remove_node(&mut self) -> Result<(), BuildError> {
+        self.node().map_or(Ok(()), |node| self.plan.remove_node(node))
+    }
+
+    fn replace_edge(&mut self) -> Result<(), BuildError> {
+        let (left, right, citation) = (self.person(), self.person(), self.citation());
+        let Some(node) = self.node().filter(|_| !self.edges.is_empty()) else {
+            return Ok(());
+        };
+        let edge = Edge::combination(left, right, node, citation);
+        self.plan.replace_edge(self.random.pick(&self.edges), edge)
+    }
+
+    fn replace_cut(&mut self) -> Result<(), BuildError> {
+        let (members, citation, election) = (self.members(), self.citation(), self.election());
+        let Some(node) = self.node().filter(|_| !self.cuts.is_empty()) else {
+            return Ok(());
+        };
+        let mut cut = Cut::new(members, node, citation);
+        cut.election = election;
+        self.plan.replace_cut(self.random.pick(&self.cuts), cut)
+    }
+
+    fn redecide(&mut self) -> Result<(), BuildError> {
+        if self.cuts.is_empty() || self.edges.is_empty() {
+            return Ok(());
+        }
+        let (cut, edge) = (self.random.pick(&self.cuts), self.random.pick(&self.edges));
+        let decision = self.decision();
+        self.plan.redecide(cut, edge, decision)
     }
 
     /// A case of the plan that the builder finished, if its relations had their families.
