@@ -67,6 +67,7 @@ mod case_change;
 mod case_records;
 mod diagnosis;
 mod event;
+pub mod files;
 #[allow(unsafe_code)]
 mod foreign;
 mod handles;
@@ -86,6 +87,8 @@ mod read;
 mod records;
 mod refusal;
 mod renumber;
+mod told;
+mod unnamed;
 mod write;
 
 pub use build_error::BuildError;

@@ -194,7 +194,9 @@ impl Refusal {
                 "a Combination edge crosses the cut, and the cut does not decide it"
             }
             Reason::ElectionsDiffer => "its election differs from an earlier one on the same fact",
-            Reason::SegmentIncomplete => "the segment is not complete",
+            Reason::SegmentIncomplete => {
+                "the segment, which is the period, is not complete: something changes within it"
+            }
             Reason::Heading => {
                 "the relation is not the plan's, or scope, segment or roster is empty, or a rule of the plan names someone off the roster"
             }
@@ -260,17 +262,32 @@ impl Refusal {
             Reason::ElectionsDiffer => {
                 "make fact, actor, policy and citation of both elections equal"
             }
-            Reason::SegmentIncomplete => {
-                "wait until the segment is complete, then say so in the heading"
-            }
+            Reason::SegmentIncomplete => "cut the period where it changes and run each part",
             Reason::Heading => "correct the heading, or use the plan that belongs to this roster",
             Reason::UnknownAndObserved => "keep the explicit unknown or the observations, not both",
             Reason::TooManyWorlds { .. } => {
                 "find out some of the open facts, settle decisions, or allow more worlds (4,096 at most)"
             }
-            Reason::LinesDoNotFit | Reason::EventsDoNotFit => "lend a longer buffer",
+            Reason::LinesDoNotFit => {
+                "lend 29 bytes for each person of the roster; 1,856 always suffice"
+            }
+            Reason::EventsDoNotFit => "lend more for the events; 1,048,608 bytes always suffice",
             Reason::NoSuchWorld => "ask for a world below the count that the answer gives",
             Reason::Other(_) => "use a program that fits the library",
+        }
+    }
+}
+
+impl Refusal {
+    /// The reason, with the numbers that it comes with.
+    pub(crate) fn reason_in_words(&self) -> String {
+        let words = self.words();
+        match self.reason {
+            Reason::TooManyWorlds { count: u64::MAX, most: u64::MAX } => {
+                format!("{words}: 2^64 or more")
+            }
+            Reason::TooManyWorlds { count, most } => format!("{words}: {count}, allowed {most}"),
+            _ => words.to_string(),
         }
     }
 }
@@ -281,14 +298,7 @@ impl fmt::Display for Refusal {
         if let Some(place) = self.place {
             write!(to, "{place}: ")?;
         }
-        write!(to, "{}", self.words())?;
-        match self.reason {
-            Reason::TooManyWorlds { count: u64::MAX, most: u64::MAX } => {
-                write!(to, ": 2^64 or more")
-            }
-            Reason::TooManyWorlds { count, most } => write!(to, ": {count}, allowed {most}"),
-            _ => Ok(()),
-        }
+        write!(to, "{}", self.reason_in_words())
     }
 }
 

@@ -1,5 +1,6 @@
 //! No input makes anything panic: random bytes, and good bytes that were damaged.
 
+use lukhveri::names::Names;
 use lukhveri::{
     Buffers, CaseBuilder, Citation, Cut, Decision, Edge, Event, Family, Frame, Line, Paper,
     Persons, Plan, PlanBuilder, Reason, Refusal, answer_into, check, show_into,
@@ -66,7 +67,7 @@ fn good() -> (Vec<u8>, Vec<u8>) {
 fn say(refusal: &Refusal, plan: &[u8], case: &[u8]) {
     assert!((1..=14).contains(&refusal.number()));
     let exact = [Reason::Malformed, Reason::NamesNothing, Reason::Undecided, Reason::Heading];
-    let finding = refusal.finding(plan, case);
+    let finding = refusal.finding(plan, case, &Names::default());
     assert!(finding.is_some() || !exact.contains(&refusal.reason), "{refusal} {plan:?} {case:?}");
     assert!(!format!("{refusal} {} {}", refusal.remedy(), refusal.record()).is_empty());
 }
