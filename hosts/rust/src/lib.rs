@@ -8,7 +8,9 @@
 //! given, so that a rule editor can say it at once; facts may come in any order. [`Plan::read`] reads a plan's bytes back.
 //!
 //! ```
-//! use lukhveri::{Cut, CaseBuilder, Decision, Edge, LineKind, Persons, PlanBuilder};
+//! use lukhveri::{
+//!     CaseBuilder, Citation, Cut, Decision, Edge, Family, Frame, LineKind, Paper, Persons, PlanBuilder,
+//! };
 //!
 //! # fn main() -> Result<(), Box<dyn std::error::Error>> {
 //! // Persons 0 and 1 belong together if they live together. Person 1 is counted alone if he asks for it.
@@ -17,16 +19,17 @@
 //! let asked = plan.boolean()?;
 //! let together = plan.holds(live_together)?;
 //! let apart = plan.holds(asked)?;
-//! let edge = plan.edge(Edge::combination(0, 1, together, 5))?;
-//! plan.cut(Cut::new(Persons::of(&[1])?, apart, 6).deciding(edge, Decision::Overrides))?;
+//! let edge = plan.edge(Edge::combination(0, 1, together, Citation(5)))?;
+//! plan.cut(Cut::new(Persons::of(&[1])?, apart, Citation(6)).deciding(edge, Decision::Overrides))?;
 //! let plan = plan.finish()?;
 //! lukhveri::check(plan.bytes())?;
 //!
 //! // They do live together. Nobody knows yet whether person 1 asked.
-//! let mut case = CaseBuilder::new(&plan, 1, 1, Persons::of(&[0, 1, 2])?)?;
-//! case.roster_complete(0)?;
-//! case.family(lukhveri::Family::new(4))?;
-//! case.relate(live_together, true, 3)?;
+//! let frame = Frame { scope: 1, segment: 1 };
+//! let mut case = CaseBuilder::new(&plan, frame, Persons::of(&[0, 1, 2])?)?;
+//! case.roster_complete(Paper(0))?;
+//! case.family(Family::new(4))?;
+//! case.relate(live_together, true, Paper(3))?;
 //! let answer = lukhveri::answer(plan.bytes(), case.finish()?.bytes())?;
 //! assert_eq!(answer.worlds, 2);
 //! let line = answer.line(0).ok_or("person 0 is on the roster")?;
@@ -34,7 +37,7 @@
 //! assert_eq!(line.open_facts().next(), plan.fact_number(asked));
 //!
 //! // He did not: one block of two, and person 2 alone.
-//! case.observe(asked, false, 7)?;
+//! case.observe(asked, false, Paper(7))?;
 //! let answer = lukhveri::answer(plan.bytes(), case.finish()?.bytes())?;
 //! assert_eq!(answer.units(), [Persons::of(&[0, 1])?, Persons::of(&[2])?]);
 //! let line = answer.line(0).ok_or("person 0 is on the roster")?;
@@ -62,9 +65,11 @@
 mod build_error;
 mod case;
 mod case_builder;
+mod case_change;
 mod case_records;
 mod diagnosis;
 mod event;
+pub mod files;
 #[allow(unsafe_code)]
 mod foreign;
 mod handles;
@@ -73,26 +78,36 @@ mod line;
 mod listing;
 pub mod names;
 pub mod near;
+mod numbers;
 mod operations;
 mod persons;
 mod plan;
 mod plan_builder;
+mod plan_change;
 mod plan_reader;
+mod plan_removal;
 mod ranges;
 mod read;
 mod records;
 mod refusal;
+mod renumber;
+mod told;
+mod unnamed;
 pub mod words;
 mod write;
 
 pub use build_error::BuildError;
 pub use case::Case;
-pub use case_builder::{CaseBuilder, Family};
+pub use case_builder::{CaseBuilder, Family, Frame};
+pub use case_change::ReopenError;
 pub use case_records::{BooleanRecord, CaseRecords, FamilyRecord, RelationRecord};
 pub use event::{EVENT, Event, Evidence};
-pub use handles::{BooleanId, CutId, EdgeId, FactId, NodeId, RelationId};
+pub use handles::{
+    AttachmentId, BarId, BooleanId, CutId, EdgeId, FactId, NodeId, RelationId, RuleId, StatusId,
+};
 pub use line::{LINE, Line, LineKind, Role};
 pub use listing::{Listing, TEXT_LENGTH, list};
+pub use numbers::{Actor, Citation, Paper};
 pub use operations::{
     Answer, Answered, Buffers, EVENTS_LENGTH, LINES_LENGTH, MOST_EVENTS_LENGTH, STACK, answer,
     answer_into, check, circle, show, show_into,
@@ -100,6 +115,7 @@ pub use operations::{
 pub use persons::{Numbers, Persons};
 pub use plan::Plan;
 pub use plan_builder::PlanBuilder;
+pub use plan_removal::Departure;
 pub use read::File;
 pub use records::{
     Attachment, Bar, Cut, Decision, Edge, Election, Fact, Node, Policy, Records, Status,

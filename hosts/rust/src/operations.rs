@@ -46,7 +46,8 @@ pub fn show_into<'a>(
     events: &'a mut [u8],
 ) -> Result<Answered<'a>, Refusal> {
     let told = foreign::show(plan, case, world, lines, events);
-    answered(&told, plan, case, lines, events)
+    let shown = answered(&told, plan, case, lines, events);
+    shown.map_err(|refusal| Refusal { world: Some(world), ..refusal })
 }
 
 fn answered<'a>(
@@ -160,7 +161,8 @@ impl Buffers {
     /// Shows the world of that number, counted from 0 among the admissible ones.
     pub fn show(&mut self, plan: &[u8], case: &[u8], world: u64) -> Result<Answered<'_>, Refusal> {
         let told = self.ask(|lines, events| foreign::show(plan, case, world, lines, events));
-        answered(&told, plan, case, &self.lines, &self.events)
+        let shown = answered(&told, plan, case, &self.lines, &self.events);
+        shown.map_err(|refusal| Refusal { world: Some(world), ..refusal })
     }
 
     /// Lends room for 4,096 events; if that is too short, for all that there can be.

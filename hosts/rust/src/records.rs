@@ -1,6 +1,7 @@
 //! What the records of a plan say, as values.
 
 use crate::handles::{BooleanId, CutId, EdgeId, FactId, NodeId};
+use crate::numbers::{Actor, Citation};
 use crate::persons::Persons;
 
 /// A fact: a boolean one, or a relation of a family between up to four persons.
@@ -22,13 +23,24 @@ pub enum Node {
     Not(NodeId),
 }
 
+impl Node {
+    /// The nodes that it is made of.
+    pub fn children(&self) -> &[NodeId] {
+        match self {
+            Node::Literal(_) | Node::Fact(_) => &[],
+            Node::And(children) | Node::Or(children) => children,
+            Node::Not(child) => std::slice::from_ref(child),
+        }
+    }
+}
+
 /// Two persons who belong together where the condition holds and no defeater does.
 #[derive(Clone, Debug, PartialEq, Eq)]
 pub struct Edge {
     pub left: u8,
     pub right: u8,
     pub condition: NodeId,
-    pub citation: u8,
+    pub citation: Citation,
     pub defeaters: Vec<NodeId>,
     /// A Combination edge; else a Base edge.
     pub combination: bool,
@@ -36,12 +48,12 @@ pub struct Edge {
 
 impl Edge {
     /// A Base edge without defeaters.
-    pub fn base(left: u8, right: u8, condition: NodeId, citation: u8) -> Edge {
+    pub fn base(left: u8, right: u8, condition: NodeId, citation: Citation) -> Edge {
         Edge { left, right, condition, citation, defeaters: Vec::new(), combination: false }
     }
 
     /// A Combination edge without defeaters.
-    pub fn combination(left: u8, right: u8, condition: NodeId, citation: u8) -> Edge {
+    pub fn combination(left: u8, right: u8, condition: NodeId, citation: Citation) -> Edge {
         Edge { combination: true, ..Edge::base(left, right, condition, citation) }
     }
 
@@ -70,9 +82,9 @@ pub enum Policy {
 pub struct Election {
     pub fact: BooleanId,
     /// 1 to 255.
-    pub actor: u8,
+    pub actor: Actor,
     pub policy: Policy,
-    pub citation: u8,
+    pub citation: Citation,
 }
 
 /// Whether a Combination edge that crosses a cut stops it.
@@ -91,7 +103,7 @@ pub enum Decision {
 pub struct Cut {
     pub members: Persons,
     pub condition: NodeId,
-    pub citation: u8,
+    pub citation: Citation,
     pub election: Option<Election>,
     pub decisions: Vec<(EdgeId, Decision)>,
     pub precedes: Vec<CutId>,
@@ -99,7 +111,7 @@ pub struct Cut {
 
 impl Cut {
     /// A cut without election, decisions and preceded cuts.
-    pub fn new(members: Persons, condition: NodeId, citation: u8) -> Cut {
+    pub fn new(members: Persons, condition: NodeId, citation: Citation) -> Cut {
         let (election, decisions, precedes) = (None, Vec::new(), Vec::new());
         Cut { members, condition, citation, election, decisions, precedes }
     }
@@ -128,9 +140,9 @@ pub struct Attachment {
     pub members: Persons,
     pub anchor: u8,
     pub condition: NodeId,
-    pub citation: u8,
+    pub citation: Citation,
     /// 1 to 255.
-    pub actor: u8,
+    pub actor: Actor,
     pub election: Option<Election>,
 }
 
@@ -139,8 +151,8 @@ impl Attachment {
         members: Persons,
         anchor: u8,
         condition: NodeId,
-        citation: u8,
-        actor: u8,
+        citation: Citation,
+        actor: Actor,
     ) -> Attachment {
         Attachment { members, anchor, condition, citation, actor, election: None }
     }
@@ -161,11 +173,11 @@ impl Attachment {
 pub struct Bar {
     pub members: Persons,
     pub condition: NodeId,
-    pub citation: u8,
+    pub citation: Citation,
 }
 
 impl Bar {
-    pub fn new(members: Persons, condition: NodeId, citation: u8) -> Bar {
+    pub fn new(members: Persons, condition: NodeId, citation: Citation) -> Bar {
         Bar { members, condition, citation }
     }
 }
@@ -175,11 +187,11 @@ impl Bar {
 pub struct Status {
     pub person: u8,
     pub condition: NodeId,
-    pub citation: u8,
+    pub citation: Citation,
 }
 
 impl Status {
-    pub fn new(person: u8, condition: NodeId, citation: u8) -> Status {
+    pub fn new(person: u8, condition: NodeId, citation: Citation) -> Status {
         Status { person, condition, citation }
     }
 
@@ -194,7 +206,7 @@ impl Status {
 pub struct Records {
     pub relation: u8,
     /// The base-chain citation.
-    pub chain: Option<u8>,
+    pub chain: Option<Citation>,
     pub facts: Vec<Fact>,
     pub nodes: Vec<Node>,
     pub edges: Vec<Edge>,
@@ -223,6 +235,17 @@ impl Records {
     pub(crate) fn elections(&self) -> impl Iterator<Item = &Election> {
         let cuts = self.cuts.iter().filter_map(|cut| cut.election.as_ref());
         cuts.chain(self.attachments.iter().filter_map(|rule| rule.election.as_ref()))
+    }
+
+    /// The nodes that rules use: conditions and defeaters.
+    pub(crate) fn rule_nodes(&self) -> impl Iterator<Item = NodeId> {
+        let edges = self.edges.iter().map(|edge| edge.condition);
+        let defeaters = self.edges.iter().flat_map(|edge| edge.defeaters.iter().copied());
+        let cuts = self.cuts.iter().map(|cut| cut.condition);
+        let rules = self.attachments.iter().map(|rule| rule.condition);
+        let bars = self.bars.iter().map(|bar| bar.condition);
+        let statuses = self.statuses.iter().map(|status| status.condition);
+        edges.chain(defeaters).chain(cuts).chain(rules).chain(bars).chain(statuses)
     }
 
     /// Everyone whom a rule names.

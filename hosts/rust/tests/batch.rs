@@ -5,7 +5,7 @@ mod folder;
 use std::process::{Command, Output};
 
 use folder::Folder;
-use lukhveri::{CaseBuilder, Edge, Persons, Plan, PlanBuilder};
+use lukhveri::{CaseBuilder, Citation, Edge, Frame, Paper, Persons, Plan, PlanBuilder};
 
 fn run(words: &[&str]) -> (String, String, Option<i32>) {
     let done = Command::new(env!("CARGO_BIN_EXE_batch")).args(words).output();
@@ -22,14 +22,14 @@ fn batch(folder: &Folder) -> (String, String, Option<i32>) {
 fn pair() -> Plan {
     let mut plan = PlanBuilder::new(7);
     let always = plan.literal(true).expect("a node");
-    plan.edge(Edge::base(0, 1, always, 5)).expect("an edge");
+    plan.edge(Edge::base(0, 1, always, Citation(5))).expect("an edge");
     plan.finish().expect("a plan")
 }
 
 fn complete(plan: &Plan, roster: &[u8]) -> Vec<u8> {
     let roster = Persons::of(roster).expect("persons");
-    let mut case = CaseBuilder::new(plan, 1, 2, roster).expect("a case");
-    case.roster_complete(9).expect("evidence");
+    let mut case = CaseBuilder::new(plan, Frame { scope: 1, segment: 2 }, roster).expect("a case");
+    case.roster_complete(Paper(9)).expect("evidence");
     case.finish().expect("a case").bytes().to_vec()
 }
 

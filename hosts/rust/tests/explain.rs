@@ -6,8 +6,8 @@ use std::process::{Command, Output};
 
 use folder::Folder;
 use lukhveri::{
-    Bar, CaseBuilder, Cut, Decision, Edge, Election, Family, Persons, Plan, PlanBuilder, Policy,
-    Status,
+    Actor, Bar, CaseBuilder, Citation, Cut, Decision, Edge, Election, Family, Frame, Paper,
+    Persons, Plan, PlanBuilder, Policy, Status,
 };
 
 fn explain(folder: &Folder) -> (String, String, Option<i32>) {
@@ -28,25 +28,30 @@ fn persons(numbers: &[u8]) -> Persons {
 /// 0 and 1 live together; whether 2 does is not told; 3 is cut out by default; 4 is excluded; 5 is barred; 6 hangs on an open decision.
 fn household() -> (Plan, Vec<u8>) {
     let mut plan = PlanBuilder::new(1);
-    plan.base_chain(9).expect("a citation");
+    plan.base_chain(Citation(9)).expect("a citation");
     let wish = plan.boolean().expect("a fact");
     let lives = plan.relation(4, &[1, 2]).expect("a fact");
     let always = plan.literal(true).expect("a node");
     let wished = plan.holds(wish).expect("a node");
     let live = plan.holds(lives).expect("a node");
-    plan.edge(Edge::base(0, 1, always, 1)).expect("an edge");
-    plan.edge(Edge::base(1, 2, live, 2)).expect("an edge");
-    let shared = plan.edge(Edge::combination(5, 6, always, 3)).expect("an edge");
-    let election = Election { fact: wish, actor: 8, policy: Policy::DefaultTrue, citation: 4 };
-    plan.cut(Cut::new(persons(&[3]), wished, 5).elected(election)).expect("a cut");
-    let open = Cut::new(persons(&[6]), always, 6).deciding(shared, Decision::Unresolved);
+    plan.edge(Edge::base(0, 1, always, Citation(1))).expect("an edge");
+    plan.edge(Edge::base(1, 2, live, Citation(2))).expect("an edge");
+    let shared = plan.edge(Edge::combination(5, 6, always, Citation(3))).expect("an edge");
+    let election = Election {
+        fact: wish,
+        actor: Actor(8),
+        policy: Policy::DefaultTrue,
+        citation: Citation(4),
+    };
+    plan.cut(Cut::new(persons(&[3]), wished, Citation(5)).elected(election)).expect("a cut");
+    let open = Cut::new(persons(&[6]), always, Citation(6)).deciding(shared, Decision::Unresolved);
     plan.cut(open).expect("a cut");
-    plan.bar(Bar::new(persons(&[5]), always, 7)).expect("a bar");
-    plan.status(Status::new(4, always, 8)).expect("a status");
+    plan.bar(Bar::new(persons(&[5]), always, Citation(7))).expect("a bar");
+    plan.status(Status::new(4, always, Citation(8))).expect("a status");
     let plan = plan.finish().expect("a plan");
     let roster = persons(&[0, 1, 2, 3, 4, 5, 6]);
-    let mut case = CaseBuilder::new(&plan, 1, 1, roster).expect("a case");
-    case.roster_complete(0).expect("evidence");
+    let mut case = CaseBuilder::new(&plan, Frame { scope: 1, segment: 1 }, roster).expect("a case");
+    case.roster_complete(Paper(0)).expect("evidence");
     case.family(Family::new(4)).expect("a family");
     let case = case.finish().expect("a case").bytes().to_vec();
     (plan, case)
@@ -80,10 +85,11 @@ fn every_sort_of_person() {
 fn why_somebody_is_alone() {
     let mut plan = PlanBuilder::new(1);
     let never = plan.literal(false).expect("a node");
-    plan.edge(Edge::base(0, 1, never, 1)).expect("an edge");
+    plan.edge(Edge::base(0, 1, never, Citation(1))).expect("an edge");
     let plan = plan.finish().expect("a plan");
-    let mut case = CaseBuilder::new(&plan, 1, 1, persons(&[0, 1, 2])).expect("a case");
-    case.roster_complete(0).expect("evidence");
+    let mut case = CaseBuilder::new(&plan, Frame { scope: 1, segment: 1 }, persons(&[0, 1, 2]))
+        .expect("a case");
+    case.roster_complete(Paper(0)).expect("evidence");
     let folder = Folder::new("alone");
     folder.write("plan.bin", plan.bytes());
     folder.write("case.bin", case.finish().expect("a case").bytes());
@@ -97,13 +103,15 @@ fn why_somebody_is_alone() {
 fn a_chain_and_an_overlap() {
     let mut plan = PlanBuilder::new(1);
     let always = plan.literal(true).expect("a node");
-    plan.edge(Edge::base(0, 1, always, 1)).expect("an edge");
-    plan.edge(Edge::base(1, 2, always, 1)).expect("an edge");
-    plan.cut(Cut::new(persons(&[4, 5]), always, 2)).expect("a cut");
-    plan.cut(Cut::new(persons(&[5, 6]), always, 3)).expect("a cut");
+    plan.edge(Edge::base(0, 1, always, Citation(1))).expect("an edge");
+    plan.edge(Edge::base(1, 2, always, Citation(1))).expect("an edge");
+    plan.cut(Cut::new(persons(&[4, 5]), always, Citation(2))).expect("a cut");
+    plan.cut(Cut::new(persons(&[5, 6]), always, Citation(3))).expect("a cut");
     let plan = plan.finish().expect("a plan");
-    let mut case = CaseBuilder::new(&plan, 1, 1, persons(&[0, 1, 2, 4, 5, 6])).expect("a case");
-    case.roster_complete(0).expect("evidence");
+    let mut case =
+        CaseBuilder::new(&plan, Frame { scope: 1, segment: 1 }, persons(&[0, 1, 2, 4, 5, 6]))
+            .expect("a case");
+    case.roster_complete(Paper(0)).expect("evidence");
     let folder = Folder::new("chain");
     folder.write("plan.bin", plan.bytes());
     folder.write("case.bin", case.finish().expect("a case").bytes());

@@ -1,8 +1,9 @@
 //! No input makes anything panic: random bytes, and good bytes that were damaged.
 
+use lukhveri::names::Names;
 use lukhveri::{
-    Buffers, CaseBuilder, Cut, Decision, Edge, Event, Family, Line, Persons, Plan, PlanBuilder,
-    Reason, Refusal, answer_into, check, show_into,
+    Buffers, CaseBuilder, Citation, Cut, Decision, Edge, Event, Family, Frame, Line, Paper,
+    Persons, Plan, PlanBuilder, Reason, Refusal, answer_into, check, show_into,
 };
 
 /// A small source of numbers.
@@ -48,15 +49,16 @@ fn good() -> (Vec<u8>, Vec<u8>) {
     let lives = plan.relation(4, &[0, 1]).expect("a fact");
     let wished = plan.holds(wish).expect("a node");
     let live = plan.holds(lives).expect("a node");
-    let edge = plan.edge(Edge::combination(0, 1, live, 5)).expect("an edge");
+    let edge = plan.edge(Edge::combination(0, 1, live, Citation(5))).expect("an edge");
     let alone = Persons::of(&[0]).expect("persons");
-    plan.cut(Cut::new(alone, wished, 6).deciding(edge, Decision::Unresolved)).expect("a cut");
+    plan.cut(Cut::new(alone, wished, Citation(6)).deciding(edge, Decision::Unresolved))
+        .expect("a cut");
     let plan = plan.finish().expect("a plan");
     let roster = Persons::of(&[0, 1, 2]).expect("persons");
-    let mut case = CaseBuilder::new(&plan, 1, 1, roster).expect("a case");
-    case.roster_complete(0).expect("evidence");
+    let mut case = CaseBuilder::new(&plan, Frame { scope: 1, segment: 1 }, roster).expect("a case");
+    case.roster_complete(Paper(0)).expect("evidence");
     case.family(Family::new(4)).expect("a family");
-    case.relate(lives, true, 3).expect("a relation");
+    case.relate(lives, true, Paper(3)).expect("a relation");
     case.constrain(live).expect("a constraint");
     (plan.bytes().to_vec(), case.finish().expect("a case").bytes().to_vec())
 }
@@ -65,7 +67,7 @@ fn good() -> (Vec<u8>, Vec<u8>) {
 fn say(refusal: &Refusal, plan: &[u8], case: &[u8]) {
     assert!((1..=14).contains(&refusal.number()));
     let exact = [Reason::Malformed, Reason::NamesNothing, Reason::Undecided, Reason::Heading];
-    let finding = refusal.finding(plan, case);
+    let finding = refusal.finding(plan, case, &Names::default());
     assert!(finding.is_some() || !exact.contains(&refusal.reason), "{refusal} {plan:?} {case:?}");
     assert!(!format!("{refusal} {} {}", refusal.remedy(), refusal.record()).is_empty());
 }

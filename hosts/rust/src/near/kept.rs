@@ -1,8 +1,7 @@
 //! Plan and case with all that is strangers' left out.
 
 use crate::case_records::{BooleanRecord, CaseRecords, FamilyRecord, RelationRecord};
-use crate::handles::PlanId;
-use crate::near::told::{Told, told};
+use crate::near::said::{Said, said};
 use crate::near::touch::{Touch, Touching};
 use crate::operations::circle;
 use crate::persons::Persons;
@@ -16,7 +15,7 @@ pub(crate) struct Kept {
     pub(crate) plan: Plan,
     pub(crate) case: CaseRecords,
     /// The bound facts that touch it, rising, each with what the case says of it.
-    pub(crate) facts: Vec<(Touching, Told)>,
+    pub(crate) facts: Vec<(Touching, Said)>,
     /// Its unresolved decisions, each by its place among all of the plan's.
     pub(crate) decisions: Vec<u8>,
 }
@@ -28,9 +27,9 @@ impl Kept {
         let circle = circle(plan.bytes(), &heading.bytes(), person)?;
         let touch = Touch::of(plan, heading.roster, &heading.constraints);
         let touching = touch.facts().into_iter().filter(|fact| fact.persons.meets(circle));
-        let with_told = |fact: Touching| (told(plan, case, fact.fact), fact);
-        let facts: Vec<(Touching, Told)> =
-            touching.map(with_told).map(|(told, fact)| (fact, told)).collect();
+        let with_said = |fact: Touching| (said(plan, case, fact.fact), fact);
+        let facts: Vec<(Touching, Said)> =
+            touching.map(with_said).map(|(said, fact)| (fact, said)).collect();
         let own: Vec<u8> = facts.iter().map(|(touching, _)| touching.fact).collect();
         let case = own_case(plan, heading, &facts);
         let decisions = own_decisions(plan, circle);
@@ -54,16 +53,15 @@ fn own_decisions(plan: &Plan, circle: Persons) -> Vec<u8> {
     let records = plan.records();
     let all = plan.decisions().into_iter().zip(0..);
     let own = all.filter(|((cut, edge), _)| {
-        let cut = records.cuts.get(usize::from(cut.number()));
-        cut.is_some_and(|cut| whom(records, cut.members, edge.number()).meets(circle))
+        let cut = records.cuts.get(usize::from(cut.number));
+        cut.is_some_and(|cut| whom(records, cut.members, edge.number).meets(circle))
     });
     own.map(|(_, place)| place).collect()
 }
 
 /// Facts that are not the circle's own are false, decisions of others are settled: nothing of the circle hangs on them.
 fn own_plan(plan: &Plan, circle: Persons, own: &[u8]) -> Option<Plan> {
-    let id = PlanId::next();
-    let mut records = plan_reader::read(id, plan.bytes())?;
+    let (handles, mut records) = plan_reader::read(plan.bytes())?;
     for node in &mut records.nodes {
         if let Node::Fact(fact) = node
             && !own.contains(&fact.number)
@@ -74,12 +72,12 @@ fn own_plan(plan: &Plan, circle: Persons, own: &[u8]) -> Option<Plan> {
     let before = records.clone();
     for cut in &mut records.cuts {
         for (edge, said) in &mut cut.decisions {
-            if !whom(&before, cut.members, edge.number()).meets(circle) {
+            if !whom(&before, cut.members, edge.number).meets(circle) {
                 *said = settled(*said);
             }
         }
     }
-    Some(Plan::of(id, records))
+    Some(Plan::of(handles, records))
 }
 
 fn settled(said: Decision) -> Decision {
@@ -87,33 +85,33 @@ fn settled(said: Decision) -> Decision {
 }
 
 /// The heading and what is said of these facts, in one order, so that nothing else of the case can show in it.
-fn own_case(plan: &Plan, heading: CaseRecords, facts: &[(Touching, Told)]) -> CaseRecords {
+fn own_case(plan: &Plan, heading: CaseRecords, facts: &[(Touching, Said)]) -> CaseRecords {
     let mut case = heading;
-    for (touching, told) in facts {
+    for (touching, said) in facts {
         match plan.fact(touching.fact).map(|(_, fact)| fact) {
             Some(Fact::Relation { family, .. }) => {
-                relation(&mut case, touching.fact, *family, told)
+                relation(&mut case, touching.fact, *family, said)
             }
-            _ => boolean(&mut case, touching.fact, told),
+            _ => boolean(&mut case, touching.fact, said),
         }
     }
     case
 }
 
-fn boolean(case: &mut CaseRecords, fact: u8, told: &Told) {
-    let (unknown, observations) = match told {
-        Told::Unknown { evidence } => (Some(*evidence), Vec::new()),
-        Told::Observed(pairs) => (None, pairs.iter().copied().collect()),
+fn boolean(case: &mut CaseRecords, fact: u8, said: &Said) {
+    let (unknown, observations) = match said {
+        Said::Unknown { evidence } => (Some(*evidence), Vec::new()),
+        Said::Observed(pairs) => (None, pairs.iter().copied().collect()),
         _ => return,
     };
     case.booleans.push(BooleanRecord { fact, unknown, observations });
 }
 
-fn relation(case: &mut CaseRecords, fact: u8, number: u8, told: &Told) {
-    let (scope, complete) = match told {
-        Told::NoFamily { .. } => return,
-        Told::OtherScope { .. } => (0, None),
-        Told::Silence { evidence, .. } => (case.scope, Some(*evidence)),
+fn relation(case: &mut CaseRecords, fact: u8, number: u8, said: &Said) {
+    let (scope, complete) = match said {
+        Said::NoFamily { .. } => return,
+        Said::OtherScope { .. } => (0, None),
+        Said::Silence { evidence, .. } => (case.scope, Some(*evidence)),
         _ => (case.scope, None),
     };
     let there = case.families.iter().position(|family| family.number == number);
@@ -121,7 +119,7 @@ fn relation(case: &mut CaseRecords, fact: u8, number: u8, told: &Told) {
         Some(family) => family.complete = family.complete.or(complete),
         None => case.families.push(FamilyRecord { number, scope, complete }),
     }
-    if let Told::Observed(pairs) = told {
+    if let Said::Observed(pairs) = said {
         let records =
             pairs.iter().map(|&(value, evidence)| RelationRecord { fact, value, evidence });
         case.relations.extend(records);

@@ -8,8 +8,8 @@ mod kept;
 mod open;
 mod outcome;
 mod rules;
+mod said;
 mod spread;
-mod told;
 mod touch;
 mod values;
 mod worlds;
@@ -17,8 +17,8 @@ mod worlds;
 pub use open::Variable;
 pub use outcome::{Outcome, Settling};
 pub use rules::Rule;
+pub use said::{Bound, Said};
 pub use spread::{Link, Mark, Seed};
-pub use told::{Bound, Told};
 pub use touch::{Touching, Why};
 pub use worlds::{Acts, View, World, Worlds};
 
@@ -29,7 +29,6 @@ use std::fmt;
 use std::sync::OnceLock;
 
 use crate::case_records::CaseRecords;
-use crate::handles::PlanId;
 use crate::line::{Line, LineKind};
 use crate::operations::{Answer, Buffers, answer};
 use crate::persons::Persons;
@@ -77,7 +76,7 @@ pub struct Near {
     plan: Plan,
     case: CaseRecords,
     /// The bound facts that touch the circle, rising, each with what the case says of it.
-    facts: Vec<(Touching, Told)>,
+    facts: Vec<(Touching, Said)>,
     open: Open,
     lines: Vec<Line>,
     worlds: Worlds,
@@ -164,8 +163,8 @@ impl Near {
     }
 
     /// What the case says of a fact; none for one that does not touch the circle.
-    pub fn told(&self, fact: u8) -> Option<&Told> {
-        self.facts.iter().find(|(touching, _)| touching.fact == fact).map(|(_, told)| told)
+    pub fn said(&self, fact: u8) -> Option<&Said> {
+        self.facts.iter().find(|(touching, _)| touching.fact == fact).map(|(_, said)| said)
     }
 
     /// What is open in the circle, in document 01's order of variables.
@@ -182,7 +181,7 @@ impl Near {
     pub fn decision(&self, place: u8) -> Option<(u8, u8)> {
         let at = self.open.decision_at(place)?;
         let (cut, edge) = *self.plan.decisions().get(at)?;
-        Some((cut.number(), edge.number()))
+        Some((cut.number, edge.number))
     }
 
     /// The lines of the circle under each answer that one of its variables can have.
@@ -199,7 +198,7 @@ impl Near {
     fn lines_if(&self, variable: Variable, value: bool) -> Option<Vec<Line>> {
         let mut records = self.plan.records().clone();
         self.open.settle(&self.plan, &mut records, variable, value);
-        let plan = Plan::of(PlanId::next(), records);
+        let plan = Plan::of(self.plan.handles().clone(), records);
         let mut buffers = Buffers::new();
         let found = buffers.answer(plan.bytes(), &self.case.bytes()).ok()?;
         let own = found.lines().filter(|line| self.circle.holds(line.person));

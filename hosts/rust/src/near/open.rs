@@ -3,7 +3,7 @@
 use crate::case_records::{BooleanRecord, CaseRecords};
 use crate::line::Line;
 use crate::near::kept::Kept;
-use crate::near::told::Bound;
+use crate::near::said::Bound;
 use crate::plan::Plan;
 use crate::records::{Decision, Fact, Node, Records};
 
@@ -43,7 +43,7 @@ impl Open {
         let is_boolean =
             |fact: u8| kept.plan.fact(fact).is_some_and(|(_, fact)| *fact == Fact::Boolean);
         let facts = |boolean: bool| {
-            let facts = kept.facts.iter().map(|(touching, told)| (touching.fact, told.bound()));
+            let facts = kept.facts.iter().map(|(touching, said)| (touching.fact, said.bound()));
             let sort = facts.filter(move |(fact, _)| is_boolean(*fact) == boolean);
             sort.filter_map(|(fact, bound)| Some((Variable::Fact(fact), candidates(bound)?)))
         };
@@ -118,7 +118,7 @@ impl Open {
             return;
         };
         let said = if value { Decision::Overrides } else { Decision::Blocked };
-        let cut = records.cuts.get_mut(usize::from(cut.number()));
+        let cut = records.cuts.get_mut(usize::from(cut.number));
         let entries = cut.map(|cut| cut.decisions.iter_mut()).into_iter().flatten();
         entries.filter(|(decided, _)| *decided == edge).for_each(|(_, old)| *old = said);
     }

@@ -31,7 +31,7 @@ pub struct Touching {
 pub(crate) fn node_uses(plan: &Plan) -> Vec<u64> {
     let mut uses: Vec<u64> = Vec::new();
     for node in &plan.records().nodes {
-        let of = |child: &NodeId| uses.get(usize::from(child.number())).copied().unwrap_or(0);
+        let of = |child: &NodeId| uses.get(usize::from(child.number)).copied().unwrap_or(0);
         let mask = match node {
             Node::Literal(_) => 0,
             Node::Fact(fact) => plan.fact_number(*fact).map_or(0, |number| 1 << number),
@@ -63,7 +63,7 @@ impl<'a> Touch<'a> {
     }
 
     fn asks(&self, rule: &RuleOf, fact: u8) -> bool {
-        rule.nodes().any(|node| self.node_uses(node.number(), fact))
+        rule.nodes().any(|node| self.node_uses(node.number, fact))
     }
 
     /// Every bound fact, rising.

@@ -8,7 +8,7 @@ use crate::records::Node;
 pub(crate) fn node_values(plan: &Plan, fact: impl Fn(u8) -> bool) -> Vec<bool> {
     let mut values: Vec<bool> = Vec::new();
     for node in &plan.records().nodes {
-        let of = |child: &NodeId| values.get(usize::from(child.number())).copied() == Some(true);
+        let of = |child: &NodeId| values.get(usize::from(child.number)).copied() == Some(true);
         let value = match node {
             Node::Literal(value) => *value,
             Node::Fact(id) => plan.fact_number(*id).is_some_and(&fact),

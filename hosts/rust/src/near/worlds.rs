@@ -6,7 +6,7 @@ use crate::event::Event;
 use crate::line::{Line, LineKind, Role};
 use crate::near::kept::Kept;
 use crate::near::open::{Open, Variable};
-use crate::near::told::Bound;
+use crate::near::said::Bound;
 use crate::near::values::node_values;
 use crate::operations::{Answer, Answered, Buffers};
 use crate::persons::Persons;
@@ -190,8 +190,8 @@ impl<'a> Looking<'a> {
         let variable = Variable::Fact(fact);
         let open = self.open.variables().iter().zip(values).find(|(own, _)| **own == variable);
         let known = || {
-            let told = self.kept.facts.iter().find(|(touching, _)| touching.fact == fact);
-            told.is_some_and(|(_, told)| told.bound() == Bound::Known(true))
+            let said = self.kept.facts.iter().find(|(touching, _)| touching.fact == fact);
+            said.is_some_and(|(_, said)| said.bound() == Bound::Known(true))
         };
         open.map_or_else(known, |(_, value)| *value)
     }

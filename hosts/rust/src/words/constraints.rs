@@ -19,7 +19,7 @@ impl Telling<'_> {
     }
 
     fn answer(&self, fact: u8) -> String {
-        match self.near.told(fact).map(|told| told.bound()) {
+        match self.near.said(fact).map(|told| told.bound()) {
             Some(Bound::Known(value)) => self.known(fact, value),
             _ => self.variable(crate::near::Variable::Fact(fact)),
         }

@@ -3,7 +3,7 @@
 use std::collections::BTreeSet;
 
 use crate::names::listed;
-use crate::near::{Told, Variable};
+use crate::near::{Said, Variable};
 use crate::words::Telling;
 
 impl Telling<'_> {
@@ -13,19 +13,19 @@ impl Telling<'_> {
     }
 
     /// Why a fact is open.
-    fn why_open(&self, told: &Told) -> String {
+    fn why_open(&self, told: &Said) -> String {
         match told {
-            Told::Unknown { evidence } => {
+            Said::Unknown { evidence } => {
                 format!("said to be unknown, by {}", self.names.of("evidence", *evidence))
             }
-            Told::Observed(pairs) => self.conflict(pairs),
-            Told::NoFamily { family } => {
+            Said::Observed(pairs) => self.conflict(pairs),
+            Said::NoFamily { family } => {
                 format!("nothing is told of {}", self.names.of("family", *family))
             }
-            Told::OtherScope { family } => {
+            Said::OtherScope { family } => {
                 format!("what is told of {} is of another scope", self.names.of("family", *family))
             }
-            Told::Nothing | Told::Default { .. } | Told::Silence { .. } => "not told".to_string(),
+            Said::Nothing | Said::Default { .. } | Said::Silence { .. } => "not told".to_string(),
         }
     }
 
@@ -47,7 +47,7 @@ impl Telling<'_> {
     pub(crate) fn variable(&self, variable: Variable) -> String {
         match variable {
             Variable::Fact(number) => {
-                let why = self.near.told(number).map(|told| self.why_open(told));
+                let why = self.near.said(number).map(|told| self.why_open(told));
                 format!("{} ({})", self.things.fact(number), why.unwrap_or_default())
             }
             Variable::Decision(_) => self.called(variable),
@@ -69,25 +69,25 @@ impl Telling<'_> {
     pub(crate) fn known(&self, number: u8, value: bool) -> String {
         let fact = self.things.fact(number);
         let word = if value { "yes" } else { "no" };
-        let because = self.near.told(number).and_then(|told| self.whence(told));
+        let because = self.near.said(number).and_then(|told| self.whence(told));
         match because {
             Some(because) => format!("{fact}: {word}, {because}"),
             None => format!("{fact}: {word}"),
         }
     }
 
-    fn whence(&self, told: &Told) -> Option<String> {
+    fn whence(&self, told: &Said) -> Option<String> {
         match told {
-            Told::Observed(pairs) => {
+            Said::Observed(pairs) => {
                 let papers = pairs.iter().map(|(_, evidence)| self.names.of("evidence", *evidence));
                 Some(format!("by {}", listed(papers)))
             }
-            Told::Default { actor, citation, .. } => {
+            Said::Default { actor, citation, .. } => {
                 let (actor, citation) =
                     (self.names.of("actor", *actor), self.names.of("citation", *citation));
                 Some(format!("by default, as {actor} has not said otherwise ({citation})"))
             }
-            Told::Silence { family, evidence } => {
+            Said::Silence { family, evidence } => {
                 let (family, paper) =
                     (self.names.of("family", *family), self.names.of("evidence", *evidence));
                 Some(format!("as the register of {family} is complete ({paper}) and silent on it"))

@@ -23,7 +23,7 @@ fn only(bound: Bound) -> Option<bool> {
 
 impl Telling<'_> {
     fn node(&self, id: NodeId) -> Option<&Node> {
-        self.near.plan().records().nodes.get(usize::from(id.number()))
+        self.near.plan().records().nodes.get(usize::from(id.number))
     }
 
     /// The facts of one value that make a node true, or false, whatever is open; none where they do not.
@@ -32,7 +32,7 @@ impl Telling<'_> {
             Node::Literal(value) => (*value == wanted).then(Causes::new),
             Node::Fact(fact) => {
                 let number = self.near.plan().fact_number(*fact)?;
-                let bound = self.near.told(number)?.bound();
+                let bound = self.near.said(number)?.bound();
                 (only(bound) == Some(wanted)).then(|| Causes::from([(number, wanted)]))
             }
             Node::Not(child) => self.causes(*child, !wanted),
@@ -69,7 +69,7 @@ impl Telling<'_> {
         };
         let worlds = self.near.worlds().iter();
         let in_world = worlds.map(|world| {
-            let is = |node: &NodeId| world.nodes.get(usize::from(node.number())) == Some(&true);
+            let is = |node: &NodeId| world.nodes.get(usize::from(node.number)) == Some(&true);
             is(&condition) && !defeaters.iter().any(is)
         });
         in_world.collect()

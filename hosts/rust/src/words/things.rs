@@ -2,6 +2,7 @@
 
 use crate::names::Names;
 use crate::near::Rule;
+use crate::numbers::Citation;
 use crate::plan::Plan;
 use crate::records::Fact;
 
@@ -44,8 +45,8 @@ impl Things<'_> {
         }
     }
 
-    fn citation(&self, number: u8) -> String {
-        self.names.of("citation", number)
+    fn citation(&self, citation: Citation) -> String {
+        self.names.of("citation", citation.0)
     }
 
     fn named(&self, kind: &'static str, number: u8) -> Option<String> {

@@ -96,9 +96,9 @@ fn folder(words: &[OsString]) -> Result<Option<&Path>, Trouble> {
     }
 }
 
-fn refused(refusal: &Refusal, plan: &[u8], case: &[u8]) -> Vec<String> {
+fn refused(refusal: &Refusal, plan: &[u8], case: &[u8], names: &Names) -> Vec<String> {
     let mut said = vec![format!("There is no answer: {refusal}.")];
-    said.extend(refusal.finding(plan, case).map(|what| format!("What is wrong: {what}.")));
+    said.extend(refusal.finding(plan, case, names).map(|what| format!("What is wrong: {what}.")));
     said.push(format!("What would mend it: {}.", refusal.remedy()));
     said
 }
@@ -109,7 +109,7 @@ fn explain(folder: &Path) -> Result<(Vec<String>, bool), Trouble> {
     let names = read_names(folder)?;
     let asked = Plan::read(&plan).and_then(|read| Ok((read, lukhveri::answer(&plan, &case)?)));
     match asked {
-        Err(refusal) => Ok((refused(&refusal, &plan, &case), false)),
+        Err(refusal) => Ok((refused(&refusal, &plan, &case, &names), false)),
         Ok((read, answer)) => {
             let records = CaseRecords::read(&case).unwrap_or_default();
             let setting = Setting { plan: &read, case: &records, names: &names };

@@ -68,7 +68,10 @@ impl Setting<'_> {
         match self.plan.decisions().get(usize::from(number)) {
             None => format!("decision {number}"),
             Some((cut, edge)) => {
-                let (cut, edge) = (self.cut(cut.number()), self.edge(edge.number()));
+                let (cut, edge) = (
+                    self.cut(self.plan.cut_number(*cut).unwrap_or(0)),
+                    self.edge(self.plan.edge_number(*edge).unwrap_or(0)),
+                );
                 format!("decision {number}, whether {cut} overrides {edge}")
             }
         }
@@ -82,7 +85,7 @@ impl Setting<'_> {
             None => format!("edge {number}"),
             Some(edge) => {
                 let (left, right) = (self.names.person(edge.left), self.names.person(edge.right));
-                let cited = self.names.of("citation", edge.citation);
+                let cited = self.names.of("citation", edge.citation.0);
                 format!("edge {number} between {left} and {right} ({cited})")
             }
         }
@@ -96,7 +99,7 @@ impl Setting<'_> {
             None => format!("cut {number}"),
             Some(cut) => {
                 let (members, cited) =
-                    (self.names.persons(cut.members), self.names.of("citation", cut.citation));
+                    (self.names.persons(cut.members), self.names.of("citation", cut.citation.0));
                 format!("cut {number} of {members} ({cited})")
             }
         }

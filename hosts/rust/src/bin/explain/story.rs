@@ -95,7 +95,7 @@ impl Story<'_> {
         let bars = &self.setting.plan.records().bars;
         let rules = happened.filter_map(|number| {
             let bar = bars.get(usize::from(number)).filter(|bar| bar.members.holds(person))?;
-            Some(format!("by bar {number} ({})", self.setting.names.of("citation", bar.citation)))
+            Some(format!("by bar {number} ({})", self.setting.names.of("citation", bar.citation.0)))
         });
         listed(rules)
     }
@@ -108,7 +108,7 @@ impl Story<'_> {
         });
         let statuses = &self.setting.plan.records().statuses;
         let rules = happened.filter_map(|number| {
-            let citation = statuses.get(usize::from(number))?.citation;
+            let citation = statuses.get(usize::from(number))?.citation.0;
             Some(format!("by status {number} ({})", self.setting.names.of("citation", citation)))
         });
         listed(rules)

@@ -8,7 +8,7 @@ use crate::records::{Election, Fact, Policy};
 
 /// What is said of a fact that a rule or a constraint uses.
 #[derive(Clone, Debug, PartialEq, Eq)]
-pub enum Told {
+pub enum Said {
     /// Said outright to be unknown, by this evidence.
     Unknown { evidence: u8 },
     /// Values with their evidence, each pair once.
@@ -36,12 +36,12 @@ pub enum Bound {
     },
 }
 
-impl Told {
+impl Said {
     pub fn bound(&self) -> Bound {
         match self {
-            Told::Observed(pairs) => observed(pairs),
-            Told::Default { value, .. } => Bound::Known(*value),
-            Told::Silence { .. } => Bound::Known(false),
+            Said::Observed(pairs) => observed(pairs),
+            Said::Default { value, .. } => Bound::Known(*value),
+            Said::Silence { .. } => Bound::Known(false),
             _ => Bound::Open { no: true, yes: true },
         }
     }
@@ -57,28 +57,28 @@ fn observed(pairs: &BTreeSet<(bool, u8)>) -> Bound {
 }
 
 /// What the case says of the fact of this number.
-pub(crate) fn told(plan: &Plan, case: &CaseRecords, fact: u8) -> Told {
+pub(crate) fn said(plan: &Plan, case: &CaseRecords, fact: u8) -> Said {
     match plan.fact(fact) {
         Some((_, Fact::Relation { family, .. })) => relation(case, fact, *family),
         _ => boolean(plan, case, fact),
     }
 }
 
-fn boolean(plan: &Plan, case: &CaseRecords, fact: u8) -> Told {
+fn boolean(plan: &Plan, case: &CaseRecords, fact: u8) -> Said {
     let record = case.booleans.iter().find(|record| record.fact == fact);
     let unknown = record.and_then(|record| record.unknown);
     let pairs: BTreeSet<(bool, u8)> =
         record.map(|record| record.observations.iter().copied().collect()).unwrap_or_default();
     if let Some(evidence) = unknown {
-        return Told::Unknown { evidence };
+        return Said::Unknown { evidence };
     }
     if !pairs.is_empty() {
-        return Told::Observed(pairs);
+        return Said::Observed(pairs);
     }
     match election(plan, fact).map(|election| (election, election.policy)) {
         Some((election, Policy::DefaultFalse)) => default(election, false),
         Some((election, Policy::DefaultTrue)) => default(election, true),
-        _ => Told::Nothing,
+        _ => Said::Nothing,
     }
 }
 
@@ -87,26 +87,26 @@ fn election(plan: &Plan, fact: u8) -> Option<&Election> {
     plan.records().elections().find(|election| plan.fact_number(election.fact) == Some(fact))
 }
 
-fn default(election: &Election, value: bool) -> Told {
-    Told::Default { value, actor: election.actor, citation: election.citation }
+fn default(election: &Election, value: bool) -> Said {
+    Said::Default { value, actor: election.actor.0, citation: election.citation.0 }
 }
 
-fn relation(case: &CaseRecords, fact: u8, family: u8) -> Told {
+fn relation(case: &CaseRecords, fact: u8, family: u8) -> Said {
     let record = case.families.iter().find(|record| record.number == family);
     match record {
-        None => Told::NoFamily { family },
-        Some(record) if record.scope != case.scope => Told::OtherScope { family },
+        None => Said::NoFamily { family },
+        Some(record) if record.scope != case.scope => Said::OtherScope { family },
         Some(record) => in_scope(case, fact, record),
     }
 }
 
-fn in_scope(case: &CaseRecords, fact: u8, family: &FamilyRecord) -> Told {
+fn in_scope(case: &CaseRecords, fact: u8, family: &FamilyRecord) -> Said {
     let records = case.relations.iter().filter(|record| record.fact == fact);
     let pairs: BTreeSet<(bool, u8)> =
         records.map(|record| (record.value, record.evidence)).collect();
     match (pairs.is_empty(), family.complete) {
-        (false, _) => Told::Observed(pairs),
-        (true, Some(evidence)) => Told::Silence { family: family.number, evidence },
-        (true, None) => Told::Nothing,
+        (false, _) => Said::Observed(pairs),
+        (true, Some(evidence)) => Said::Silence { family: family.number, evidence },
+        (true, None) => Said::Nothing,
     }
 }
