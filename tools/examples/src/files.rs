@@ -52,8 +52,10 @@ fn names(words: &Words) -> String {
 fn readme(example: &Example, printed: &str) -> String {
     let Example { folder, title, story, outcome, words, .. } = example;
     let mut text = format!("# {title}\n\n{story}\n\n{outcome}\n\n```\n{printed}```\n\n");
-    let _ =
-        write!(text, "In sentences: `explain examples/{folder}` (docs/GUIDE.md, section 12).\n\n");
+    let _ = write!(
+        text,
+        "In sentences: `lukhveri explain examples/{folder}` (docs/GUIDE.md, section 12).\n\n"
+    );
     text.push_str("The rule book:\n\n");
     for (number, name, sentence) in words.citations {
         let _ = writeln!(text, "- citation {number}, {name}: {sentence}");
