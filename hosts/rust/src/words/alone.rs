@@ -27,10 +27,20 @@ impl Telling<'_> {
             })
             .collect();
         if why.is_empty() {
-            let name = self.names.person(line.person);
-            why.push(format!("No edge and no attachment of the plan joins {name} with anyone."));
+            why.push(self.unnamed(line.person));
         }
         why
+    }
+
+    /// Of somebody whom no edge and no attachment names: a plan that does not know of a person is not refused.
+    fn unnamed(&self, person: u8) -> String {
+        let name = self.names.person(person);
+        match self.naming(person, |_| true).is_empty() {
+            true => format!(
+                "No rule of the plan names {name}; look whether the plan knows of everybody on the roster."
+            ),
+            false => format!("No edge and no attachment of the plan joins {name} with anyone."),
+        }
     }
 
     fn edge_apart(&self, edge: Rule, other: Persons) -> String {
