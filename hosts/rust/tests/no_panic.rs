@@ -3,7 +3,7 @@
 use lukhveri::names::Names;
 use lukhveri::{
     Buffers, CaseBuilder, Citation, Cut, Decision, Edge, Event, Family, Frame, Line, Paper,
-    Persons, Plan, PlanBuilder, Reason, Refusal, answer_into, check, show_into,
+    Persons, Plan, PlanBuilder, Reason, Refusal, answer_into, check, circle, list, show_into,
 };
 
 /// A small source of numbers.
@@ -81,10 +81,11 @@ fn all_calls(plan: &[u8], case: &[u8], random: &mut Random, buffers: &mut Buffer
         assert!((0..=255).filter_map(|number| read.fact(number)).count() <= 64);
     }
     checked.err().iter().for_each(|refusal| say(refusal, plan, case));
-    buffers
-        .answer(plan, case)
-        .map(|answered| drop(answered.to_answer()))
-        .unwrap_or_else(|no| say(&no, plan, case));
+    let answered = buffers.answer(plan, case).map(|answered| drop(answered.to_answer()));
+    assert_eq!(list(plan, case).refused, answered.is_err());
+    answered.unwrap_or_else(|no| say(&no, plan, case));
+    let person = random.byte();
+    assert!(circle(plan, case, person).is_none_or(|circle| circle.holds(person)));
     let (mut lines, mut events) = (random.bytes(200), random.bytes(200));
     if let Err(refusal) = answer_into(plan, case, &mut lines, &mut events) {
         say(&refusal, plan, case);
