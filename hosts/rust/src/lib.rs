@@ -65,6 +65,7 @@ mod case;
 mod case_builder;
 mod case_change;
 mod case_records;
+mod conditions;
 mod diagnosis;
 mod event;
 pub mod files;
@@ -89,6 +90,8 @@ mod refusal;
 mod renumber;
 mod told;
 mod unnamed;
+mod warning;
+mod warnings;
 mod write;
 
 pub use build_error::BuildError;
@@ -115,3 +118,4 @@ pub use records::{
     Attachment, Bar, Cut, Decision, Edge, Election, Fact, Node, Policy, Records, Status,
 };
 pub use refusal::{Place, Reason, Refusal};
+pub use warning::{Rule, Warning};
