@@ -5,7 +5,9 @@
 //! whatever these are, and give typed lines and events or a [`Refusal`] that says in words what is wrong and where. Nothing panics.
 //!
 //! [`PlanBuilder`] and [`CaseBuilder`] make the bytes from named things. They turn away what the operations would refuse, when it is
-//! given, so that a rule editor can say it at once; facts may come in any order. [`Plan::read`] reads a plan's bytes back.
+//! given, so that a rule editor can say it at once; facts may come in any order. [`Plan::read`] reads a plan's bytes back, and
+//! [`PlanBuilder::reopen`] and [`CaseBuilder::reopen`] open a plan and a case again, to change what they say. [`Plan::warnings`] tells what
+//! is accepted and seldom meant.
 //!
 //! ```
 //! use lukhveri::{
@@ -44,12 +46,31 @@
 //! assert_eq!(line.others(), Persons::of(&[1])?);
 //! assert_eq!(line.citations().collect::<Vec<_>>(), [5]);
 //!
+//! // The scheme changes: persons 0 and 2 belong together, too. The handles serve on, and the case follows its plan.
+//! let mut changed = PlanBuilder::reopen(&plan);
+//! let always = changed.literal(true)?;
+//! changed.edge(Edge::base(0, 2, always, Citation(7)))?;
+//! let changed = changed.finish()?;
+//! assert!(changed.warnings().is_empty());
+//! let mut case = case.over(&changed, Persons::of(&[0, 1, 2])?)?;
+//! let answer = lukhveri::answer(changed.bytes(), case.finish()?.bytes())?;
+//! assert_eq!(answer.units(), [Persons::of(&[0, 1, 2])?]);
+//!
+//! // He asks after all: what was said of it is forgotten, and said anew.
+//! case.forget(asked)?;
+//! case.observe(asked, true, Paper(8))?;
+//! let answer = lukhveri::answer(changed.bytes(), case.finish()?.bytes())?;
+//! assert_eq!(answer.units(), [Persons::of(&[0, 2])?, Persons::of(&[1])?]);
+//!
 //! // What is refused says where.
 //! let refusal = lukhveri::check(&plan.bytes()[..4]).expect_err("a plan that is cut short");
 //! assert_eq!((refusal.number(), refusal.record()), (1, 1));
 //! # Ok(())
 //! # }
 //! ```
+//!
+//! A refusal says in words what is wrong ([`Refusal::in_words`], [`Refusal::finding`]) and what would mend it ([`Refusal::remedy`]), with the
+//! names that [`names`] reads from a file of names; [`files`] reads plans and cases no further than they can be long.
 //!
 //! [`answer_into`] and [`show_into`] work in buffers that the caller lends and allocate nothing; [`Buffers`] keeps such buffers for many calls.
 //! Calls from several threads are independent. A call takes less than 256 KB of its thread's stack ([`STACK`]).
