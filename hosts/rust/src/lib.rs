@@ -136,7 +136,7 @@ pub use plan_builder::PlanBuilder;
 pub use plan_removal::Departure;
 pub use read::File;
 pub use records::{
-    Attachment, Bar, Cut, Decision, Edge, Election, Fact, Node, Policy, Records, Status,
+    Attachment, Bar, Cut, Decision, Edge, Election, Fact, Node, Policy, Precedence, Records, Status,
 };
 pub use refusal::{Place, Reason, Refusal};
 pub use warning::{Rule, Warning};

@@ -160,6 +160,26 @@ impl Warning {
             Warning::EmptyAttachment { attachment } => {
                 empty(say("attachment", *attachment), "moves nobody")
             }
+            Warning::UnusedFact { .. }
+            | Warning::UnusedNode { .. }
+            | Warning::NeverHolds { .. }
+            | Warning::ElectionUnused { .. } => self.of_conditions(names),
+            Warning::AnchorAmongMembers { .. }
+            | Warning::SharedMembers { .. }
+            | Warning::AnchorMoved { .. }
+            | Warning::OtherActor { .. } => self.of_attachments(names),
+            Warning::BaseEdgeDecided { .. }
+            | Warning::PrecedesItself { .. }
+            | Warning::PrecedenceCircle { .. }
+            | Warning::PrecedenceTwice { .. }
+            | Warning::DecisionsDisagree { .. } => self.of_cuts(names),
+        }
+    }
+
+    fn of_conditions(&self, names: &Names) -> String {
+        let say = |kind, number| names.numbered(kind, number);
+        let the_rule = |rule: &Rule| say(rule.kind(), rule.number());
+        match self {
             Warning::UnusedFact { fact, asked: true } => format!(
                 "no rule uses {}, only a constraint of a case can: take it out if none does",
                 say("fact", *fact)
@@ -173,26 +193,26 @@ impl Warning {
             ),
             Warning::NeverHolds { rule, defeaters: true } => format!(
                 "{} never takes effect, whatever the facts are, since a defeater is true wherever its condition is: correct them, or take the edge out unless it is switched off on purpose",
-                say(rule.kind(), rule.number())
+                the_rule(rule)
             ),
             Warning::NeverHolds { rule, defeaters: false } => format!(
                 "{} never takes effect, since its condition is false whatever the facts are: correct the condition, or take the {} out unless it is switched off on purpose",
-                say(rule.kind(), rule.number()),
+                the_rule(rule),
                 rule.kind()
             ),
             Warning::ElectionUnused { rule, fact } => format!(
                 "the election of {} is on {}, which its condition does not use, so that electing does not make it hold: use the fact in the condition, or elect by one that it uses",
-                say(rule.kind(), rule.number()),
+                the_rule(rule),
                 say("fact", *fact)
             ),
-            _ => self.of_attachments(names).unwrap_or_else(|| self.of_cuts(names)),
+            _ => String::new(),
         }
     }
 
-    fn of_attachments(&self, names: &Names) -> Option<String> {
+    fn of_attachments(&self, names: &Names) -> String {
         let say = |kind, number| names.numbered(kind, number);
         let person = |number| say("person", number);
-        Some(match self {
+        match self {
             Warning::AnchorAmongMembers { attachment, anchor } => format!(
                 "{} has its anchor {} among its members: the anchor is where it goes, and counts as attached, which spares it a bar; take it out of the members unless that is meant",
                 say("attachment", *attachment),
@@ -223,8 +243,8 @@ impl Warning {
                 say("actor", *actor),
                 say("actor", *elector)
             ),
-            _ => return None,
-        })
+            _ => String::new(),
+        }
     }
 
     fn of_cuts(&self, names: &Names) -> String {

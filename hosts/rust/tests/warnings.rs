@@ -1,7 +1,7 @@
 //! What is accepted and seldom meant.
 
 use lukhveri::names::Names;
-use lukhveri::{Citation, Decision};
+use lukhveri::{Citation, Decision, Precedence};
 use lukhveri::{Cut, CutId, Edge, Node, Persons, Plan, PlanBuilder, Rule, Status, Warning};
 
 fn bytes(hex: &str) -> Vec<u8> {
@@ -263,7 +263,7 @@ fn longer_circles_and_repeats() {
         .map(|person| plan.cut(Cut::new(persons(&[person]), always, Citation(0))).expect("a cut"))
         .collect();
     for (from, to) in [(1, 2), (2, 3), (3, 1), (3, 4), (0, 1)] {
-        plan.precede(cuts[from], cuts[to]).expect("a precedence");
+        plan.precede(Precedence { cut: cuts[from], precedes: cuts[to] }).expect("a precedence");
     }
     let found = plan.finish().expect("a plan").warnings();
     assert_eq!(found, [Warning::PrecedenceCircle { cuts: vec![1, 2, 3] }]);
@@ -282,7 +282,7 @@ fn cuts_in_order_may_disagree() {
     let first = plan.cut(cut(Decision::Blocked)).expect("a cut");
     let second = plan.cut(cut(Decision::Overrides)).expect("a cut");
     assert_eq!(plan.finish().expect("a plan").warnings().len(), 1);
-    plan.precede(second, first).expect("a precedence");
+    plan.precede(Precedence { cut: second, precedes: first }).expect("a precedence");
     assert_eq!(plan.finish().expect("a plan").warnings(), []);
 }
 
