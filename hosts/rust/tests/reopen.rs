@@ -218,9 +218,9 @@ fn decisions_are_taken_anew() {
     assert_eq!(plan.undecided().collect::<Vec<_>>(), [(cut, edge)]);
     let nothing = BuildError::NotThere { what: "decision" };
     assert_eq!(plan.redecide(cut, edge, Decision::Blocked), Err(nothing));
-    plan.precede(Precedence { cut: cut, precedes: cut }).expect("a precedence");
-    plan.unprecede(Precedence { cut: cut, precedes: cut }).expect("a precedence");
-    assert!(plan.unprecede(Precedence { cut: cut, precedes: cut }).is_err());
+    plan.precede(Precedence { cut, precedes: cut }).expect("a precedence");
+    plan.unprecede(Precedence { cut, precedes: cut }).expect("a precedence");
+    assert!(plan.unprecede(Precedence { cut, precedes: cut }).is_err());
 }
 
 #[test]

@@ -203,7 +203,7 @@ impl<'a> Maker<'a> {
             _ if self.cuts.is_empty() => {}
             _ => {
                 let (cut, other) = (self.random.pick(&self.cuts), self.random.pick(&self.cuts));
-                let said = self.plan.precede(Precedence { cut: cut, precedes: other });
+                let said = self.plan.precede(Precedence { cut, precedes: other });
                 self.given(said);
             }
         }
