@@ -1,6 +1,6 @@
 //! What conditions can come to: the facts that they use, and whether they can hold at all.
 
-use std::cell::RefCell;
+use std::cell::{Cell, RefCell};
 use std::collections::BTreeMap;
 
 use crate::plan::Plan;
@@ -9,6 +9,9 @@ use crate::warnings::bit;
 
 /// Nodes that are valued at most before a question is given up.
 const WORK: usize = 1 << 18;
+
+/// Nodes that are valued at most for all questions about a plan.
+const ALL_WORK: usize = 1 << 22;
 
 /// A node, by numbers of the file.
 enum Shape {
@@ -31,6 +34,7 @@ pub(crate) struct Conditions {
     /// For each node the facts that it uses, itself or through its children.
     facts: Vec<u64>,
     found: RefCell<Found>,
+    work_left: Cell<usize>,
 }
 
 impl Conditions {
@@ -45,7 +49,7 @@ impl Conditions {
         };
         let shapes: Vec<Shape> = plan.records().nodes.iter().map(shape).collect();
         let facts = uses(&shapes);
-        Conditions { shapes, facts, found: RefCell::default() }
+        Conditions { shapes, facts, found: RefCell::default(), work_left: Cell::new(ALL_WORK) }
     }
 
     /// The facts that some nodes use.
@@ -65,8 +69,10 @@ impl Conditions {
         if let Some(known) = self.found.borrow().get(&asked) {
             return *known;
         }
-        let mut search = Search { nodes: self, condition, defeaters, work: WORK };
+        let work = self.work_left.get().min(WORK);
+        let mut search = Search { nodes: self, condition, defeaters, work };
         let found = search.split(Facts::default());
+        self.work_left.set(self.work_left.get() - (work - search.work));
         self.found.borrow_mut().insert(asked, found);
         found
     }

@@ -37,7 +37,7 @@ fn the_examples_stay_as_they_are() {
     }
 }
 
-/// An edge, a node list and decisions with a count of 0 are written without the list, and mean the same.
+/// Lists of defeaters, decisions, preceded cuts and observations with a count of 0 are left out, which means the same.
 #[test]
 fn empty_lists_are_left_out() {
     let plan =

@@ -238,8 +238,9 @@ fn pigeons(holes: usize) -> Vec<Warning> {
         all.push(plan.not(clash).expect("a node"));
     }
     let condition = plan.and(&all).expect("a node");
-    for _ in 0..64 {
-        plan.edge(Edge::base(0, 1, condition, Citation(0))).expect("an edge");
+    // Defeaters that differ, so that each edge is a question of its own.
+    for defeater in sits.iter().cycle().take(64) {
+        plan.edge(Edge::base(0, 1, condition, Citation(0)).unless(*defeater)).expect("an edge");
     }
     plan.finish().expect("a plan").warnings()
 }
