@@ -214,7 +214,7 @@ impl Warning {
         let person = |number| say("person", number);
         match self {
             Warning::AnchorAmongMembers { attachment, anchor } => format!(
-                "{} has its anchor {} among its members: the anchor is where it goes, and counts as attached, which spares it a bar; take it out of the members unless that is meant",
+                "{} has its anchor {} among its members: the anchor is there already, and counts as attached, which can spare it a bar; take it out of the members unless that is meant",
                 say("attachment", *attachment),
                 person(*anchor)
             ),
