@@ -81,6 +81,15 @@ impl fmt::Display for BuildError {
                 write!(to, "this {what} is used: change or remove first what uses it")
             }
             BuildError::NotThere { what } => write!(to, "there is no such {what} to take back"),
+            of_a_case => of_a_case.tell_case(to),
+        }
+    }
+}
+
+impl BuildError {
+    /// What builders of cases turn away.
+    fn tell_case(&self, to: &mut fmt::Formatter) -> fmt::Result {
+        match self {
             BuildError::OtherRelation { case, plan } => {
                 write!(to, "the relation of the case is {case}, that of the plan is {plan}")
             }
@@ -103,6 +112,7 @@ impl fmt::Display for BuildError {
             BuildError::UnknownAndObserved { fact } => {
                 write!(to, "boolean fact {} cannot be unknown and observed", fact.number)
             }
+            _ => Ok(()),
         }
     }
 }

@@ -229,9 +229,17 @@ impl Asked<'_> {
         Some(format!("{} is decided twice", self.names.numbered("edge", *edge)))
     }
 
+    /// The fact, and the first rule with an election on it, from which the later ones must not differ.
     fn elections(&self, record: &Record) -> Option<String> {
-        let bit = if record.kind == 5 { 3 } else { 5 };
-        Some(format!("the election is on {}", self.fact(record.byte(bit)?)))
+        let fact = elected(record)?;
+        let rules = Reader::new(File::Plan, self.plan).filter(|rule| matches!(rule.kind, 5 | 6));
+        let rules: Vec<Record> = rules.collect();
+        let place = rules.iter().position(|rule| elected(rule) == Some(fact))?;
+        let kind = rules.get(place)?.kind;
+        let before = rules.iter().take(place).filter(|rule| rule.kind == kind).count();
+        let name = if kind == 5 { "cut" } else { "attachment" };
+        let first = self.names.numbered(name, u8::try_from(before).ok()?);
+        Some(format!("{first} has another election on {}", self.fact(fact)))
     }
 
     /// The first Combination edge that crosses the cut and that the cut does not decide.
@@ -377,6 +385,11 @@ fn missing(place: Place, record: &Record) -> Option<String> {
     let bit = *required(place.file, record.kind).iter().find(|bit| !record.has(**bit))?;
     let name = ranges::field_name(place.file, record.kind, bit)?;
     Some(format!("its {name} (bit {bit}) is missing"))
+}
+
+/// The fact of a rule's election.
+fn elected(record: &Record) -> Option<u8> {
+    record.byte(if record.kind == 5 { 3 } else { 5 })
 }
 
 /// How many records of a kind a file has.

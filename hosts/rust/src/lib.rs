@@ -5,7 +5,9 @@
 //! whatever these are, and give typed lines and events or a [`Refusal`] that says in words what is wrong and where. Nothing panics.
 //!
 //! [`PlanBuilder`] and [`CaseBuilder`] make the bytes from named things. They turn away what the operations would refuse, when it is
-//! given, so that a rule editor can say it at once; facts may come in any order. [`Plan::read`] reads a plan's bytes back.
+//! given, so that a rule editor can say it at once; facts may come in any order. [`Plan::read`] reads a plan's bytes back, and
+//! [`PlanBuilder::reopen`] and [`CaseBuilder::reopen`] open a plan and a case again, to change what they say. [`Plan::warnings`] tells what
+//! is accepted and seldom meant.
 //!
 //! ```
 //! use lukhveri::{
@@ -44,6 +46,22 @@
 //! assert_eq!(line.others(), Persons::of(&[1])?);
 //! assert_eq!(line.citations().collect::<Vec<_>>(), [5]);
 //!
+//! // The scheme changes: persons 0 and 2 belong together, too. The handles serve on, and the case follows its plan.
+//! let mut changed = PlanBuilder::reopen(&plan);
+//! let always = changed.literal(true)?;
+//! changed.edge(Edge::base(0, 2, always, Citation(7)))?;
+//! let changed = changed.finish()?;
+//! assert!(changed.warnings().is_empty());
+//! let mut case = case.over(&changed, Persons::of(&[0, 1, 2])?)?;
+//! let answer = lukhveri::answer(changed.bytes(), case.finish()?.bytes())?;
+//! assert_eq!(answer.units(), [Persons::of(&[0, 1, 2])?]);
+//!
+//! // He asks after all: what was said of it is forgotten, and said anew.
+//! case.forget(asked)?;
+//! case.observe(asked, true, Paper(8))?;
+//! let answer = lukhveri::answer(changed.bytes(), case.finish()?.bytes())?;
+//! assert_eq!(answer.units(), [Persons::of(&[0, 2])?, Persons::of(&[1])?]);
+//!
 //! // What is refused says where.
 //! let refusal = lukhveri::check(&plan.bytes()[..4]).expect_err("a plan that is cut short");
 //! assert_eq!((refusal.number(), refusal.record()), (1, 1));
@@ -51,7 +69,11 @@
 //! # }
 //! ```
 //!
-//! [`list`] gives the lister's text, [`circle`] the persons with whom somebody is joined, directly or through others.
+//! [`list`] gives the lister's text, [`circle`] the persons with whom somebody is joined, directly or through others. [`words`] says in sentences what
+//! a person's line says and why, from what belongs to the person's circle alone ([`near`]).
+//!
+//! A refusal says in words what is wrong ([`Refusal::in_words`], [`Refusal::finding`]) and what would mend it ([`Refusal::remedy`]), with the
+//! names that [`names`] reads from a file of names; [`files`] reads plans and cases no further than they can be long.
 //!
 //! [`answer_into`] and [`show_into`] work in buffers that the caller lends and allocate nothing; [`Buffers`] keeps such buffers for many calls.
 //! Calls from several threads are independent. A call takes less than 256 KB of its thread's stack ([`STACK`]).
@@ -67,6 +89,7 @@ mod case;
 mod case_builder;
 mod case_change;
 mod case_records;
+mod conditions;
 mod diagnosis;
 mod event;
 pub mod files;
@@ -93,6 +116,8 @@ mod refusal;
 mod renumber;
 mod told;
 mod unnamed;
+mod warning;
+mod warnings;
 pub mod words;
 mod write;
 
@@ -118,6 +143,7 @@ pub use plan_builder::PlanBuilder;
 pub use plan_removal::Departure;
 pub use read::File;
 pub use records::{
-    Attachment, Bar, Cut, Decision, Edge, Election, Fact, Node, Policy, Records, Status,
+    Attachment, Bar, Cut, Decision, Edge, Election, Fact, Node, Policy, Precedence, Records, Status,
 };
 pub use refusal::{Place, Reason, Refusal};
+pub use warning::{Rule, Warning};

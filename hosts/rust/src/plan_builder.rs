@@ -8,7 +8,9 @@ use crate::handles::{
 use crate::limits;
 use crate::numbers::{Actor, Citation};
 use crate::plan::Plan;
-use crate::records::{Attachment, Bar, Cut, Decision, Edge, Election, Fact, Node, Records, Status};
+use crate::records::{
+    Attachment, Bar, Cut, Decision, Edge, Election, Fact, Node, Precedence, Records, Status,
+};
 
 /// A plan in the making, from nothing or from a plan that is there. Each call gives a handle to what it added, or says why nothing was
 /// changed. Handles serve this builder, the plans that it finishes and the builders that are opened from those, until what they name is
@@ -124,13 +126,13 @@ impl PlanBuilder {
     }
 
     /// Says that a cut precedes another; nothing changes if that was said before.
-    pub fn precede(&mut self, cut: CutId, preceded: CutId) -> Result<(), BuildError> {
-        let place = self.cut_here(cut)?;
-        self.cut_here(preceded)?;
+    pub fn precede(&mut self, said: Precedence) -> Result<(), BuildError> {
+        let place = self.cut_here(said.cut)?;
+        self.cut_here(said.precedes)?;
         let list = &mut at(&mut self.records.cuts, place)?.precedes;
-        if !list.contains(&preceded) {
+        if !list.contains(&said.precedes) {
             at_most("preceded cuts", list.len() + 1, limits::CHILDREN)?;
-            list.push(preceded);
+            list.push(said.precedes);
         }
         Ok(())
     }

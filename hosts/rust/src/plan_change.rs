@@ -3,7 +3,7 @@
 use crate::build_error::BuildError;
 use crate::handles::{AttachmentId, BarId, CutId, EdgeId, NodeId, RelationId, StatusId};
 use crate::plan_builder::{PlanBuilder, at, current, drop_repeats, here, relation};
-use crate::records::{Attachment, Bar, Cut, Decision, Edge, Election, Node, Status};
+use crate::records::{Attachment, Bar, Cut, Decision, Edge, Election, Node, Precedence, Status};
 
 impl PlanBuilder {
     /// For rosters of another relation.
@@ -135,12 +135,12 @@ impl PlanBuilder {
         Ok(())
     }
 
-    /// A cut precedes another no more, but by way of others perhaps.
-    pub fn unprecede(&mut self, cut: CutId, preceded: CutId) -> Result<(), BuildError> {
-        let place = self.cut_here(cut)?;
+    /// A cut precedes another no more, but through others perhaps.
+    pub fn unprecede(&mut self, said: Precedence) -> Result<(), BuildError> {
+        let place = self.cut_here(said.cut)?;
         let list = &mut at(&mut self.records.cuts, place)?.precedes;
         let before = list.len();
-        list.retain(|other| *other != preceded);
+        list.retain(|other| *other != said.precedes);
         if list.len() == before {
             return Err(BuildError::NotThere { what: "precedence" });
         }

@@ -134,6 +134,13 @@ impl Cut {
     }
 }
 
+/// That a cut precedes another: where both hold and overlap, the other drops, unless it precedes this one, too.
+#[derive(Clone, Copy, Debug, PartialEq, Eq)]
+pub struct Precedence {
+    pub cut: CutId,
+    pub precedes: CutId,
+}
+
 /// Members who move to the block of the anchor.
 #[derive(Clone, Debug, PartialEq, Eq)]
 pub struct Attachment {

@@ -246,7 +246,13 @@ impl Refusal {
     pub fn remedy(&self) -> &'static str {
         match self.reason {
             Reason::Malformed => "write this record anew, or make the file again from its source",
-            Reason::PastLimit => "leave out the records that are too many, or split the rules",
+            Reason::PastLimit => match self.at() {
+                Some((_, 1)) => "keep one heading",
+                Some((File::Plan, 5)) => {
+                    "leave out what is not needed, take some of the decisions, or split the roster"
+                }
+                _ => "leave out what is not needed, or split the roster",
+            },
             Reason::Incomplete => {
                 "give the record all required fields, and none that exclude each other"
             }

@@ -2,7 +2,7 @@
 
 use lukhveri::{
     Actor, Attachment, Bar, BuildError, CaseBuilder, Citation, Cut, Decision, Edge, Election,
-    Family, Frame, Paper, Persons, PlanBuilder, Policy, Status,
+    Family, Frame, Paper, Persons, PlanBuilder, Policy, Precedence, Status,
 };
 
 fn persons(numbers: &[u8]) -> Persons {
@@ -66,7 +66,7 @@ fn every_rule_is_written() {
     };
     let cut = Cut::new(persons(&[0]), wished, Citation(5)).elected(election);
     let cut = plan.cut(cut.deciding(edge, Decision::Unresolved)).expect("a cut");
-    plan.precede(cut, cut).expect("precedence");
+    plan.precede(Precedence { cut, precedes: cut }).expect("precedence");
     let rule = Attachment::new(persons(&[2]), 1, wished, Citation(7), Actor(9));
     plan.attachment(rule.elected(election)).expect("an attachment");
     plan.bar(Bar::new(persons(&[63]), one, Citation(8))).expect("a bar");

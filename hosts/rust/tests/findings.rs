@@ -87,6 +87,20 @@ fn things_go_by_number_and_name() {
 }
 
 #[test]
+fn elections_that_differ() {
+    let plan = "010100 0200 030200 050f 0100000000000000 0000 00010000";
+    let (cut, rule) =
+        ("050f 0100000000000000 0000 00010001", "063f 0100000000000000 01000001 00020000");
+    let said = "cut 0 (the wish) has another election on fact 0 (shares a kitchen)";
+    assert_eq!(finding(&format!("{plan} {cut}"), ""), (7, said.into()));
+    assert_eq!(finding(&format!("{plan} {rule}"), ""), (7, said.into()));
+    let plan =
+        "010100 0200 030200 061f 0100000000000000 01000001 063f 0100000000000000 01000001 00010000";
+    let said = "attachment 1 has another election on fact 0 (shares a kitchen)";
+    assert_eq!(finding(&format!("{plan} {rule}"), ""), (7, said.into()));
+}
+
+#[test]
 fn a_refusal_in_one_sentence() {
     let plan = bytes("010100 030101 042f00010000 0507 0100000000000000 0000");
     let refusal = check(&plan).expect_err("undecided");

@@ -2,8 +2,9 @@
 
 use lukhveri::names::Names;
 use lukhveri::{
-    Buffers, CaseBuilder, Citation, Cut, Decision, Edge, Event, Family, Frame, Line, Paper,
-    Persons, Plan, PlanBuilder, Reason, Refusal, answer_into, check, circle, list, show_into,
+    Buffers, CaseBuilder, CaseRecords, Citation, Cut, Decision, Edge, Event, Family, Frame, Line,
+    Paper, Persons, Plan, PlanBuilder, Reason, Refusal, answer_into, check, circle, list,
+    show_into,
 };
 
 /// A small source of numbers.
@@ -66,10 +67,45 @@ fn good() -> (Vec<u8>, Vec<u8>) {
 /// Everything that can be said of a refusal.
 fn say(refusal: &Refusal, plan: &[u8], case: &[u8]) {
     assert!((1..=14).contains(&refusal.number()));
-    let exact = [Reason::Malformed, Reason::NamesNothing, Reason::Undecided, Reason::Heading];
-    let finding = refusal.finding(plan, case, &Names::default());
+    let exact = [
+        Reason::Malformed,
+        Reason::PastLimit,
+        Reason::NamesNothing,
+        Reason::OutOfOrder,
+        Reason::Undecided,
+        Reason::ElectionsDiffer,
+        Reason::Heading,
+        Reason::UnknownAndObserved,
+        Reason::LinesDoNotFit,
+        Reason::EventsDoNotFit,
+        Reason::NoSuchWorld,
+    ];
+    let names = Names::read("fact 0 one\nperson 0 Ana\nedge 0 bond\ncut 0 wish").expect("names");
+    let finding = refusal.finding(plan, case, &names);
+    assert!(refusal.in_words(plan, case, &names).starts_with("refused "));
     assert!(finding.is_some() || !exact.contains(&refusal.reason), "{refusal} {plan:?} {case:?}");
     assert!(!format!("{refusal} {} {}", refusal.remedy(), refusal.record()).is_empty());
+}
+
+/// Everything that can be done with an accepted plan.
+fn accepted(plan: &Plan, case: &[u8], random: &mut Random) {
+    assert!(plan.decisions().len() <= 16);
+    assert!((0..=255).filter_map(|number| plan.fact(number)).count() <= 64);
+    for warning in plan.warnings() {
+        assert!(warning.to_string().len() > 20 && warning.record(plan) > 0);
+    }
+    let mut builder = PlanBuilder::reopen(plan);
+    let finished = builder.finish().expect("an accepted plan can be finished");
+    assert_eq!(finished.warnings().len(), plan.warnings().len());
+    match CaseBuilder::reopen(plan, case) {
+        Ok(reopened) => assert!(reopened.finish().is_ok()),
+        Err(error) => assert!(error.to_string().len() > 5),
+    }
+    let person = random.byte();
+    assert_eq!(builder.remove_person(person).is_ok(), person < 64);
+    builder.remove_unused();
+    let left = builder.finish().expect("with less in it, too");
+    assert_eq!(check(left.bytes()), Ok(()));
 }
 
 fn all_calls(plan: &[u8], case: &[u8], random: &mut Random, buffers: &mut Buffers) {
@@ -77,8 +113,7 @@ fn all_calls(plan: &[u8], case: &[u8], random: &mut Random, buffers: &mut Buffer
     let read = Plan::read(plan);
     assert_eq!(checked.is_ok(), read.is_ok());
     if let Ok(read) = read {
-        assert!(read.decisions().len() <= 16);
-        assert!((0..=255).filter_map(|number| read.fact(number)).count() <= 64);
+        accepted(&read, case, random);
     }
     checked.err().iter().for_each(|refusal| say(refusal, plan, case));
     let answered = buffers.answer(plan, case).map(|answered| drop(answered.to_answer()));
@@ -117,6 +152,29 @@ fn damaged_bytes() {
             random.damage(&mut case);
         }
         all_calls(&plan, &case, random, buffers);
+    }
+}
+
+/// Names are read from any text, and what they say of a plan is said.
+#[test]
+fn names_of_any_text() {
+    let (random, (plan, case)) = (&mut Random(4), good());
+    let (plan, case) = (Plan::read(&plan).expect("a plan"), CaseRecords::read(&case));
+    let words =
+        ["person ", "fact ", "edge ", "status ", "evidence ", "\u{feff}", "#", "\n", "\r", " "];
+    for _ in 0..100_000 {
+        let mut text = String::new();
+        for _ in 0..random.below(12) {
+            match random.below(3) {
+                0 => text.push_str(words[random.below(words.len())]),
+                1 => text.push_str(&random.byte().to_string()),
+                _ => text.extend(char::from_u32(random.next() as u32 % 0x2_ffff)),
+            }
+        }
+        match Names::read(&text) {
+            Ok(names) => drop(names.warnings(&plan, case.as_ref())),
+            Err(fault) => assert!(fault.to_string().starts_with("line ")),
+        }
     }
 }
 

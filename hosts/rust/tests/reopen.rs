@@ -2,8 +2,8 @@
 
 use lukhveri::{
     Actor, Attachment, Bar, BuildError, CaseBuilder, Citation, Cut, Decision, Edge, Election,
-    Family, Frame, Node, Paper, Persons, Plan, PlanBuilder, Policy, ReopenError, RuleId, Status,
-    answer,
+    Family, Frame, Node, Paper, Persons, Plan, PlanBuilder, Policy, Precedence, ReopenError,
+    RuleId, Status, answer,
 };
 
 const FRAME: Frame = Frame { scope: 1, segment: 1 };
@@ -37,7 +37,7 @@ fn the_examples_stay_as_they_are() {
     }
 }
 
-/// An edge, a node list and decisions with a count of 0 are written without the list, and mean the same.
+/// Lists of defeaters, decisions, preceded cuts and observations with a count of 0 are left out, which means the same.
 #[test]
 fn empty_lists_are_left_out() {
     let plan =
@@ -218,9 +218,9 @@ fn decisions_are_taken_anew() {
     assert_eq!(plan.undecided().collect::<Vec<_>>(), [(cut, edge)]);
     let nothing = BuildError::NotThere { what: "decision" };
     assert_eq!(plan.redecide(cut, edge, Decision::Blocked), Err(nothing));
-    plan.precede(cut, cut).expect("a precedence");
-    plan.unprecede(cut, cut).expect("a precedence");
-    assert!(plan.unprecede(cut, cut).is_err());
+    plan.precede(Precedence { cut, precedes: cut }).expect("a precedence");
+    plan.unprecede(Precedence { cut, precedes: cut }).expect("a precedence");
+    assert!(plan.unprecede(Precedence { cut, precedes: cut }).is_err());
 }
 
 #[test]
@@ -240,6 +240,29 @@ fn elections_change_together() {
     assert_eq!(plan.replace_elections(other), Ok(2));
     assert_eq!(plan.records().cuts[0].election, Some(other));
     lukhveri::check(plan.finish().expect("a plan").bytes()).expect("an accepted plan");
+}
+
+/// What stood above a node that was removed is written with the number that it has.
+#[test]
+fn numbers_follow_a_removal() {
+    let mut plan = PlanBuilder::new(1);
+    let first = plan.literal(false).expect("a node");
+    let second = plan.literal(true).expect("a node");
+    let third = plan.not(second).expect("a node");
+    let edge = plan.edge(Edge::base(0, 1, second, Citation(5)).unless(third)).expect("an edge");
+    let cut = plan.cut(Cut::new(persons(&[7]), third, Citation(6))).expect("a cut");
+    let other = plan.cut(Cut::new(persons(&[8]), second, Citation(7))).expect("a cut");
+    plan.precede(Precedence { cut: other, precedes: other }).expect("a precedence");
+    plan.decide(other, edge, Decision::Overrides).expect("a decision");
+    plan.remove_node(first).expect("a node");
+    plan.remove_cut(cut).expect("a cut");
+    let finished = plan.finish().expect("a plan");
+    let wanted =
+        "010101 030101 031000 041f 00 01 00 05 01 01 0537 0001000000000000 00 07 01 0002 01 00";
+    assert_eq!(finished.bytes(), bytes(wanted));
+    assert_eq!(finished.node_number(third), Some(1));
+    assert_eq!(finished.node_number(first), None);
+    assert_eq!(finished.node(1), Some(third));
 }
 
 /// A plan whose facts get other numbers, and a case that follows it.

@@ -89,7 +89,6 @@ pub fn example() -> Result<Example, BuildError> {
                 (LIST.0, "the nursery's list, signed as complete"),
                 (REGISTER.0, "the register of shared flats, closed in September"),
                 (FORM.0, "Levan's form: not known yet"),
-                (LETTER.0, "Levan's letter"),
             ],
             rules: &[],
             actors: &[],

@@ -4,7 +4,7 @@ use inputs::random::Random;
 use lukhveri::{
     Actor, Attachment, AttachmentId, Bar, BarId, BooleanId, BuildError, Case, CaseBuilder,
     Citation, Cut, CutId, Decision, Edge, EdgeId, Election, Family, Frame, Node, NodeId, Paper,
-    Persons, Plan, PlanBuilder, Policy, RelationId, RuleId, Status, StatusId,
+    Persons, Plan, PlanBuilder, Policy, Precedence, RelationId, RuleId, Status, StatusId,
 };
 
 /// What a random maker has got so far, and how often it was turned away.
@@ -203,7 +203,7 @@ impl<'a> Maker<'a> {
             _ if self.cuts.is_empty() => {}
             _ => {
                 let (cut, other) = (self.random.pick(&self.cuts), self.random.pick(&self.cuts));
-                let said = self.plan.precede(cut, other);
+                let said = self.plan.precede(Precedence { cut, precedes: other });
                 self.given(said);
             }
         }

@@ -64,7 +64,7 @@ fn main() {
         }
     }
     println!(
-        "{done} calls: {} plans and {} cases mean the same, {} of them in fewer bytes; {:.1} s",
+        "{done} calls: {} plans opened again and finished; {} cases over them mean the same, {} in fewer bytes; {:.1} s",
         tally.plans,
         tally.cases,
         tally.shorter,
