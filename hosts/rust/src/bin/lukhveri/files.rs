@@ -1,0 +1,100 @@
+//! Files: a plan, and the plan, case and names of a folder.
+
+use std::fs::File;
+use std::io::{self, Read};
+use std::path::{Path, PathBuf};
+
+use lukhveri::Plan;
+use lukhveri::names::Names;
+
+use crate::outcome::{Trouble, plainly};
+use crate::output::complain;
+use crate::pending;
+
+/// No accepted plan or case is nearly so long, so what follows would change no answer and no refusal.
+const LONGEST: u64 = 1 << 16;
+
+/// No names.txt that is of use is longer.
+const LONGEST_NAMES: u64 = 1 << 20;
+
+/// The bytes of a plan or a case, no further than they can matter.
+pub fn read_records(path: &Path) -> io::Result<Vec<u8>> {
+    read_up_to(path, LONGEST)
+}
+
+fn read_up_to(path: &Path, most: u64) -> io::Result<Vec<u8>> {
+    let mut bytes = Vec::new();
+    File::open(path)?.take(most).read_to_end(&mut bytes)?;
+    Ok(bytes)
+}
+
+/// A plan that is named by itself.
+pub fn read_plan(path: &Path) -> Result<Vec<u8>, Trouble> {
+    if path.is_dir() {
+        let inside = path.join("plan.bin");
+        let what = format!("this is a folder; a plan is wanted, such as {}", inside.display());
+        return Err(Trouble::of_file(path, what));
+    }
+    read_records(path).map_err(|error| Trouble::of_file(path, plainly(&error)))
+}
+
+/// Why names.txt gives no names.
+pub type Fault = String;
+
+/// The names of a folder; no names where there is no names.txt.
+pub fn read_names(folder: &Path) -> Result<Names, Fault> {
+    let bytes = match read_up_to(&folder.join("names.txt"), LONGEST_NAMES + 1) {
+        Err(error) if error.kind() == io::ErrorKind::NotFound => return Ok(Names::default()),
+        Err(error) => return Err(plainly(&error)),
+        Ok(bytes) => bytes,
+    };
+    if bytes.len() as u64 > LONGEST_NAMES {
+        return Err(format!("it is longer than {LONGEST_NAMES} bytes"));
+    }
+    let text = std::str::from_utf8(&bytes).map_err(|error| {
+        let before = bytes.get(..error.valid_up_to()).unwrap_or(&[]);
+        let line = 1 + before.iter().filter(|byte| **byte == b'\n').count();
+        format!("line {line}: this is no UTF-8 text")
+    })?;
+    Names::read(text).map_err(|fault| fault.to_string())
+}
+
+/// What a command on a folder reads.
+pub struct Inputs {
+    folder: PathBuf,
+    pub plan: Vec<u8>,
+    pub case: Vec<u8>,
+    pub names: Names,
+}
+
+impl Inputs {
+    pub fn read(folder: &Path) -> Result<Inputs, Trouble> {
+        let inputs = Inputs::read_without_names(folder)?;
+        let path = inputs.path("names.txt");
+        let names = read_names(folder).map_err(|fault| Trouble::of_file(&path, fault))?;
+        if let Ok(plan) = Plan::read(&inputs.plan) {
+            let warnings = pending::name_warnings(&names, &plan);
+            warnings.iter().for_each(|warning| {
+                complain(&format!("{}: warning: {warning}", path.display()));
+            });
+        }
+        Ok(Inputs { names, ..inputs })
+    }
+
+    pub fn read_without_names(folder: &Path) -> Result<Inputs, Trouble> {
+        if !folder.is_dir() && folder.exists() {
+            let what = "this is a file; a folder with plan.bin and case.bin is wanted";
+            return Err(Trouble::of_file(folder, what));
+        }
+        let read = |name: &str| {
+            let path = folder.join(name);
+            read_records(&path).map_err(|error| Trouble::of_file(&path, plainly(&error)))
+        };
+        let (plan, case) = (read("plan.bin")?, read("case.bin")?);
+        Ok(Inputs { folder: folder.to_path_buf(), plan, case, names: Names::default() })
+    }
+
+    pub fn path(&self, name: &str) -> PathBuf {
+        self.folder.join(name)
+    }
+}
