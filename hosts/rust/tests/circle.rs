@@ -76,6 +76,7 @@ fn refusals() {
     let folder = Folder::new("circle-refused");
     folder.write("plan.bin", &example_file("kitchen", "plan.bin"));
     let mut case = example_file("kitchen", "case.bin");
+    case[14] = 0;
     case[15] = 0;
     folder.write("case.bin", &case);
     assert_eq!(on("list", folder.path(), &[]).out, "refused 11 0\n");
