@@ -96,7 +96,7 @@ fn a_file_that_may_not_be_read() {
     let folder = Folder::new("list-closed");
     folder.write("plan.bin", &example_file("kitchen", "plan.bin"));
     let path = folder.path().join("plan.bin");
-    let closed = std::fs::Permissions::from_mode(0);
+    let closed = std::fs::Permissions::from_mode(0o000);
     std::fs::set_permissions(&path, closed).expect("permissions");
     // root may read everything
     if std::fs::File::open(&path).is_err() {

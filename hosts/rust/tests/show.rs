@@ -75,7 +75,7 @@ fn settled(plan: &Plan, case: &[u8], facts: &BTreeMap<u8, bool>) -> Vec<u8> {
     let mut bytes = case[..16].to_vec();
     let mut families: BTreeMap<u8, Option<u8>> =
         told.families.iter().map(|family| (family.number, family.complete)).collect();
-    for (fact, _) in facts {
+    for fact in facts.keys() {
         if let Some((_, Fact::Relation { family, .. })) = plan.fact(*fact) {
             families.entry(*family).or_default();
         }

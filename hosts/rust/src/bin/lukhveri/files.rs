@@ -4,8 +4,8 @@ use std::fs::File;
 use std::io::{self, Read};
 use std::path::{Path, PathBuf};
 
-use lukhveri::Plan;
 use lukhveri::names::Names;
+use lukhveri::{CaseRecords, Plan};
 
 use crate::outcome::{Trouble, plainly};
 use crate::output::complain;
@@ -73,7 +73,8 @@ impl Inputs {
         let path = inputs.path("names.txt");
         let names = read_names(folder).map_err(|fault| Trouble::of_file(&path, fault))?;
         if let Ok(plan) = Plan::read(&inputs.plan) {
-            let warnings = pending::name_warnings(&names, &plan);
+            let case = CaseRecords::read(&inputs.case);
+            let warnings = pending::name_warnings(&names, &plan, case.as_ref());
             warnings.iter().for_each(|warning| {
                 complain(&format!("{}: warning: {warning}", path.display()));
             });

@@ -15,7 +15,7 @@ pub fn warnings(_plan: &Plan) -> Vec<String> {
 }
 
 /// Names for what is not there.
-pub fn name_warnings(_names: &Names, _plan: &Plan) -> Vec<String> {
+pub fn name_warnings(_: &Names, _: &Plan, _: Option<&CaseRecords>) -> Vec<String> {
     Vec::new()
 }
 

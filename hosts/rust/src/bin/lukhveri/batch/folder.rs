@@ -142,7 +142,8 @@ fn named(folder: &Path, plan: Option<&Vec<u8>>, remarks: &mut Vec<Remark>) -> Na
         }
         Ok(names) => {
             let plan = plan.and_then(|bytes| Plan::read(bytes).ok());
-            let odd = plan.map(|plan| pending::name_warnings(&names, &plan)).unwrap_or_default();
+            let odd =
+                plan.map(|plan| pending::name_warnings(&names, &plan, None)).unwrap_or_default();
             let odd = odd.iter().map(|what| Remark::note(&path, format!("warning: {what}")));
             remarks.extend(odd);
             names
