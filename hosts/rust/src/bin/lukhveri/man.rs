@@ -18,15 +18,45 @@ fn parted(help: &str) -> (&str, &str) {
     (first.strip_prefix("usage: ").unwrap_or(first), rest.trim_start_matches('\n'))
 }
 
-/// A paragraph; a block of lines that begin with four blanks stays as it is.
-fn paragraph(lines: &[&str]) -> String {
-    let as_it_is = |line: &&str| line.starts_with("    ");
-    if !lines.is_empty() && lines.iter().all(as_it_is) {
-        let rows = lines.iter().map(|line| escaped(line.get(4..).unwrap_or(line)) + "\n");
-        return format!(".PP\n.RS 4\n.nf\n{}.fi\n.RE\n", rows.collect::<String>());
+/// The label and the text of a row that has two blanks between them; the text of one that goes on; the label of one that has no text yet.
+fn row(line: &str) -> (Option<&str>, Option<&str>) {
+    let said = line.trim_start();
+    match (line.starts_with(' '), said.split_once("  ")) {
+        (true, _) => (None, Some(said)),
+        (false, Some((label, text))) => (Some(label), Some(text.trim_start())),
+        (false, None) => (Some(said), None),
     }
-    let rows = lines.iter().map(|line| escaped(line.trim_start()) + "\n");
-    format!(".PP\n{}", rows.collect::<String>())
+}
+
+/// A list of labels and texts.
+fn labelled(lines: &[&str]) -> String {
+    let rows = lines.iter().map(|line| {
+        let (label, text) = row(line);
+        let label = label.map(|label| format!(".TP\n{}\n", escaped(label)));
+        let text = text.map(|text| escaped(text) + "\n");
+        label.unwrap_or_default() + &text.unwrap_or_default()
+    });
+    rows.collect()
+}
+
+/// Lines that stay as they are.
+fn as_they_are(lines: &[&str]) -> String {
+    let rows: String = lines.iter().map(|line| escaped(line) + "\n").collect();
+    format!(".PP\n.RS 4\n.nf\n{rows}.fi\n.RE\n")
+}
+
+/// Lines that begin with four blanks are a list or stay as they are; others flow.
+fn paragraph(lines: &[&str]) -> String {
+    let inner: Option<Vec<&str>> = lines.iter().map(|line| line.strip_prefix("    ")).collect();
+    let has_text = |line: &&str| matches!(row(line), (Some(_), Some(_)));
+    match inner {
+        Some(inner) if inner.iter().any(has_text) => labelled(&inner),
+        Some(inner) => as_they_are(&inner),
+        None => {
+            let rows: String = lines.iter().map(|line| escaped(line) + "\n").collect();
+            format!(".PP\n{rows}")
+        }
+    }
 }
 
 /// Paragraphs are parted by empty lines.
@@ -54,9 +84,9 @@ pub fn page() -> String {
     let version = env!("CARGO_PKG_VERSION");
     let (_, text) = parted(help::MAIN);
     [
-        format!(".TH LUKHVERI 1 \"\" \"lukhveri {version}\" \"User Commands\"\n"),
-        ".SH NAME\nlukhveri \\- finds the units of a roster\n.SH SYNOPSIS\n.nh\n".to_string(),
-        synopsis() + ".hy\n",
+        format!(".TH LUKHVERI 1 \"\" \"lukhveri {version}\" \"User Commands\"\n.nh\n.ad l\n"),
+        ".SH NAME\nlukhveri \\- finds the units of a roster\n.SH SYNOPSIS\n".to_string(),
+        synopsis(),
         format!(".SH DESCRIPTION\n{}", body(text)),
         format!(".SH COMMANDS\n{}", commands()),
     ]
@@ -71,6 +101,8 @@ mod tests {
     fn what_troff_takes_for_its_own_is_escaped() {
         assert_eq!(escaped(".x --a \\n"), "\\&.x \\-\\-a \\en");
         assert_eq!(paragraph(&["    a", "      b"]), ".PP\n.RS 4\n.nf\na\n  b\n.fi\n.RE\n");
+        let list = ["    -a, --b    does it", "               well", "    c or d", "           so"];
+        assert_eq!(paragraph(&list), ".TP\n\\-a, \\-\\-b\ndoes it\nwell\n.TP\nc or d\nso\n");
         assert_eq!(
             body("one\ntwo\n\n    three\n"),
             ".PP\none\ntwo\n.PP\n.RS 4\n.nf\nthree\n.fi\n.RE\n"

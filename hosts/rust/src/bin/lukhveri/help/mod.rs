@@ -1,4 +1,5 @@
-//! What the program says of itself. The man page is made from these texts: a line that begins with four blanks stays as it is, other lines flow.
+//! What the program says of itself. The man page is made from these texts: lines flow, but those that begin with four blanks are a list, where two
+//! blanks part a label from its text, or stay as they are.
 
 pub const MAIN: &str = include_str!("main.txt");
 pub const CHECK: &str = include_str!("check.txt");
