@@ -78,6 +78,19 @@ fn files_that_are_no_plan() {
     assert!(said.out.starts_with("Refused 3: plan, record 0 (where the file ends, at byte 0)"));
 }
 
+/// Names stand in words alone: a fault in them is said and stops nothing.
+#[test]
+fn faulty_names_beside_a_plan() {
+    let folder = Folder::new("check-names");
+    let path = folder.path().join("plan.bin");
+    folder.write("plan.bin", &example_file("kitchen", "plan.bin")[..6]);
+    folder.write("names.txt", b"person x Anna\n");
+    let said = run(&["check".as_ref(), path.as_os_str()]);
+    assert_eq!(said.status, Some(1));
+    assert!(said.err.contains("names.txt: line 1: 'x' is no number of a person"), "{said:?}");
+    assert!(said.out.starts_with("Refused "), "{said:?}");
+}
+
 /// A file is read no further than a plan can be long.
 #[test]
 fn a_huge_file() {

@@ -117,6 +117,7 @@ fn wrong_words_are_said_in_one_line() {
         run(&[command, "-x", "a"]).is_trouble(&format!("there is no option -x {helps}"));
         run(&[command, "a", "--json=1"]).is_trouble(&format!("--json takes no value {helps}"));
     }
+    run(&["list", ""]).is_trouble("list: an empty word is given (lukhveri list --help helps)");
     for command in ["check", "list", "explain"] {
         run(&[command, "a", "b"]).is_trouble("'b' is a word too many");
     }

@@ -25,7 +25,9 @@ impl Arguments {
         let mut rest = all.iter();
         while let Some(word) = rest.next() {
             let is_word = word == "-" || !word.as_encoded_bytes().starts_with(b"-");
-            if is_word {
+            if word.is_empty() {
+                return Err(arguments.wrong_use("an empty word is given".to_string()));
+            } else if is_word {
                 arguments.words.push(word.clone());
             } else if word == "--" {
                 arguments.words.extend(rest.by_ref().cloned());

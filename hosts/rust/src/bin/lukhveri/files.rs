@@ -59,6 +59,15 @@ pub fn read_names(folder: &Path) -> Result<Names, Fault> {
     Names::read(text).map_err(|fault| fault.to_string())
 }
 
+/// The names beside a plan. They stand in words alone, so a fault in them is said and stops nothing.
+pub fn names_beside(plan: &Path) -> Names {
+    let folder = plan.parent().unwrap_or(Path::new(""));
+    read_names(folder).unwrap_or_else(|fault| {
+        complain(&format!("{}: {fault}; no names are used", folder.join("names.txt").display()));
+        Names::default()
+    })
+}
+
 /// What a command on a folder reads.
 pub struct Inputs {
     folder: PathBuf,

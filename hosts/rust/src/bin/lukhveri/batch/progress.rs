@@ -23,7 +23,7 @@ pub struct Progress {
     unreadable: u64,
     persons: u64,
     start: Instant,
-    /// When the bar was drawn last; none where the standard error is no terminal.
+    /// When the bar was drawn last; none where nobody watches.
     drawn: Option<Instant>,
     /// How many cases there are, where that can be known before.
     all: Option<u64>,
@@ -42,7 +42,9 @@ fn count(words: &[PathBuf], plan: Option<&CommonPlan>) -> Option<u64> {
 impl Progress {
     pub fn new(words: &[PathBuf], plan: Option<&CommonPlan>) -> Progress {
         let start = Instant::now();
-        let drawn = io::stderr().is_terminal().then_some(start);
+        // Where rows go to the terminal, too, a bar would stand among them.
+        let watched = io::stderr().is_terminal() && !io::stdout().is_terminal();
+        let drawn = watched.then_some(start);
         // Nobody else needs the count, and folders are read for it.
         let all = drawn.and_then(|_| count(words, plan));
         let (answered, refused, unreadable, persons) = (0, 0, 0, 0);

@@ -2,11 +2,10 @@
 
 use std::path::Path;
 
-use lukhveri::names::Names;
 use lukhveri::{Fact, Persons, Plan};
 
 use crate::arguments::Arguments;
-use crate::files::read_plan;
+use crate::files::{names_beside, read_plan};
 use crate::json::Json;
 use crate::outcome::{Outcome, Trouble};
 use crate::output::print;
@@ -117,7 +116,7 @@ pub fn run(arguments: &Arguments) -> Result<Outcome, Trouble> {
     let bytes = read_plan(path)?;
     match Plan::read(&bytes) {
         Err(refusal) => {
-            let names = Names::default();
+            let names = names_beside(path);
             let refused = Refused { refusal: &refusal, plan: &bytes, case: &[], names: &names };
             refused.tell(path, arguments.has("--json"))
         }
