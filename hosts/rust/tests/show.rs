@@ -161,17 +161,19 @@ fn random_plan(random: &mut Random) -> Vec<u8> {
 fn random_case(random: &mut Random) -> Vec<u8> {
     let mut case = vec![1, 127, 1, 1, 1, 255, 0, 0, 0, 0, 0, 0, 0, 0, 0, 16];
     for family in 0..random.below(4) as u8 {
-        match random.below(2) {
+        match random.below(3) {
             0 => case.extend([2, 3, family, 1]),
-            _ => case.extend([2, 7, family, 1, 0]),
+            1 => case.extend([2, 7, family, 1, 0]),
+            _ => case.extend([2, 7, family, 2, 0]),
         }
     }
     let families = case.iter().skip(16).filter(|byte| **byte == 2).count();
     for fact in 0..5u8 {
         let value = random.below(2) as u8;
-        match random.below(3) {
+        match random.below(4) {
             0 => {}
             1 => case.extend([3, 5, fact, 1, value, 0]),
+            2 => case.extend([3, 3, fact, 4]),
             _ => case.extend([3, 5, fact, 2, value, 0, random.below(2) as u8, 1]),
         }
     }
