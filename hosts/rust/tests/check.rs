@@ -65,6 +65,9 @@ fn a_refusal_says_what_would_mend_it() {
 
 #[test]
 fn files_that_are_no_plan() {
+    let said = run(&["check", "examples/kitchen/case.bin"]);
+    let hint = "lukhveri: examples/kitchen/case.bin: this reads like a case; a plan is wanted\n";
+    assert!(said.status == Some(1) && said.err.ends_with(hint), "{said:?}");
     run(&["check", "nowhere.bin"]).is_trouble("nowhere.bin: No such file or directory");
     let said = run(&["check", "examples/kitchen"]);
     said.is_trouble(

@@ -95,13 +95,20 @@ impl Contents {
         }
     }
 
+    /// What there is in place of cases; a folder of folders is an easy slip.
+    fn without_cases(&self, folder: &Path) -> String {
+        let has = if self.others.is_empty() { "" } else { "; it has " };
+        let holds_folder = self.others.iter().any(|name| folder.join(name).is_dir());
+        let all = folder.join("*");
+        let hint = if holds_folder { format!(": try {}", all.display()) } else { String::new() };
+        format!("no cases in this folder{has}{}{hint}", self.mentioned())
+    }
+
     /// What is to be said of the files.
     pub fn remarks(&self, folder: &Path, common: bool) -> Vec<Remark> {
         let mut remarks = Vec::new();
         if self.cases.is_empty() {
-            let has = if self.others.is_empty() { "" } else { "; it has " };
-            let what = format!("no cases in this folder{has}{}", self.mentioned());
-            return vec![Remark::trouble(folder, what)];
+            return vec![Remark::trouble(folder, self.without_cases(folder))];
         }
         if common && self.own_plan {
             remarks.push(Remark::note(folder, "its plan.bin is not used, as --plan is given"));

@@ -2,13 +2,13 @@
 
 use std::path::Path;
 
-use lukhveri::{Fact, Persons, Plan};
+use lukhveri::{CaseRecords, Fact, Persons, Plan};
 
 use crate::arguments::Arguments;
 use crate::files::{names_beside, read_plan};
 use crate::json::Json;
 use crate::outcome::{Outcome, Trouble};
-use crate::output::print;
+use crate::output::{complain, print};
 use crate::pending;
 use crate::refused::Refused;
 
@@ -111,6 +111,13 @@ fn json(counts: &Counts, warnings: Vec<String>) -> String {
     accepted.with("warnings", Json::list(warnings)).line()
 }
 
+/// A case in the place of a plan is an easy slip.
+fn hint(path: &Path, bytes: &[u8]) {
+    if CaseRecords::read(bytes).is_some_and(|case| !case.roster.is_empty()) {
+        complain(&format!("{}: this reads like a case; a plan is wanted", path.display()));
+    }
+}
+
 pub fn run(arguments: &Arguments) -> Result<Outcome, Trouble> {
     let path = Path::new(arguments.one("a plan")?);
     let bytes = read_plan(path)?;
@@ -118,7 +125,9 @@ pub fn run(arguments: &Arguments) -> Result<Outcome, Trouble> {
         Err(refusal) => {
             let names = names_beside(path);
             let refused = Refused { refusal: &refusal, plan: &bytes, case: &[], names: &names };
-            refused.tell(path, arguments.has("--json"))
+            let outcome = refused.tell(path, arguments.has("--json"))?;
+            hint(path, &bytes);
+            Ok(outcome)
         }
         Ok(plan) => {
             let (counts, warnings) = (Counts::of(&plan), pending::warnings(&plan));
