@@ -86,7 +86,10 @@ fn a_mixed_folder() {
     assert!(said.out.starts_with(&wanted), "{}\nand not\n{wanted}", said.out);
     let last: Vec<&str> = said.out.lines().skip(6).collect();
     assert_eq!(last.len(), 3, "{last:?}");
-    assert_eq!(last[1], format!("{here}/d.bin,,,,,,,,,,,unreadable: not a file"));
+    assert_eq!(
+        last[1],
+        format!("{here}/d.bin,,,,,,,,,,,\"unreadable: this is a folder, not a file\"")
+    );
     assert!(last[2].starts_with(&format!("{here}/e.bin,,,,,,,,,9,0,\"case, record 0 ")));
     assert!(last[2].ends_with(": its relation is 9, the plan's is 7\""), "{}", last[2]);
     assert_eq!(counts(&said), "5 cases: 2 answered, 2 refused, 1 unreadable; 5 persons");
@@ -112,7 +115,7 @@ fn as_json_lines() {
     assert_eq!(rows[3].at("block"), &Value::List(vec![Value::Number(3), Value::Number(4)]));
     assert_eq!((rows[3].at("person").number(), rows[3].at("name")), (3, &Value::Null));
     assert_eq!(rows[5].at("refusal").at("number").number(), 1);
-    assert_eq!(rows[6].at("error").text(), "unreadable: not a file");
+    assert_eq!(rows[6].at("error").text(), "unreadable: this is a folder, not a file");
 }
 
 /// Many cases of different lengths, over all processors: the table is in order and always the same.
@@ -171,16 +174,14 @@ fn one_plan_for_all() {
     assert_eq!((said.out.lines().count(), said.status), (5, Some(0)), "{said:?}");
     let said = on("batch", folder.path(), &["--rows"]);
     assert_eq!(said.status, Some(2));
-    assert!(said.err.contains("/plan.bin: No such file or directory\n"), "{}", said.err);
+    assert!(said.err.contains("/plan.bin: there is no such file\n"), "{}", said.err);
     assert_eq!(said.out.lines().count(), 3, "every case has a row: {}", said.out);
-    assert!(
-        said.out.contains("/a.bin,,,,,,,,,,,unreadable: plan.bin: No such file or directory\r\n")
-    );
+    assert!(said.out.contains("/a.bin,,,,,,,,,,,unreadable: plan.bin: there is no such file\r\n"));
     let said = run(&["batch", "--plan", text(&plan), "examples/01"]);
     assert!(said.err.contains("examples/01: its plan.bin is not used, as --plan is given\n"));
     assert_eq!(said.status, Some(1));
     let said = run(&["batch", "--plan", "nowhere.bin", "examples/01"]);
-    said.is_trouble("nowhere.bin: No such file or directory");
+    said.is_trouble("nowhere.bin: there is no such file");
     let own = run(&["batch", "--plan", "examples/01/plan.bin", "examples/01"]);
     assert!(!own.err.contains("is not used"), "{}", own.err);
 }
@@ -228,7 +229,13 @@ fn a_case_that_is_a_pipe() {
     let made = std::process::Command::new("mkfifo").arg(&pipe).status().expect("mkfifo");
     assert!(made.success());
     let said = on("batch", folder.path(), &["--rows"]);
-    assert!(said.out.ends_with("/b.bin,,,,,,,,,,,unreadable: not a file\r\n"), "{}", said.out);
+    assert!(
+        said.out.ends_with(
+            "/b.bin,,,,,,,,,,,\"unreadable: this is a device, a pipe or a socket, not a file\"\r\n"
+        ),
+        "{}",
+        said.out
+    );
 }
 
 /// A federation: folders with plans, cases and names of their own, among them some that are refused.

@@ -68,7 +68,7 @@ fn files_that_are_no_plan() {
     let said = run(&["check", "examples/kitchen/case.bin"]);
     let hint = "lukhveri: examples/kitchen/case.bin: this reads like a case; a plan is wanted\n";
     assert!(said.status == Some(1) && said.err.ends_with(hint), "{said:?}");
-    run(&["check", "nowhere.bin"]).is_trouble("nowhere.bin: No such file or directory");
+    run(&["check", "nowhere.bin"]).is_trouble("nowhere.bin: there is no such file");
     let said = run(&["check", "examples/kitchen"]);
     said.is_trouble(
         "examples/kitchen: this is a folder; a plan is wanted, such as examples/kitchen/plan.bin",

@@ -93,5 +93,5 @@ fn refusals() {
 fn persons_that_are_none() {
     run(&["circle", "examples/kitchen", "64"]).is_trouble("there is no person 64, only 0 to 63");
     run(&["circle", "examples/kitchen", "Otar"]).is_trouble("names.txt has no person 'Otar'");
-    run(&["circle", "nowhere", "0"]).is_trouble("nowhere/plan.bin: No such file or directory");
+    run(&["circle", "nowhere", "0"]).is_trouble("nowhere/plan.bin: there is no such file");
 }

@@ -109,18 +109,18 @@ fn faulty_names() {
         on("explain", folder.path(), &[]).is_trouble(part);
     };
     says(b"person 0 Anna\nperson x Ben\n", "names.txt: line 2: 'x' is no number of a person");
-    says(b"person 0 Anna\n\nperson 1 \xff\n", "names.txt: line 3: this is no UTF-8 text");
+    says(b"person 0 Anna\n\nperson 1 \xff\n", "names.txt: line 3 is no UTF-8 text");
     says(&b"#\n".repeat(1 << 20), "names.txt: it is longer than 1048576 bytes");
     std::fs::remove_file(folder.path().join("names.txt")).expect("no names");
     assert_eq!(on("explain", folder.path(), &[]).status, Some(0));
     std::fs::create_dir(folder.path().join("names.txt")).expect("a folder");
-    on("explain", folder.path(), &[]).is_trouble("names.txt: Is a directory");
+    on("explain", folder.path(), &[]).is_trouble("names.txt: this is a folder, not a file");
 }
 
 #[test]
 fn folders_that_are_none() {
-    run(&["explain", "nowhere"]).is_trouble("nowhere/plan.bin: No such file or directory");
-    run(&["explain", "examples"]).is_trouble("examples/plan.bin: No such file or directory");
+    run(&["explain", "nowhere"]).is_trouble("nowhere/plan.bin: there is no such file");
+    run(&["explain", "examples"]).is_trouble("examples/plan.bin: there is no such file");
 }
 
 /// Damaged bytes are answered or refused, by every command on a folder.

@@ -127,7 +127,7 @@ fn wrong_words_are_said_in_one_line() {
     }
     run(&["explain", "a", "--person"]).is_trouble("--person wants a value");
     run(&["explain", "a", "--person", "1", "--person=2"]).is_trouble("--person is given twice");
-    run(&["list", "--", "-x"]).is_trouble("-x/plan.bin: No such file or directory");
+    run(&["list", "--", "-x"]).is_trouble("-x/plan.bin: there is no such file");
 }
 
 /// Each command, with words that make it print something.

@@ -67,16 +67,16 @@ fn too_many_worlds() {
 
 #[test]
 fn folders_that_are_none() {
-    run(&["list", "nowhere"]).is_trouble("nowhere/plan.bin: No such file or directory");
+    run(&["list", "nowhere"]).is_trouble("nowhere/plan.bin: there is no such file");
     let said = run(&["list", "examples/kitchen/plan.bin"]);
     said.is_trouble(
         "examples/kitchen/plan.bin: this is a file; a folder with plan.bin and case.bin is wanted",
     );
     let folder = Folder::new("list-broken");
     folder.write("plan.bin", &example_file("kitchen", "plan.bin"));
-    on("list", folder.path(), &[]).is_trouble("case.bin: No such file or directory");
+    on("list", folder.path(), &[]).is_trouble("case.bin: there is no such file");
     std::fs::create_dir(folder.path().join("case.bin")).expect("a folder");
-    on("list", folder.path(), &[]).is_trouble("case.bin: Is a directory");
+    on("list", folder.path(), &[]).is_trouble("case.bin: this is a folder, not a file");
 }
 
 /// The lister knows no names, so faults in them do not touch it.
@@ -100,6 +100,6 @@ fn a_file_that_may_not_be_read() {
     std::fs::set_permissions(&path, closed).expect("permissions");
     // root may read everything
     if std::fs::File::open(&path).is_err() {
-        on("list", folder.path(), &[]).is_trouble("plan.bin: Permission denied");
+        on("list", folder.path(), &[]).is_trouble("plan.bin: it cannot be read: Permission denied");
     }
 }

@@ -52,7 +52,7 @@ fn worlds_that_are_none() {
     }
     let most = on("show", &example("kitchen"), &["18446744073709551615"]);
     assert_eq!(most.status, Some(1));
-    run(&["show", "nowhere", "0"]).is_trouble("nowhere/plan.bin: No such file or directory");
+    run(&["show", "nowhere", "0"]).is_trouble("nowhere/plan.bin: there is no such file");
 }
 
 /// Values of facts, and the number that the decisions' values make, the first highest.

@@ -7,7 +7,7 @@ use std::path::{Path, PathBuf};
 use lukhveri::names::Names;
 use lukhveri::{CaseRecords, Plan};
 
-use crate::outcome::{Trouble, plainly};
+use crate::outcome::Trouble;
 use crate::output::complain;
 use crate::pending;
 
@@ -17,14 +17,35 @@ const LONGEST: u64 = 1 << 16;
 /// No names.txt that is of use is longer.
 const LONGEST_NAMES: u64 = 1 << 20;
 
+/// Why a file was not read.
+pub type Fault = String;
+
 /// The bytes of a plan or a case, no further than they can matter.
-pub fn read_records(path: &Path) -> io::Result<Vec<u8>> {
+pub fn read_records(path: &Path) -> Result<Vec<u8>, Fault> {
     read_up_to(path, LONGEST)
 }
 
-fn read_up_to(path: &Path, most: u64) -> io::Result<Vec<u8>> {
+fn system(error: io::Error) -> Fault {
+    match error.kind() {
+        io::ErrorKind::NotFound => MISSING.to_string(),
+        _ => format!("it cannot be read: {error}"),
+    }
+}
+
+const MISSING: &str = "there is no such file";
+
+/// Whether it is a file is asked before it is opened, since opening a pipe may wait for ever.
+fn read_up_to(path: &Path, most: u64) -> Result<Vec<u8>, Fault> {
+    let kind = path.metadata().map_err(system)?.file_type();
+    if kind.is_dir() {
+        return Err("this is a folder, not a file".to_string());
+    }
+    if !kind.is_file() {
+        return Err("this is a device, a pipe or a socket, not a file".to_string());
+    }
     let mut bytes = Vec::new();
-    File::open(path)?.take(most).read_to_end(&mut bytes)?;
+    let file = File::open(path).map_err(system)?;
+    file.take(most).read_to_end(&mut bytes).map_err(system)?;
     Ok(bytes)
 }
 
@@ -35,18 +56,14 @@ pub fn read_plan(path: &Path) -> Result<Vec<u8>, Trouble> {
         let what = format!("this is a folder; a plan is wanted, such as {}", inside.display());
         return Err(Trouble::of_file(path, what));
     }
-    read_records(path).map_err(|error| Trouble::of_file(path, plainly(&error)))
+    read_records(path).map_err(|fault| Trouble::of_file(path, fault))
 }
-
-/// Why names.txt gives no names.
-pub type Fault = String;
 
 /// The names of a folder; no names where there is no names.txt.
 pub fn read_names(folder: &Path) -> Result<Names, Fault> {
     let bytes = match read_up_to(&folder.join("names.txt"), LONGEST_NAMES + 1) {
-        Err(error) if error.kind() == io::ErrorKind::NotFound => return Ok(Names::default()),
-        Err(error) => return Err(plainly(&error)),
-        Ok(bytes) => bytes,
+        Err(fault) if fault == MISSING => return Ok(Names::default()),
+        read => read?,
     };
     if bytes.len() as u64 > LONGEST_NAMES {
         return Err(format!("it is longer than {LONGEST_NAMES} bytes"));
@@ -54,7 +71,7 @@ pub fn read_names(folder: &Path) -> Result<Names, Fault> {
     let text = std::str::from_utf8(&bytes).map_err(|error| {
         let before = bytes.get(..error.valid_up_to()).unwrap_or(&[]);
         let line = 1 + before.iter().filter(|byte| **byte == b'\n').count();
-        format!("line {line}: this is no UTF-8 text")
+        format!("line {line} is no UTF-8 text")
     })?;
     Names::read(text).map_err(|fault| fault.to_string())
 }
@@ -98,7 +115,7 @@ impl Inputs {
         }
         let read = |name: &str| {
             let path = folder.join(name);
-            read_records(&path).map_err(|error| Trouble::of_file(&path, plainly(&error)))
+            read_records(&path).map_err(|fault| Trouble::of_file(&path, fault))
         };
         let (plan, case) = (read("plan.bin")?, read("case.bin")?);
         Ok(Inputs { folder: folder.to_path_buf(), plan, case, names: Names::default() })

@@ -9,8 +9,8 @@ use lukhveri::{
 use crate::naming::Naming;
 use crate::rules::{bound_facts, constrained, holds, numbers, rules, tuple_of};
 
-/// What is odd in a plan that is accepted.
-pub fn warnings(_plan: &Plan) -> Vec<String> {
+/// What is odd in a plan that is accepted: a short name for programs, and words.
+pub fn warnings(_: &Plan, _: &Names) -> Vec<(&'static str, String)> {
     Vec::new()
 }
 
@@ -88,8 +88,15 @@ pub struct Paragraph {
     pub sentences: Vec<String>,
     pub possible: Vec<String>,
     pub waits_for: Vec<String>,
+    pub moved_by: Vec<String>,
     pub idle: Vec<String>,
     pub ask_first: Option<String>,
+}
+
+/// Why there are no paragraphs.
+pub enum Unexplained {
+    Refused(Refusal),
+    Otherwise(String),
 }
 
 /// The paragraphs of all persons, or of one.
@@ -98,9 +105,12 @@ pub fn explained(
     case: &[u8],
     names: &Names,
     person: Option<u8>,
-) -> Result<Vec<Paragraph>, Refusal> {
-    let read = Plan::read(plan)?;
-    let answer = lukhveri::answer(plan, case)?;
+) -> Result<Vec<Paragraph>, Unexplained> {
+    let read = Plan::read(plan).map_err(Unexplained::Refused)?;
+    let answer = lukhveri::answer(plan, case).map_err(Unexplained::Refused)?;
+    if let Some(person) = person.filter(|person| answer.line(*person).is_none()) {
+        return Err(Unexplained::Otherwise(format!("person {person} is not on the roster")));
+    }
     let asked = answer.lines.iter().filter(|line| person.is_none_or(|it| it == line.person));
     Ok(asked.map(|line| paragraph(Naming { plan: &read, names }, line)).collect())
 }
@@ -108,12 +118,18 @@ pub fn explained(
 fn paragraph(naming: Naming, line: &Line) -> Paragraph {
     let facts = line.open_facts().map(|fact| naming.fact(fact));
     let decisions = line.open_decisions().map(|decision| naming.decision(decision));
+    let waits_for: Vec<String> = facts.chain(decisions).collect();
+    let mut sentences = vec![line_words(naming.names, line)];
+    if !waits_for.is_empty() {
+        sentences.push(format!("It waits for {}.", waits_for.join("; ")));
+    }
     Paragraph {
         name: naming.names.person(line.person),
         line: *line,
-        sentences: vec![line_words(naming.names, line)],
+        sentences,
         possible: Vec::new(),
-        waits_for: facts.chain(decisions).collect(),
+        waits_for,
+        moved_by: Vec::new(),
         idle: Vec::new(),
         ask_first: None,
     }

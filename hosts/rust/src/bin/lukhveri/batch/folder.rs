@@ -9,7 +9,6 @@ use lukhveri::Plan;
 use lukhveri::names::Names;
 
 use crate::files::{read_names, read_records};
-use crate::outcome::plainly;
 use crate::pending;
 
 /// No more file names than these are mentioned.
@@ -128,7 +127,7 @@ impl Folder {
         let own = path.join("plan.bin");
         let plan = match common {
             Some(plan) => Ok(plan.bytes.clone()),
-            None => read_records(&own).map(Arc::new).map_err(|error| plainly(&error)),
+            None => read_records(&own).map(Arc::new),
         };
         let plan = plan.map_err(|error| {
             remarks.push(Remark::trouble(&own, &error));

@@ -1,8 +1,7 @@
 //! The rows of a case.
 
 use std::ffi::OsString;
-use std::io;
-use std::path::{Path, PathBuf};
+use std::path::PathBuf;
 
 use lukhveri::{Answered, Buffers, Line, Refusal};
 
@@ -11,7 +10,6 @@ use crate::batch::folder::Folder;
 use crate::files::read_records;
 use crate::json::Json;
 use crate::lines;
-use crate::outcome::plainly;
 use crate::refused::Refused;
 
 /// The columns of the table.
@@ -68,15 +66,6 @@ pub struct CaseFile<'a> {
     pub style: Style,
 }
 
-/// The bytes of a case. A pipe is no case: nobody may be there to fill it.
-fn read_case(path: &Path) -> Result<Vec<u8>, String> {
-    let in_words = |error: io::Error| plainly(&error);
-    match path.metadata().map_err(in_words)?.is_file() {
-        true => read_records(path).map_err(in_words),
-        false => Err("not a file".to_string()),
-    }
-}
-
 /// The numbers of a cell, parted by blanks.
 fn cell(numbers: impl IntoIterator<Item = u8>) -> String {
     let numbers = numbers.into_iter().map(|number| number.to_string());
@@ -90,7 +79,7 @@ impl CaseFile<'_> {
 
     /// Answers the case over the folder's plan.
     pub fn answer(&self, buffers: &mut Buffers) -> Rows {
-        let bytes = read_case(&self.path());
+        let bytes = read_records(&self.path());
         let (case, plan) = match (&bytes, &self.folder.plan) {
             (Err(error), _) | (_, Err(error)) => return self.unreadable(error),
             (Ok(case), Ok(plan)) => (case, plan),

@@ -97,8 +97,11 @@ fn named_persons(plan: &Plan) -> Persons {
     all.fold(Persons::NOBODY, Persons::union)
 }
 
-fn sentences(counts: &Counts, warnings: &[String]) -> String {
-    let rows: String = warnings.iter().map(|warning| format!("    {warning}\n")).collect();
+/// A short name for programs, and words.
+type Warning = (&'static str, String);
+
+fn sentences(counts: &Counts, warnings: &[Warning]) -> String {
+    let rows: String = warnings.iter().map(|(_, words)| format!("    {words}\n")).collect();
     let heading = match warnings {
         [] => "No warnings.\n".to_string(),
         _ => format!("{}:\n", counted(warnings.len(), "warning", "warnings")),
@@ -106,7 +109,10 @@ fn sentences(counts: &Counts, warnings: &[String]) -> String {
     format!("The plan is accepted. It has\n{}{heading}{rows}", counts.words())
 }
 
-fn json(counts: &Counts, warnings: Vec<String>) -> String {
+fn json(counts: &Counts, warnings: &[Warning]) -> String {
+    let warnings = warnings.iter().map(|(code, words)| {
+        Json::object([("code", (*code).into()), ("words", words.as_str().into())])
+    });
     let accepted = Json::object([("accepted", true.into()), ("counts", counts.json())]);
     accepted.with("warnings", Json::list(warnings)).line()
 }
@@ -120,19 +126,19 @@ fn hint(path: &Path, bytes: &[u8]) {
 
 pub fn run(arguments: &Arguments) -> Result<Outcome, Trouble> {
     let path = Path::new(arguments.one("a plan")?);
-    let bytes = read_plan(path)?;
+    let (bytes, names) = (read_plan(path)?, names_beside(path));
+    let as_json = arguments.has("--json");
     match Plan::read(&bytes) {
         Err(refusal) => {
-            let names = names_beside(path);
             let refused = Refused { refusal: &refusal, plan: &bytes, case: &[], names: &names };
-            let outcome = refused.tell(path, arguments.has("--json"))?;
+            let outcome = refused.tell(path, as_json)?;
             hint(path, &bytes);
             Ok(outcome)
         }
         Ok(plan) => {
-            let (counts, warnings) = (Counts::of(&plan), pending::warnings(&plan));
-            print(&match arguments.has("--json") {
-                true => json(&counts, warnings),
+            let (counts, warnings) = (Counts::of(&plan), pending::warnings(&plan, &names));
+            print(&match as_json {
+                true => json(&counts, &warnings),
                 false => sentences(&counts, &warnings),
             })?;
             Ok(Outcome::Done)
