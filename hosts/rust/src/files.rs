@@ -43,10 +43,9 @@ pub struct FileFault {
     pub fault: Fault,
 }
 
-impl fmt::Display for FileFault {
+impl fmt::Display for Fault {
     fn fmt(&self, to: &mut fmt::Formatter) -> fmt::Result {
-        write!(to, "{}: ", self.path.display())?;
-        match &self.fault {
+        match self {
             Fault::Missing => write!(to, "there is no such file"),
             Fault::Folder => write!(to, "this is a folder, not a file"),
             Fault::NotAFile => write!(to, "this is a device, a pipe or a socket, not a file"),
@@ -55,6 +54,12 @@ impl fmt::Display for FileFault {
             Fault::NoText { line } => write!(to, "line {line} is no UTF-8 text"),
             Fault::Name(fault) => write!(to, "{fault}"),
         }
+    }
+}
+
+impl fmt::Display for FileFault {
+    fn fmt(&self, to: &mut fmt::Formatter) -> fmt::Result {
+        write!(to, "{}: {}", self.path.display(), self.fault)
     }
 }
 

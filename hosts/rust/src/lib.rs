@@ -114,6 +114,7 @@ mod read;
 mod records;
 mod refusal;
 mod renumber;
+mod rules;
 mod told;
 mod unnamed;
 mod warning;
@@ -146,4 +147,5 @@ pub use records::{
     Attachment, Bar, Cut, Decision, Edge, Election, Fact, Node, Policy, Precedence, Records, Status,
 };
 pub use refusal::{Place, Reason, Refusal};
-pub use warning::{Rule, Warning};
+pub use rules::Rule;
+pub use warning::Warning;

@@ -268,7 +268,7 @@ impl Refusal {
             Reason::ElectionsDiffer => {
                 "make fact, actor, policy and citation of both elections equal"
             }
-            Reason::SegmentIncomplete => "cut the period where it changes and run each part",
+            Reason::SegmentIncomplete => "cut the period where something changes and run each part",
             Reason::Heading => "correct the heading, or use the plan that belongs to this roster",
             Reason::UnknownAndObserved => "keep the explicit unknown or the observations, not both",
             Reason::TooManyWorlds { .. } => {

@@ -5,39 +5,7 @@ use std::fmt;
 use crate::names::{Names, listed};
 use crate::persons::Persons;
 use crate::plan::Plan;
-
-/// A rule, by its number in the file.
-#[derive(Clone, Copy, Debug, PartialEq, Eq, Hash)]
-pub enum Rule {
-    Edge(u8),
-    Cut(u8),
-    Attachment(u8),
-    Bar(u8),
-    Status(u8),
-}
-
-impl Rule {
-    /// What it is called: edge, cut, attachment, bar or status.
-    pub fn kind(self) -> &'static str {
-        match self {
-            Rule::Edge(_) => "edge",
-            Rule::Cut(_) => "cut",
-            Rule::Attachment(_) => "attachment",
-            Rule::Bar(_) => "bar",
-            Rule::Status(_) => "status",
-        }
-    }
-
-    pub fn number(self) -> u8 {
-        match self {
-            Rule::Edge(number)
-            | Rule::Cut(number)
-            | Rule::Attachment(number)
-            | Rule::Bar(number)
-            | Rule::Status(number) => number,
-        }
-    }
-}
+use crate::rules::Rule;
 
 /// Something in an accepted plan that is probably a slip. Facts, nodes and rules go by their numbers in the file. The first fifteen are what
 /// the original refused: docs/DIFFERENCES.md, B1 to B15.

@@ -4,7 +4,8 @@ use crate::conditions::Conditions;
 use crate::persons::Persons;
 use crate::plan::Plan;
 use crate::records::{Attachment, Cut, Decision, Election, Records};
-use crate::warning::{Rule, Warning};
+use crate::rules::{Rule, rules};
+use crate::warning::Warning;
 
 impl Plan {
     /// What is accepted and probably a slip, in the order of records. Whether a condition can ever hold is tried with a bound on the work:
@@ -51,29 +52,14 @@ pub(crate) fn bit(fact: u8) -> u64 {
 
 /// Rules that can be shown never to take effect.
 fn never(records: &Records, conditions: &Conditions) -> Vec<Warning> {
-    let edges = records.edges.iter().zip(0u8..).map(|(edge, number)| {
-        let defeaters: Vec<u8> = edge.defeaters.iter().map(|node| node.number).collect();
-        (Rule::Edge(number), edge.condition, defeaters)
+    let never = rules(records).filter_map(|rule| {
+        let condition = rule.condition.number;
+        let defeaters: Vec<u8> = rule.defeaters.iter().map(|node| node.number).collect();
+        let fails = |defeaters: &[u8]| conditions.can_hold(condition, defeaters) == Some(false);
+        let defeaters = fails(&defeaters).then(|| !defeaters.is_empty() && !fails(&[]))?;
+        Some(Warning::NeverHolds { rule: rule.rule, defeaters })
     });
-    let cuts = records.cuts.iter().zip(0u8..);
-    let cuts = cuts.map(|(cut, number)| (Rule::Cut(number), cut.condition, Vec::new()));
-    let rules = records.attachments.iter().zip(0u8..);
-    let rules = rules.map(|(rule, number)| (Rule::Attachment(number), rule.condition, Vec::new()));
-    let bars = records.bars.iter().zip(0u8..);
-    let bars = bars.map(|(bar, number)| (Rule::Bar(number), bar.condition, Vec::new()));
-    let statuses = records.statuses.iter().zip(0u8..);
-    let statuses =
-        statuses.map(|(status, number)| (Rule::Status(number), status.condition, Vec::new()));
-    let all = edges.chain(cuts).chain(rules).chain(bars).chain(statuses);
-    let never = all.filter(|(_, condition, defeaters)| {
-        conditions.can_hold(condition.number, defeaters) == Some(false)
-    });
-    never
-        .map(|(rule, condition, defeaters)| {
-            let by_itself = conditions.can_hold(condition.number, &[]) == Some(false);
-            Warning::NeverHolds { rule, defeaters: !defeaters.is_empty() && !by_itself }
-        })
-        .collect()
+    never.collect()
 }
 
 fn edges(records: &Records) -> Vec<Warning> {

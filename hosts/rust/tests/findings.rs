@@ -166,6 +166,6 @@ fn the_guide_says_the_same() {
     let refusal = answer(&plan, &case).expect_err("not complete");
     assert_eq!(refusal.reason, Reason::SegmentIncomplete);
     assert!(row.contains(refusal.remedy()), "{row}");
-    assert!(refusal.to_string().contains("something changes within it"));
-    assert!(row.contains("something changes within it"), "{row}");
+    assert!(refusal.to_string().contains("something changes within"));
+    assert!(row.contains("something changes within"), "{row}");
 }

@@ -2,7 +2,7 @@
 
 use crate::case_records::{BooleanRecord, CaseRecords, FamilyRecord, RelationRecord};
 use crate::near::said::{Said, said};
-use crate::near::touch::{Touch, Touching};
+use crate::near::touch::{Touch, Touching, touching};
 use crate::operations::circle;
 use crate::persons::Persons;
 use crate::plan::Plan;
@@ -25,16 +25,32 @@ impl Kept {
     pub(crate) fn of(plan: &Plan, case: &CaseRecords, person: u8) -> Option<Kept> {
         let heading = heading(case);
         let circle = circle(plan.bytes(), &heading.bytes(), person)?;
-        let touch = Touch::of(plan, heading.roster, &heading.constraints);
-        let touching = touch.facts().into_iter().filter(|fact| fact.persons.meets(circle));
-        let with_said = |fact: Touching| (said(plan, case, fact.fact), fact);
-        let facts: Vec<(Touching, Said)> =
-            touching.map(with_said).map(|(said, fact)| (fact, said)).collect();
+        let facts = facts(plan, case, circle);
         let own: Vec<u8> = facts.iter().map(|(touching, _)| touching.fact).collect();
         let case = own_case(plan, heading, &facts);
         let decisions = own_decisions(plan, circle);
         Some(Kept { circle, plan: own_plan(plan, circle, &own)?, case, facts, decisions })
     }
+
+    /// All of a plan and a case, whoever is touched.
+    pub(crate) fn whole(plan: &Plan, case: &CaseRecords) -> Kept {
+        let touch = Touch::of(plan, case.roster, &case.constraints);
+        let facts = touch.facts().into_iter().map(|fact| with_said(plan, case, fact)).collect();
+        let decisions = (0..).zip(plan.decisions()).map(|(place, _)| place).collect();
+        let circle = Persons::from_mask(u64::MAX);
+        Kept { circle, plan: plan.clone(), case: case.clone(), facts, decisions }
+    }
+}
+
+fn with_said(plan: &Plan, case: &CaseRecords, fact: Touching) -> (Touching, Said) {
+    let said = said(plan, case, fact.fact);
+    (fact, said)
+}
+
+/// The bound facts that touch somebody of the circle.
+fn facts(plan: &Plan, case: &CaseRecords, circle: Persons) -> Vec<(Touching, Said)> {
+    let facts = touching(plan, case, circle).into_iter();
+    facts.map(|fact| with_said(plan, case, fact)).collect()
 }
 
 /// A case with the heading and the constraints of this one, which says nothing of facts.

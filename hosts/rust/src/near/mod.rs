@@ -4,10 +4,10 @@
 //! of them. Plan, heading and constraints are kept, so a line of the circle is the line of the whole case, which demand 3 promises; and
 //! whatever is made of a `Near` alone cannot show what a case says of strangers.
 
+mod choices;
 mod kept;
 mod open;
 mod outcome;
-mod rules;
 mod said;
 mod spread;
 mod touch;
@@ -16,13 +16,11 @@ mod worlds;
 
 pub use open::Variable;
 pub use outcome::{Outcome, Settling};
-pub use rules::Rule;
 pub use said::{Bound, Said};
 pub use spread::{Link, Mark, Seed};
-pub use touch::{Touching, Why};
+pub use touch::{Touching, Why, touching};
+pub use values::values;
 pub use worlds::{Acts, View, World, Worlds};
-
-pub(crate) use rules::rules;
 
 use std::error::Error;
 use std::fmt;

@@ -5,9 +5,9 @@ use std::collections::{BTreeMap, BTreeSet, VecDeque};
 use crate::line::LineKind;
 use crate::near::Near;
 use crate::near::open::Variable;
-use crate::near::rules::{Rule, RuleOf, close, joined_sets, rules};
 use crate::near::worlds::World;
 use crate::persons::Persons;
+use crate::rules::{Rule, RuleOf, close, joined_sets, rules};
 
 /// What marks persons.
 #[derive(Clone, Copy, Debug, PartialEq, Eq, PartialOrd, Ord)]

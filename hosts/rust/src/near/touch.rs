@@ -1,10 +1,11 @@
 //! Which facts touch whom, and by what: document 01's influence rule before closing, for facts that are known and facts that are not.
 
-use crate::handles::NodeId;
-use crate::near::rules::{Rule, RuleOf, rules};
+use crate::case_records::CaseRecords;
+use crate::conditions::Conditions;
 use crate::persons::Persons;
 use crate::plan::Plan;
-use crate::records::{Fact, Node};
+use crate::records::Fact;
+use crate::rules::{Rule, RuleOf, rules};
 
 /// Why a fact touches somebody.
 #[derive(Clone, Copy, Debug, PartialEq, Eq)]
@@ -27,43 +28,25 @@ pub struct Touching {
     pub why: Vec<Why>,
 }
 
-/// For each node the facts that it uses, as a mask; use is textual.
-pub(crate) fn node_uses(plan: &Plan) -> Vec<u64> {
-    let mut uses: Vec<u64> = Vec::new();
-    for node in &plan.records().nodes {
-        let of = |child: &NodeId| uses.get(usize::from(child.number)).copied().unwrap_or(0);
-        let mask = match node {
-            Node::Literal(_) => 0,
-            Node::Fact(fact) => plan.fact_number(*fact).map_or(0, |number| 1 << number),
-            Node::And(children) | Node::Or(children) => {
-                children.iter().fold(0, |all, child| all | of(child))
-            }
-            Node::Not(child) => of(child),
-        };
-        uses.push(mask);
-    }
-    uses
-}
-
 /// What touches by a plan, a roster and the constraints of a case.
 pub(crate) struct Touch<'a> {
     plan: &'a Plan,
     roster: Persons,
     constraints: &'a [u8],
-    uses: Vec<u64>,
+    conditions: Conditions,
 }
 
 impl<'a> Touch<'a> {
     pub(crate) fn of(plan: &'a Plan, roster: Persons, constraints: &'a [u8]) -> Touch<'a> {
-        Touch { plan, roster, constraints, uses: node_uses(plan) }
+        Touch { plan, roster, constraints, conditions: Conditions::of(plan) }
     }
 
-    fn node_uses(&self, node: u8, fact: u8) -> bool {
-        self.uses.get(usize::from(node)).is_some_and(|mask| mask >> fact & 1 == 1)
+    fn uses(&self, node: u8, fact: u8) -> bool {
+        self.conditions.facts_of([node]) >> fact & 1 == 1
     }
 
     fn asks(&self, rule: &RuleOf, fact: u8) -> bool {
-        rule.nodes().any(|node| self.node_uses(node.number, fact))
+        rule.nodes().any(|node| self.uses(node.number, fact))
     }
 
     /// Every bound fact, rising.
@@ -77,7 +60,7 @@ impl<'a> Touch<'a> {
         let asking = rules(self.plan.records()).filter(|rule| self.asks(rule, fact));
         let mut why: Vec<Why> = asking.map(|rule| Why::Asked(rule.rule, rule.persons)).collect();
         let constraints = self.constraints.iter().zip(0..);
-        let using = constraints.filter(|(node, _)| self.node_uses(**node, fact));
+        let using = constraints.filter(|(node, _)| self.uses(**node, fact));
         why.extend(using.map(|(_, number)| Why::Constraint(number)));
         if why.is_empty() {
             return None;
@@ -95,4 +78,10 @@ impl<'a> Touch<'a> {
             Why::Constraint(_) => self.roster,
         }
     }
+}
+
+/// Each bound fact that touches somebody of a circle, by what the case's heading and constraints say.
+pub fn touching(plan: &Plan, case: &CaseRecords, circle: Persons) -> Vec<Touching> {
+    let facts = Touch::of(plan, case.roster, &case.constraints).facts();
+    facts.into_iter().filter(|fact| fact.persons.meets(circle)).collect()
 }

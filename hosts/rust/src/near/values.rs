@@ -1,22 +1,19 @@
-//! The values of a plan's nodes.
+//! The values that make a world of a whole case.
 
-use crate::handles::NodeId;
+use crate::case_records::CaseRecords;
+use crate::near::choices::Choices;
+use crate::near::kept::Kept;
+use crate::near::open::{Open, Variable};
 use crate::plan::Plan;
-use crate::records::Node;
 
-/// The value of each node, where facts have these values by their numbers in the file.
-pub(crate) fn node_values(plan: &Plan, fact: impl Fn(u8) -> bool) -> Vec<bool> {
-    let mut values: Vec<bool> = Vec::new();
-    for node in &plan.records().nodes {
-        let of = |child: &NodeId| values.get(usize::from(child.number)).copied() == Some(true);
-        let value = match node {
-            Node::Literal(value) => *value,
-            Node::Fact(id) => plan.fact_number(*id).is_some_and(&fact),
-            Node::And(children) => children.iter().all(of),
-            Node::Or(children) => children.iter().any(of),
-            Node::Not(child) => !of(child),
-        };
-        values.push(value);
-    }
-    values
+/// What is open in a case, each with its value in the admissible world of that number, in document 01's order; none where there is no such world. For a
+/// case that is answered: then there are at most 4,096 choices to go over.
+pub fn values(plan: &Plan, case: &CaseRecords, world: u64) -> Option<Vec<(Variable, bool)>> {
+    let kept = Kept::whole(plan, case);
+    let open = Open::of(&kept);
+    let choices = Choices { kept: &kept, open: &open };
+    let all = (0..choices.count()).filter_map(|choice| choices.values(choice));
+    let mut admissible = all.filter(|values| choices.admissible(values).is_some());
+    let values = admissible.nth(usize::try_from(world).ok()?)?;
+    Some(open.variables().iter().copied().zip(values).collect())
 }

@@ -4,10 +4,9 @@ use std::collections::BTreeSet;
 
 use crate::event::Event;
 use crate::line::{Line, LineKind, Role};
+use crate::near::choices::Choices;
 use crate::near::kept::Kept;
-use crate::near::open::{Open, Variable};
-use crate::near::said::Bound;
-use crate::near::values::node_values;
+use crate::near::open::Open;
 use crate::operations::{Answer, Answered, Buffers};
 use crate::persons::Persons;
 
@@ -20,7 +19,8 @@ pub struct View {
 }
 
 impl View {
-    pub(crate) fn of(line: &Line) -> View {
+    /// What a line shows.
+    pub fn of(line: &Line) -> View {
         View { kind: line.kind, role: line.role, block: line.block }
     }
 
@@ -106,10 +106,11 @@ pub struct Worlds {
 impl Worlds {
     /// None where they are not as many as the answer says.
     pub(crate) fn of(kept: &Kept, open: &Open, found: &Answer) -> Option<Worlds> {
-        let radices: Vec<usize> = open.candidates().iter().map(Vec::len).collect();
+        let choices = Choices { kept, open };
+        let radices: Vec<usize> = choices.radices().collect();
         let complete = found.lines.iter().all(|line| line.kind != LineKind::RosterIncomplete);
-        let count = if complete { radices.iter().product() } else { 0 };
-        let mut looking = Looking::of(kept, open, &radices);
+        let count = if complete { choices.count() } else { 0 };
+        let mut looking = Looking::of(choices);
         let choices: Option<Vec<Option<World>>> =
             (0..count).map(|choice| looking.at(choice)).collect();
         let choices = choices.filter(|_| looking.shown == found.worlds)?;
@@ -135,9 +136,7 @@ impl Worlds {
 
 /// Goes over the choices and shows the admissible worlds among them.
 struct Looking<'a> {
-    kept: &'a Kept,
-    open: &'a Open,
-    radices: &'a [usize],
+    choices: Choices<'a>,
     /// How many choices there are for each choice of the boolean facts, which come first.
     behind: usize,
     /// The case in which the boolean facts have their values.
@@ -150,50 +149,25 @@ struct Looking<'a> {
 }
 
 impl<'a> Looking<'a> {
-    fn of(kept: &'a Kept, open: &'a Open, radices: &'a [usize]) -> Looking<'a> {
-        let behind = radices.iter().skip(open.booleans()).product();
-        let (case, buffers) = (Vec::new(), Buffers::new());
-        Looking { kept, open, radices, behind, case, next: 0, shown: 0, buffers }
+    fn of(choices: Choices<'a>) -> Looking<'a> {
+        let behind = choices.radices().skip(choices.open.booleans()).product();
+        Looking { choices, behind, case: Vec::new(), next: 0, shown: 0, buffers: Buffers::new() }
     }
 
     /// What stands at a choice; none where the proved code does not show it.
     fn at(&mut self, choice: usize) -> Option<Option<World>> {
-        let values = self.values(choice)?;
+        let (kept, values) = (self.choices.kept, self.choices.values(choice)?);
         if choice.checked_rem(self.behind)? == 0 {
-            self.case = self.open.chosen(&self.kept.case, &values).bytes();
+            self.case = self.choices.open.chosen(&kept.case, &values).bytes();
             self.next = 0;
         }
-        let nodes = node_values(&self.kept.plan, |fact| self.fact(fact, &values));
-        let holds = |node: &u8| nodes.get(usize::from(*node)) == Some(&true);
-        if !self.kept.case.constraints.iter().all(holds) {
+        let Some(nodes) = self.choices.admissible(&values) else {
             return Some(None);
-        }
-        let shown = self.buffers.show(self.kept.plan.bytes(), &self.case, self.next).ok()?;
-        (self.next, self.shown) = (self.next + 1, self.shown + 1);
-        let (views, acts) = (views(&shown, self.kept.circle), acts(&shown));
-        Some(Some(World { values, nodes, views, acts }))
-    }
-
-    /// The digits of the choice's number, the last variable's lowest.
-    fn values(&self, choice: usize) -> Option<Vec<bool>> {
-        let mut values = Vec::new();
-        let mut rest = choice;
-        for (radix, candidates) in self.radices.iter().zip(self.open.candidates()).rev() {
-            values.push(*candidates.get(rest.checked_rem(*radix)?)?);
-            rest /= radix;
-        }
-        values.reverse();
-        Some(values)
-    }
-
-    fn fact(&self, fact: u8, values: &[bool]) -> bool {
-        let variable = Variable::Fact(fact);
-        let open = self.open.variables().iter().zip(values).find(|(own, _)| **own == variable);
-        let known = || {
-            let said = self.kept.facts.iter().find(|(touching, _)| touching.fact == fact);
-            said.is_some_and(|(_, said)| said.bound() == Bound::Known(true))
         };
-        open.map_or_else(known, |(_, value)| *value)
+        let shown = self.buffers.show(kept.plan.bytes(), &self.case, self.next).ok()?;
+        (self.next, self.shown) = (self.next + 1, self.shown + 1);
+        let (views, acts) = (views(&shown, kept.circle), acts(&shown));
+        Some(Some(World { values, nodes, views, acts }))
     }
 }
 

@@ -1,8 +1,8 @@
 //! Why somebody is counted alone.
 
 use crate::line::Line;
-use crate::near::{Rule, rules};
 use crate::persons::Persons;
+use crate::rules::{Rule, rules};
 use crate::words::Telling;
 use crate::words::apart::When;
 

@@ -2,7 +2,8 @@
 
 use crate::line::{Line, Role};
 use crate::names::listed;
-use crate::near::{Acts, Rule, rules};
+use crate::near::Acts;
+use crate::rules::{Rule, rules};
 use crate::words::{Telling, either};
 
 /// In which worlds something is so.

@@ -4,8 +4,9 @@ use std::collections::BTreeSet;
 
 use crate::handles::NodeId;
 use crate::names::listed;
-use crate::near::{Bound, Rule, rules};
+use crate::near::Bound;
 use crate::records::Node;
+use crate::rules::{Rule, rules};
 use crate::words::Telling;
 
 /// Facts, with their values, that make a node have its value.

@@ -1,10 +1,10 @@
 //! What facts, rules and decisions are called.
 
 use crate::names::Names;
-use crate::near::Rule;
 use crate::numbers::Citation;
 use crate::plan::Plan;
 use crate::records::Fact;
+use crate::rules::Rule;
 
 /// A plan and the names of the things in it.
 #[derive(Clone, Copy, Debug)]
@@ -114,6 +114,15 @@ impl Things<'_> {
             }
         };
         self.named("status", number).unwrap_or_else(numbered)
+    }
+
+    /// An unresolved decision of the plan, by its place among them.
+    pub fn unresolved(&self, place: u8) -> String {
+        let decision = self.plan.decisions().get(usize::from(place)).copied();
+        decision.map_or_else(
+            || format!("decision {place}"),
+            |(cut, edge)| self.decision(place, cut.number, edge.number),
+        )
     }
 
     /// Whether a cut overrides an edge, by the decision's place among the plan's unresolved ones.

@@ -1,6 +1,6 @@
-//! Rows of comma-separated values.
+//! Rows of comma-separated values (RFC 4180).
 
-/// One row, ended by a line feed. A field with a comma, a quotation mark, a line end or a space at its ends is quoted.
+/// One row, ended by CR LF. A field with a comma, a quotation mark, a line end or a blank at its ends is quoted.
 pub fn row(fields: &[&[u8]], to: &mut Vec<u8>) {
     for (at, field) in fields.iter().enumerate() {
         if at > 0 {
@@ -12,7 +12,7 @@ pub fn row(fields: &[&[u8]], to: &mut Vec<u8>) {
             to.extend_from_slice(field);
         }
     }
-    to.push(b'\n');
+    to.extend_from_slice(b"\r\n");
 }
 
 fn needs_quotes(field: &[u8]) -> bool {
@@ -39,6 +39,6 @@ mod tests {
     fn fields_are_quoted_where_they_must_be() {
         let mut text = Vec::new();
         row(&[b"a b", b"0,1", b"say \"so\"", b"", b" x", b"two\nlines"], &mut text);
-        assert_eq!(text, b"a b,\"0,1\",\"say \"\"so\"\"\",,\" x\",\"two\nlines\"\n");
+        assert_eq!(text, b"a b,\"0,1\",\"say \"\"so\"\"\",,\" x\",\"two\nlines\"\r\n");
     }
 }

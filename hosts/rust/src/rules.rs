@@ -4,7 +4,7 @@ use crate::handles::NodeId;
 use crate::persons::Persons;
 use crate::records::{Attachment, Bar, Cut, Edge, Records, Status};
 
-/// A rule by its number among the plan's records of its kind.
+/// A rule, by its number in the file.
 #[derive(Clone, Copy, Debug, PartialEq, Eq, Hash, PartialOrd, Ord)]
 pub enum Rule {
     Edge(u8),
@@ -12,6 +12,29 @@ pub enum Rule {
     Attachment(u8),
     Bar(u8),
     Status(u8),
+}
+
+impl Rule {
+    /// What it is called: edge, cut, attachment, bar or status.
+    pub fn kind(self) -> &'static str {
+        match self {
+            Rule::Edge(_) => "edge",
+            Rule::Cut(_) => "cut",
+            Rule::Attachment(_) => "attachment",
+            Rule::Bar(_) => "bar",
+            Rule::Status(_) => "status",
+        }
+    }
+
+    pub fn number(self) -> u8 {
+        match self {
+            Rule::Edge(number)
+            | Rule::Cut(number)
+            | Rule::Attachment(number)
+            | Rule::Bar(number)
+            | Rule::Status(number) => number,
+        }
+    }
 }
 
 /// What a rule says of persons and conditions.

@@ -1,0 +1,41 @@
+//! Which folders are asked for: those of the command line, and those that the standard input names.
+
+use std::ffi::OsString;
+use std::io::{self, BufRead};
+use std::os::unix::ffi::OsStringExt;
+use std::path::{Path, PathBuf};
+
+/// Whether a word stands for the standard input.
+pub fn is_input(word: &Path) -> bool {
+    word.as_os_str() == "-"
+}
+
+/// The words in order, `-` replaced by the lines of the standard input, each as it comes.
+pub fn all(words: Vec<PathBuf>) -> impl Iterator<Item = io::Result<PathBuf>> {
+    words.into_iter().flat_map(|word| -> Box<dyn Iterator<Item = io::Result<PathBuf>>> {
+        match is_input(&word) {
+            true => Box::new(lines(io::stdin().lock())),
+            false => Box::new(std::iter::once(Ok(word))),
+        }
+    })
+}
+
+/// Empty lines name nothing; a name may hold any byte but a line feed.
+fn lines(input: impl BufRead) -> impl Iterator<Item = io::Result<PathBuf>> {
+    let lines = input.split(b'\n');
+    let filled = lines.filter(|line| line.as_ref().map_or(true, |line| !line.is_empty()));
+    filled.map(|line| line.map(|bytes| PathBuf::from(OsString::from_vec(bytes))))
+}
+
+#[cfg(test)]
+mod tests {
+    use super::*;
+
+    #[test]
+    fn one_name_to_a_line() {
+        let input: &[u8] = b"a\n\nb c\n\xff";
+        let named: Vec<PathBuf> = lines(input).map(|line| line.expect("a line")).collect();
+        let last = PathBuf::from(OsString::from_vec(vec![0xff]));
+        assert_eq!(named, [PathBuf::from("a"), PathBuf::from("b c"), last]);
+    }
+}
