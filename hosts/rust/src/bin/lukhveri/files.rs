@@ -85,6 +85,13 @@ pub fn names_beside(plan: &Path) -> Names {
     })
 }
 
+/// Says which names of the file are for what is not there.
+pub fn tell_warnings(names: &Names, path: &Path, plan: &Plan, case: Option<&CaseRecords>) {
+    let warnings = pending::name_warnings(names, plan, case);
+    let lines = warnings.iter().map(|warning| format!("{}: warning: {warning}", path.display()));
+    lines.for_each(|line| complain(&line));
+}
+
 /// What a command on a folder reads.
 pub struct Inputs {
     folder: PathBuf,
@@ -100,10 +107,7 @@ impl Inputs {
         let names = read_names(folder).map_err(|fault| Trouble::of_file(&path, fault))?;
         if let Ok(plan) = Plan::read(&inputs.plan) {
             let case = CaseRecords::read(&inputs.case);
-            let warnings = pending::name_warnings(&names, &plan, case.as_ref());
-            warnings.iter().for_each(|warning| {
-                complain(&format!("{}: warning: {warning}", path.display()));
-            });
+            tell_warnings(&names, &path, &plan, case.as_ref());
         }
         Ok(Inputs { names, ..inputs })
     }

@@ -5,7 +5,7 @@ use std::path::Path;
 use lukhveri::{CaseRecords, Fact, Persons, Plan};
 
 use crate::arguments::Arguments;
-use crate::files::{names_beside, read_plan};
+use crate::files::{names_beside, read_plan, tell_warnings};
 use crate::json::Json;
 use crate::outcome::{Outcome, Trouble};
 use crate::output::{complain, print};
@@ -136,6 +136,7 @@ pub fn run(arguments: &Arguments) -> Result<Outcome, Trouble> {
             Ok(outcome)
         }
         Ok(plan) => {
+            tell_warnings(&names, &path.with_file_name("names.txt"), &plan, None);
             let (counts, warnings) = (Counts::of(&plan), pending::warnings(&plan, &names));
             print(&match as_json {
                 true => json(&counts, &warnings),
