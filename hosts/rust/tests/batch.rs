@@ -194,7 +194,7 @@ fn plans_that_are_refused() {
     let said = on("batch", folder.path(), &["--rows"]);
     assert_eq!(said.status, Some(1));
     assert!(
-        said.out.contains("/a.bin,,,,,,,,,1,1,\"plan, record 1 (a node, at byte 3)"),
+        said.out.contains("/a.bin,,,,,,,,,1,1,\"plan, record 1 (at byte 3), node 0: the file ends before its last field does\""),
         "{said:?}"
     );
     let plan = folder.path().join("plan.bin");

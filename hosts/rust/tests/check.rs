@@ -52,7 +52,7 @@ fn a_refusal_says_what_would_mend_it() {
     let said = run(&["check", path]);
     assert_eq!(said.status, Some(1));
     assert!(said.out.starts_with("Refused 1: plan, record "), "{}", said.out);
-    assert!(said.out.contains("\nWhat is wrong: its citation has 64, outside 0 to 63.\n"));
+    assert!(said.out.contains(": its citation has 64, outside 0 to 63.\n"));
     assert!(said.out.contains("\nWhat would mend it: "), "{}", said.out);
     assert!(said.err.starts_with(&format!("lukhveri: {path}: refused 1, record ")), "{said:?}");
     let said = run(&["check", "--json", path]);

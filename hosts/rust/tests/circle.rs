@@ -14,8 +14,8 @@ fn a_circle_and_the_facts_that_touch_it() {
     let wanted = "The circle of Nana: Eka, Luka and Nana.
 
 Facts that touch this circle:
-  Fact 0 \"Nana asked to be counted apart\": cut 0 \"Nana's wish\" uses it.
-  Fact 2 \"Eka and Nana eat from one pot\": it names Eka and Nana; edge 1 \"the one pot\" uses it.
+  \"Nana asked to be counted apart\": the cut \"Nana's wish\" asks it.
+  \"Eka and Nana eat from one pot\": it is about Eka and Nana; the edge \"the one pot\" asks it.
 ";
     assert_eq!(said.out, wanted);
     assert_eq!(said, on("circle", &example("kitchen"), &["2"]));
@@ -65,7 +65,9 @@ fn a_constraint_joins_all() {
     case.extend([5, 1, 1]);
     folder.write("case.bin", &case);
     let said = on("circle", folder.path(), &["3"]);
-    assert!(said.out.contains("a constraint of the case uses it, so it touches the whole roster"));
+    assert!(
+        said.out.contains("constraint 0 of the case uses it, and so it touches the whole roster")
+    );
     let said = on("circle", folder.path(), &["3", "--json"]);
     assert_eq!(json::read(&said.out).at("circle").list().len(), 5);
 }

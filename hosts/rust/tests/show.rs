@@ -16,7 +16,7 @@ fn a_world_of_the_kitchen() {
     assert_eq!((said.err.as_str(), said.status), ("", Some(0)));
     let wanted = [
         "World 3 of 4, counted from 0.\n",
-        "\nWhat makes it:\n  Decision 0 \"does Nana's wish outweigh the one pot?\": true, the cut overrides the edge\n  Fact 2 \"Eka and Nana eat from one pot\": true\n",
+        "\nWhat makes it:\n  The decision \"does Nana's wish outweigh the one pot?\": yes, the cut overrides the edge\n  \"Eka and Nana eat from one pot\": yes\n",
         "\nWhat everyone is in it:\n",
         "\nWhat happens in it:\n",
     ];

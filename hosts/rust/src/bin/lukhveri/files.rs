@@ -37,6 +37,13 @@ pub fn names_beside(plan: &Path) -> Names {
     })
 }
 
+/// Says which names of the file are for what is not there.
+pub fn tell_warnings(names: &Names, path: &Path, plan: &Plan, case: Option<&CaseRecords>) {
+    let warnings = names.warnings(plan, case);
+    let lines = warnings.iter().map(|warning| format!("{}: warning: {warning}", path.display()));
+    lines.for_each(|line| complain(&line));
+}
+
 /// What a command on a folder reads.
 pub struct Inputs {
     folder: PathBuf,
@@ -52,10 +59,7 @@ impl Inputs {
         let names = read_names(folder).map_err(trouble)?;
         if let Ok(plan) = Plan::read(&inputs.plan) {
             let case = CaseRecords::read(&inputs.case);
-            let warnings = names.warnings(&plan, case.as_ref());
-            warnings.iter().for_each(|warning| {
-                complain(&format!("{}: warning: {warning}", path.display()));
-            });
+            tell_warnings(&names, &path, &plan, case.as_ref());
         }
         Ok(Inputs { names, ..inputs })
     }

@@ -27,7 +27,7 @@ impl<'a> Refused<'a> {
         self.refusal.finding(self.plan, self.case, self.names)
     }
 
-    /// What is refused, with the names of what it is about.
+    /// What is refused and what exactly is wrong, with the names of what it is about.
     fn words(&self) -> String {
         self.refusal.in_words(self.plan, self.case, self.names)
     }
@@ -44,21 +44,12 @@ impl<'a> Refused<'a> {
     pub fn reason(&self) -> String {
         let words = self.words();
         let number = format!("refused {}: ", self.refusal.number());
-        let words = words.strip_prefix(&number).unwrap_or(&words);
-        match self.finding() {
-            Some(finding) => format!("{words}: {finding}"),
-            None => words.to_string(),
-        }
+        words.strip_prefix(&number).unwrap_or(&words).to_string()
     }
 
     fn sentences(&self) -> String {
-        let finding = self.finding().map(|what| format!("What is wrong: {what}.\n"));
-        format!(
-            "{}.\n{}What would mend it: {}.\n",
-            sentence(&self.words()),
-            finding.unwrap_or_default(),
-            self.refusal.remedy()
-        )
+        let remedy = self.refusal.remedy();
+        format!("{}.\nWhat would mend it: {remedy}.\n", sentence(&self.words()))
     }
 
     pub fn json(&self) -> Json {

@@ -6,7 +6,7 @@ use lukhveri::names::Names;
 use lukhveri::{CaseRecords, Fact, Persons, Plan};
 
 use crate::arguments::Arguments;
-use crate::files::{names_beside, read_plan};
+use crate::files::{names_beside, read_plan, tell_warnings};
 use crate::json::Json;
 use crate::outcome::{Outcome, Trouble};
 use crate::output::{complain, print};
@@ -140,6 +140,7 @@ pub fn run(arguments: &Arguments) -> Result<Outcome, Trouble> {
             Ok(outcome)
         }
         Ok(plan) => {
+            tell_warnings(&names, &path.with_file_name("names.txt"), &plan, None);
             let (counts, warnings) = (Counts::of(&plan), warnings(&plan, &names));
             print(&match as_json {
                 true => json(&counts, &warnings),
