@@ -35,8 +35,9 @@ fn block(mark: &str) -> String {
 #[test]
 fn explain_says_so() {
     let mut explain = Command::new(env!("CARGO"));
-    explain.args(["run", "--quiet", "--release", "--bin", "explain", "--manifest-path"]);
-    explain.arg(root().join("hosts/rust/Cargo.toml")).arg(root().join("examples/kitchen"));
+    explain.args(["run", "--quiet", "--release", "--manifest-path"]);
+    explain.arg(root().join("hosts/rust/Cargo.toml"));
+    explain.args(["--", "explain"]).arg(root().join("examples/kitchen"));
     let said = explain.output().expect("explain").stdout;
     assert!(String::from_utf8_lossy(&said).contains(&block("explain kitchen")));
 }
