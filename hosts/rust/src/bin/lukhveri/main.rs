@@ -24,6 +24,7 @@ mod refused;
 mod rules;
 mod version;
 mod worlds;
+mod wrap;
 
 use std::ffi::OsString;
 use std::process::ExitCode;

@@ -10,7 +10,7 @@ use crate::files::Inputs;
 use crate::json::Json;
 use crate::naming::Naming;
 use crate::outcome::{Outcome, Trouble};
-use crate::output::print;
+use crate::output::{print, print_sentences};
 use crate::pending;
 use crate::person;
 use crate::refused::Refused;
@@ -106,9 +106,9 @@ pub fn run(arguments: &Arguments) -> Result<Outcome, Trouble> {
     let case = CaseRecords::read(&inputs.case).unwrap_or_default();
     let naming = Naming { plan: &plan, names: &inputs.names };
     let facts = touching(naming, &case, circle);
-    print(&match as_json {
-        true => json(naming, person, circle, &facts),
-        false => text(naming, person, circle, &facts),
-    })?;
+    match as_json {
+        true => print(&json(naming, person, circle, &facts))?,
+        false => print_sentences(&text(naming, person, circle, &facts))?,
+    }
     Ok(Outcome::Done)
 }

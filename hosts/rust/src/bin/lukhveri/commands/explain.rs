@@ -7,7 +7,7 @@ use crate::files::Inputs;
 use crate::json::Json;
 use crate::lines;
 use crate::outcome::{Outcome, Trouble};
-use crate::output::print;
+use crate::output::{print, print_sentences};
 use crate::pending::{self, Paragraph, Unexplained};
 use crate::person;
 use crate::refused::Refused;
@@ -59,10 +59,10 @@ pub fn run(arguments: &Arguments) -> Result<Outcome, Trouble> {
             let wanted = arguments.has("--officer");
             let officer =
                 wanted.then(|| pending::officer(&inputs.plan, &inputs.case, &inputs.names));
-            print(&match as_json {
-                true => json(&paragraphs, &inputs, officer),
-                false => text(&paragraphs, officer),
-            })?;
+            match as_json {
+                true => print(&json(&paragraphs, &inputs, officer))?,
+                false => print_sentences(&text(&paragraphs, officer))?,
+            }
             Ok(Outcome::Done)
         }
     }

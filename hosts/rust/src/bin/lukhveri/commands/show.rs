@@ -11,7 +11,7 @@ use crate::json::Json;
 use crate::lines;
 use crate::naming::Naming;
 use crate::outcome::{Outcome, Trouble};
-use crate::output::print;
+use crate::output::{print, print_sentences};
 use crate::pending;
 use crate::refused::Refused;
 use crate::worlds::{Choice, Subject, Worlds};
@@ -126,7 +126,10 @@ pub fn run(arguments: &Arguments) -> Result<Outcome, Trouble> {
             let naming = Naming { plan: &plan, names: &inputs.names };
             let values = Worlds::of(naming, &case).values(number).unwrap_or_default();
             let world = World { number, inputs: &inputs, plan: &plan, values, shown: &shown };
-            print(&if as_json { world.json() } else { world.text() })?;
+            match as_json {
+                true => print(&world.json())?,
+                false => print_sentences(&world.text())?,
+            }
             Ok(Outcome::Done)
         }
     }
