@@ -19,6 +19,7 @@ mod output;
 mod person;
 mod refused;
 mod version;
+mod wrap;
 
 use std::ffi::OsString;
 use std::process::ExitCode;

@@ -1,13 +1,22 @@
 //! What goes to the standard output and to the standard error.
 
-use std::io::{self, Write};
+use std::io::{self, IsTerminal, Write};
 
 use crate::outcome::Trouble;
+use crate::wrap::wrapped;
 
 /// Writes a whole text to the standard output.
 pub fn print(text: &str) -> Result<(), Trouble> {
     let mut output = io::stdout().lock();
     output.write_all(text.as_bytes()).and_then(|()| output.flush()).map_err(Trouble::Output)
+}
+
+/// Writes sentences, one a line; where a terminal shows them, long ones end between words.
+pub fn print_sentences(text: &str) -> Result<(), Trouble> {
+    match io::stdout().is_terminal() {
+        true => print(&wrapped(text)),
+        false => print(text),
+    }
 }
 
 /// One line of the standard error. What cannot be written there cannot be told anywhere.

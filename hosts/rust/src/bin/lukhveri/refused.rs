@@ -8,7 +8,7 @@ use lukhveri::{File, Refusal};
 use crate::files::Inputs;
 use crate::json::Json;
 use crate::outcome::{Outcome, Trouble};
-use crate::output::{complain, print};
+use crate::output::{complain, print, print_sentences};
 
 /// A refusal, and the bytes and names that its words are made from.
 pub struct Refused<'a> {
@@ -65,11 +65,10 @@ impl<'a> Refused<'a> {
 
     /// Prints it as the result of a command, and says on the standard error which file it is of.
     pub fn tell(&self, path: &Path, json: bool) -> Result<Outcome, Trouble> {
-        let text = match json {
-            true => Json::object([("refusal", self.json())]).line(),
-            false => self.sentences(),
-        };
-        print(&text)?;
+        match json {
+            true => print(&Json::object([("refusal", self.json())]).line())?,
+            false => print_sentences(&self.sentences())?,
+        }
         let (number, record) = (self.refusal.number(), self.refusal.record());
         complain(&match self.refusal.place {
             Some(_) => format!("{}: refused {number}, record {record}", path.display()),

@@ -9,7 +9,7 @@ use crate::arguments::Arguments;
 use crate::files::{names_beside, read_plan, tell_warnings};
 use crate::json::Json;
 use crate::outcome::{Outcome, Trouble};
-use crate::output::{complain, print};
+use crate::output::{complain, print, print_sentences};
 use crate::refused::Refused;
 
 /// What is in a plan: how many of each thing.
@@ -142,10 +142,10 @@ pub fn run(arguments: &Arguments) -> Result<Outcome, Trouble> {
         Ok(plan) => {
             tell_warnings(&names, &path.with_file_name("names.txt"), &plan, None);
             let (counts, warnings) = (Counts::of(&plan), warnings(&plan, &names));
-            print(&match as_json {
-                true => json(&counts, &warnings),
-                false => sentences(&counts, &warnings),
-            })?;
+            match as_json {
+                true => print(&json(&counts, &warnings))?,
+                false => print_sentences(&sentences(&counts, &warnings))?,
+            }
             Ok(Outcome::Done)
         }
     }

@@ -11,7 +11,7 @@ use crate::arguments::Arguments;
 use crate::files::Inputs;
 use crate::json::Json;
 use crate::outcome::{Outcome, Trouble};
-use crate::output::print;
+use crate::output::{print, print_sentences};
 use crate::person;
 use crate::refused::Refused;
 
@@ -78,9 +78,9 @@ pub fn run(arguments: &Arguments) -> Result<Outcome, Trouble> {
     let case = CaseRecords::read(&inputs.case).unwrap_or_default();
     let things = Things { plan: &plan, names: &inputs.names };
     let facts = touching(&plan, &case, circle);
-    print(&match as_json {
-        true => json(things, person, circle, &facts),
-        false => text(things, person, circle, &facts),
-    })?;
+    match as_json {
+        true => print(&json(things, person, circle, &facts))?,
+        false => print_sentences(&text(things, person, circle, &facts))?,
+    }
     Ok(Outcome::Done)
 }

@@ -11,7 +11,7 @@ use crate::files::Inputs;
 use crate::json::Json;
 use crate::lines;
 use crate::outcome::{Outcome, Trouble};
-use crate::output::print;
+use crate::output::{print, print_sentences};
 use crate::person;
 use crate::refused::Refused;
 
@@ -76,10 +76,10 @@ pub fn run(arguments: &Arguments) -> Result<Outcome, Trouble> {
         Err(error) => Err(Trouble::of_file(&inputs.path("case.bin"), error)),
         Ok(paragraphs) => {
             let officer = arguments.has("--officer").then(|| officer(&inputs)).flatten();
-            print(&match as_json {
-                true => json(&paragraphs, &inputs, officer),
-                false => text(&paragraphs, officer),
-            })?;
+            match as_json {
+                true => print(&json(&paragraphs, &inputs, officer))?,
+                false => print_sentences(&text(&paragraphs, officer))?,
+            }
             Ok(Outcome::Done)
         }
     }

@@ -12,7 +12,7 @@ use crate::files::Inputs;
 use crate::json::Json;
 use crate::lines;
 use crate::outcome::{Outcome, Trouble};
-use crate::output::print;
+use crate::output::{print, print_sentences};
 use crate::refused::Refused;
 
 /// A world: the values that make it, and what comes about in it.
@@ -132,7 +132,10 @@ pub fn run(arguments: &Arguments) -> Result<Outcome, Trouble> {
             let case = CaseRecords::read(&inputs.case).unwrap_or_default();
             let values = values(&plan, &case, number).unwrap_or_default();
             let world = World { number, inputs: &inputs, plan: &plan, values, shown: &shown };
-            print(&if as_json { world.json() } else { world.text() })?;
+            match as_json {
+                true => print(&world.json())?,
+                false => print_sentences(&world.text())?,
+            }
             Ok(Outcome::Done)
         }
     }
