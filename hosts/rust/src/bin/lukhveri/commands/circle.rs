@@ -15,41 +15,67 @@ use crate::output::{print, print_sentences};
 use crate::person;
 use crate::refused::Refused;
 
-fn text(things: Things, person: u8, circle: Persons, facts: &[Touching]) -> String {
-    let name = things.names.person(person);
-    let within = match circle.count() {
-        1 => format!("{name} alone"),
-        _ => things.names.persons(circle),
-    };
-    let rows = facts.iter().map(|touching| {
-        let fact = sentence(&things.fact(touching.fact));
-        format!("  {fact}: {}.\n", words::touching(things.plan, things.names, touching).join("; "))
-    });
-    let rows: String = rows.collect();
-    let heading = match rows.is_empty() {
-        true => "No fact touches this circle.",
-        false => "Facts that touch this circle:",
-    };
-    let circle = sentence(&format!("the circle of {name}: {within}."));
-    format!("{circle}\n\n{heading}\n{rows}")
+/// A person's circle, and the facts that touch it.
+struct Circle<'a> {
+    things: Things<'a>,
+    person: u8,
+    persons: Persons,
+    roster: Persons,
+    facts: Vec<Touching>,
 }
 
-fn json(things: Things, person: u8, circle: Persons, facts: &[Touching]) -> String {
-    let named = |number: u8| {
-        let name = things.names.find("person", number).into();
-        Json::object([("person", number.into()), ("name", name)])
-    };
-    let facts = facts.iter().map(|touching| {
-        Json::object([
-            ("fact", touching.fact.into()),
-            ("name", things.names.find("fact", touching.fact).into()),
-            ("why", Json::list(words::touching(things.plan, things.names, touching))),
-        ])
-    });
-    named(person)
-        .with("circle", Json::list(circle.into_iter().map(named)))
-        .with("facts", Json::list(facts))
-        .line()
+impl Circle<'_> {
+    fn why(&self, touching: &Touching) -> Vec<String> {
+        words::touching(self.things.plan, self.things.names, touching)
+    }
+
+    fn text(&self) -> String {
+        let names = self.things.names;
+        let name = names.person(self.person);
+        let within = match self.persons.count() {
+            1 => format!("{name} alone"),
+            _ => names.persons(self.persons),
+        };
+        let circle = sentence(&format!("the circle of {name}: {within}."));
+        let off = self.persons.without(self.roster);
+        let off = match off.is_empty() {
+            true => String::new(),
+            false => format!("Not on the roster: {}.\n", names.persons(off)),
+        };
+        format!("{circle}\n{off}\n{}", self.facts_text())
+    }
+
+    fn facts_text(&self) -> String {
+        let rows = self.facts.iter().map(|touching| {
+            let fact = sentence(&self.things.fact(touching.fact));
+            format!("  {fact}: {}.\n", self.why(touching).join("; "))
+        });
+        let rows: String = rows.collect();
+        match rows.is_empty() {
+            true => "No fact touches this circle.\n".to_string(),
+            false => format!("Facts that touch this circle:\n{rows}"),
+        }
+    }
+
+    fn named(&self, number: u8) -> Json {
+        let name = self.things.names.find("person", number).into();
+        let on_roster = self.roster.holds(number).into();
+        Json::object([("person", number.into()), ("name", name), ("on_roster", on_roster)])
+    }
+
+    fn json(&self) -> String {
+        let facts = self.facts.iter().map(|touching| {
+            Json::object([
+                ("fact", touching.fact.into()),
+                ("name", self.things.names.find("fact", touching.fact).into()),
+                ("why", Json::list(self.why(touching))),
+            ])
+        });
+        self.named(self.person)
+            .with("circle", Json::list(self.persons.into_iter().map(|person| self.named(person))))
+            .with("facts", Json::list(facts))
+            .line()
+    }
 }
 
 /// A plan or a case that cannot be read has no circles; a case that is refused for another reason has.
@@ -78,9 +104,10 @@ pub fn run(arguments: &Arguments) -> Result<Outcome, Trouble> {
     let case = CaseRecords::read(&inputs.case).unwrap_or_default();
     let things = Things { plan: &plan, names: &inputs.names };
     let facts = touching(&plan, &case, circle);
+    let circle = Circle { things, person, persons: circle, roster: case.roster, facts };
     match as_json {
-        true => print(&json(things, person, circle, &facts))?,
-        false => print_sentences(&text(things, person, circle, &facts))?,
+        true => print(&circle.json())?,
+        false => print_sentences(&circle.text())?,
     }
     Ok(Outcome::Done)
 }
