@@ -1,5 +1,7 @@
 //! The rules that name a decided person one by one: cuts, bars and statuses, what they do and why they do nothing.
 
+use std::collections::BTreeSet;
+
 use crate::line::{Line, Role};
 use crate::names::listed;
 use crate::near::Acts;
@@ -29,7 +31,7 @@ fn stands(mask: u64, number: u8) -> bool {
 }
 
 /// Whether a rule acted: an edge froze, a cut was applied, an attachment, a bar or a status took effect.
-fn acted(acts: &Acts, rule: Rule) -> bool {
+pub(crate) fn acted(acts: &Acts, rule: Rule) -> bool {
     match rule {
         Rule::Edge(number) => stands(acts.frozen, number),
         Rule::Cut(number) => stands(acts.applied, number),
@@ -108,24 +110,37 @@ impl Telling<'_> {
                 format!("Whether {cut} acts hangs on what is open, and changes nothing for {name}.")
             }
             (When::Never, When::Never) => format!("{cut} does not act: {}.", self.why_not(rule)),
-            (When::Never, _) => format!("{cut} does not act: {}.", self.stopped(rule)),
+            (When::Never, When::Always) => format!("{cut} does not act: {}.", self.stopped(rule)),
+            (When::Never, When::Sometimes) => {
+                format!("{cut} does not act: where it holds, {}.", self.stopped(rule))
+            }
         }
     }
 
-    /// What stops a cut whose condition holds.
+    /// What stops a cut in the worlds in which its condition holds: edges that block its set, or a cut that goes first.
     fn stopped(&self, rule: Rule) -> String {
-        let blocked = self.near.worlds().iter().flat_map(|world| &world.acts.blocked);
-        let mut edges: Vec<u8> =
-            blocked.filter(|(cut, _)| Rule::Cut(*cut) == rule).map(|(_, edge)| *edge).collect();
-        edges.sort_unstable();
-        edges.dedup();
-        match edges.is_empty() {
-            true => "it gives way to a cut that goes first".to_string(),
-            false => format!(
-                "it is blocked by {}",
-                listed(edges.into_iter().map(|edge| self.things.edge(edge)))
-            ),
+        let holding = self.near.worlds().iter().zip(self.holding(rule));
+        let blocking: Vec<BTreeSet<u8>> = holding
+            .filter(|(_, holds)| *holds)
+            .map(|(world, _)| self.blocking(&world.acts, rule))
+            .collect();
+        let edges: BTreeSet<u8> = blocking.iter().flatten().copied().collect();
+        let blocked = listed(edges.iter().map(|edge| self.things.edge(*edge)));
+        let first = "gives way to a cut that goes first";
+        match (edges.is_empty(), blocking.iter().any(BTreeSet::is_empty)) {
+            (true, _) => format!("it {first}"),
+            (false, true) => format!("it is blocked by {blocked}, or {first}"),
+            (false, false) => format!("it is blocked by {blocked}"),
         }
+    }
+
+    /// The edges that block a cut's set; the event may be that of another cut of the same set.
+    fn blocking(&self, acts: &Acts, rule: Rule) -> BTreeSet<u8> {
+        let cuts = &self.near.plan().records().cuts;
+        let members = |number: u8| cuts.get(usize::from(number)).map(|cut| cut.members);
+        let own = members(rule.number());
+        let blocked = acts.blocked.iter().filter(|(cut, _)| members(*cut) == own);
+        blocked.map(|(_, edge)| *edge).collect()
     }
 
     /// A bar or a status that names a person and does nothing to that person.
@@ -141,11 +156,6 @@ impl Telling<'_> {
             (When::Never, _, Rule::Bar(_)) => Some(format!(
                 "{words} spares {name}: where it holds, all whom it names came by attachments."
             )),
-            (When::Sometimes, ..)
-                if !matches!(line.role, Role::Barred | Role::Excluded | Role::None) =>
-            {
-                Some(format!("Whether {words} acts hangs on what is open."))
-            }
             _ => None,
         }
     }

@@ -149,6 +149,49 @@ fn sentence(text: &str, answer: &Answer) -> Result<(), String> {
     Ok(())
 }
 
+/// A cut that gives way is preceded, through others perhaps, by one that it overlaps; a blocked one is blocked by that edge in some world.
+fn stopped(text: &str, plan: &Plan, answer: &Answer) -> Result<(), String> {
+    let Some((cut, why)) = text.split_once(" does not act: ") else {
+        return Ok(());
+    };
+    let cut = number(&cut.to_lowercase(), "cut ").map(usize::from);
+    if let Some(cut) = cut.filter(|_| why.contains("gives way"))
+        && !(0..plan.cuts.len()).any(|other| {
+            let overlap = plan.cuts[cut].members & plan.cuts[other].members != 0;
+            other != cut && overlap && preceded(plan, other) >> cut & 1 == 1
+        })
+    {
+        return Err(format!("untrue: {text}"));
+    }
+    let edge = why.split_once("is blocked by ").and_then(|(_, edge)| number(edge, "edge "));
+    let blocks = |edge: u8| {
+        let is =
+            |event: &Event| matches!(event, Event::Blocked { edge: other, .. } if *other == edge);
+        answer.events.iter().any(is)
+    };
+    match edge {
+        Some(edge) if !blocks(edge) => Err(format!("untrue: {text}")),
+        _ => Ok(()),
+    }
+}
+
+/// The cuts that a cut precedes, through others too.
+fn preceded(plan: &Plan, cut: usize) -> u64 {
+    let direct = |cut: usize| {
+        plan.cuts[cut].precedes.iter().flatten().fold(0u64, |all, other| all | 1 << other)
+    };
+    let mut all = direct(cut);
+    loop {
+        let next = (0..plan.cuts.len())
+            .filter(|cut| all >> cut & 1 == 1)
+            .fold(all, |all, cut| all | direct(cut));
+        if next == all {
+            return all;
+        }
+        all = next;
+    }
+}
+
 fn case(random: &mut Random, done: &mut u64) -> Result<(), String> {
     let input = strangers::input(random);
     let (plan, case) = (input.plan.encode(), input.case.encode());
@@ -176,7 +219,13 @@ fn case(random: &mut Random, done: &mut u64) -> Result<(), String> {
                 return Err(format!("person {}: nothing marks the person", line.person));
             }
             let paragraph = words::paragraph(&near, &names, line.person).ok_or("no paragraph")?;
-            paragraph.sentences.iter().try_for_each(|text| sentence(text, &answer))?;
+            for text in &paragraph.sentences {
+                sentence(text, &answer)?;
+                stopped(text, &input.plan, &answer)?;
+                if text.contains("but nothing") || text.contains(" of nobody") {
+                    return Err(format!("without a reason: {text}"));
+                }
+            }
         }
     }
     Ok(())
