@@ -17,7 +17,7 @@ fn refusal(inputs: &Inputs) -> Option<Refusal> {
     lukhveri::answer_into(&inputs.plan, &inputs.case, &mut lines, &mut events).err()
 }
 
-/// The number of a word; null for the dash of a missing block, which has no numbers.
+/// The numbers of a block; none for the dash of a missing one.
 fn numbers(word: Option<&str>) -> Vec<u64> {
     let parts = word.unwrap_or_default().split(',');
     parts.filter_map(|part| part.parse().ok()).collect()
