@@ -81,6 +81,22 @@ fn files_that_are_no_plan() {
     assert!(said.out.starts_with("Refused 3: plan, record 0 (where the file ends, at byte 0)"));
 }
 
+/// A name for what is not there, and what is odd, are said and stop nothing.
+#[test]
+fn warnings() {
+    let folder = Folder::new("check-warnings");
+    let path = folder.path().join("plan.bin");
+    folder.write("plan.bin", &[1, 1, 1, 2, 0, 3, 1, 0, 4, 15, 2, 2, 0, 5]);
+    folder.write("names.txt", b"person 2 Vera\nfact 3 what?\n");
+    let said = run(&["check".as_ref(), path.as_os_str()]);
+    assert_eq!(said.status, Some(0), "{said:?}");
+    assert!(said.err.contains("names.txt: warning: line 2: fact 3 is named what?"), "{said:?}");
+    assert!(said.out.contains(" warnings:\n    ") && said.out.contains("Vera"), "{said:?}");
+    let said = run(&["check".as_ref(), path.as_os_str(), "--json".as_ref()]);
+    let warnings = json::read(&said.out).at("warnings").clone();
+    assert!(warnings.list().iter().any(|it| it.at("code").text() == "self-edge"), "{said:?}");
+}
+
 /// Names stand in words alone: a fault in them is said and stops nothing.
 #[test]
 fn faulty_names_beside_a_plan() {
