@@ -2,12 +2,13 @@
 
 use crate::build_error::{BuildError, at_most, within};
 use crate::case::Case;
+use crate::case_records::CaseRecords;
 use crate::handles::{BooleanId, NodeId, RelationId};
 use crate::limits;
 use crate::numbers::Paper;
 use crate::persons::Persons;
 use crate::plan::Plan;
-use crate::write::Writer;
+use crate::write::{write_boolean, write_constraint, write_family, write_relation};
 
 /// Which group of people in which period a case is about: the office's numbers for them, 1 to 255.
 #[derive(Clone, Copy, Debug, PartialEq, Eq, Hash)]
@@ -189,32 +190,39 @@ impl<'a> CaseBuilder<'a> {
     /// The case as it stands, with its bytes; the builder can go on.
     pub fn finish(&self) -> Result<Case, BuildError> {
         let mut bytes = Vec::new();
-        self.heading().finish(&mut bytes);
-        self.families.iter().for_each(|family| write_family(family).finish(&mut bytes));
+        self.heading().write_heading().finish(&mut bytes);
+        for family in &self.families {
+            let complete = family.complete.map(|paper| paper.0);
+            write_family(family.number, family.scope, complete).finish(&mut bytes);
+        }
         for boolean in &self.booleans {
-            let number = self.fact_number(boolean.fact)?;
-            write_boolean(boolean, number).finish(&mut bytes);
+            let told: Vec<(bool, u8)> =
+                boolean.observations.iter().map(|&(value, paper)| (value, paper.0)).collect();
+            let (number, unknown) = (self.fact_number(boolean.fact)?, boolean.unknown);
+            write_boolean(number, unknown.map(|paper| paper.0), &told).finish(&mut bytes);
         }
         for &(fact, value, paper) in &self.relations {
             self.family_told(fact)?;
-            let writer = Writer::new(4).byte(0, self.fact_number(fact)?);
-            writer.byte(1, u8::from(value)).byte(2, paper.0).finish(&mut bytes);
+            write_relation(self.fact_number(fact)?, value, paper.0).finish(&mut bytes);
         }
         for &node in &self.constraints {
-            Writer::new(5).byte(0, self.node_number(node)?).finish(&mut bytes);
+            write_constraint(self.node_number(node)?).finish(&mut bytes);
         }
         Ok(Case::of(bytes))
     }
 
-    fn heading(&self) -> Writer {
-        Writer::new(1)
-            .byte(0, self.plan.records().relation)
-            .byte(1, self.frame.scope)
-            .byte(2, self.frame.segment)
-            .flag(3, self.segment_complete)
-            .bytes(4, &self.roster.mask().to_le_bytes())
-            .optional(5, self.complete.map(|paper| paper.0))
-            .bytes(6, &self.most_worlds.to_le_bytes())
+    /// The heading alone.
+    fn heading(&self) -> CaseRecords {
+        CaseRecords {
+            relation: self.plan.records().relation,
+            scope: self.frame.scope,
+            segment: self.frame.segment,
+            segment_complete: self.segment_complete,
+            roster: self.roster,
+            complete: self.complete.map(|paper| paper.0),
+            most_worlds: self.most_worlds,
+            ..CaseRecords::default()
+        }
     }
 
     pub(crate) fn fact_number(&self, fact: impl Into<crate::FactId>) -> Result<u8, BuildError> {
@@ -248,19 +256,6 @@ impl<'a> CaseBuilder<'a> {
         }
         self.booleans.get_mut(at).ok_or(BuildError::NotOfThisPlan { what: "fact" })
     }
-}
-
-fn write_family(family: &Family) -> Writer {
-    let writer = Writer::new(2).byte(0, family.number).optional(1, family.scope);
-    writer.optional(2, family.complete.map(|paper| paper.0))
-}
-
-fn write_boolean(boolean: &Boolean, number: u8) -> Writer {
-    let observations = boolean.observations.iter();
-    let pairs: Vec<[u8; 2]> =
-        observations.map(|&(value, paper)| [u8::from(value), paper.0]).collect();
-    let writer = Writer::new(3).byte(0, number);
-    writer.optional(1, boolean.unknown.map(|paper| paper.0)).some(2, &pairs)
 }
 
 pub(crate) fn framed(frame: Frame) -> Result<Frame, BuildError> {

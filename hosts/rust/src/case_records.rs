@@ -2,7 +2,7 @@
 
 use crate::persons::Persons;
 use crate::read::{File, Reader, Record};
-use crate::write::Writer;
+use crate::write::{Writer, write_boolean, write_constraint, write_family, write_relation};
 
 /// What is told of a family.
 #[derive(Clone, Copy, Debug, PartialEq, Eq)]
@@ -63,29 +63,21 @@ impl CaseRecords {
     /// What case.bin holds: these records, one after another. A scope or a segment of 0 is left out.
     pub fn bytes(&self) -> Vec<u8> {
         let mut bytes = Vec::new();
-        self.heading_record().finish(&mut bytes);
+        self.write_heading().finish(&mut bytes);
         for family in &self.families {
-            let writer = Writer::new(2).byte(0, family.number).optional(1, given(family.scope));
-            writer.optional(2, family.complete).finish(&mut bytes);
+            write_family(family.number, given(family.scope), family.complete).finish(&mut bytes);
         }
         for boolean in &self.booleans {
-            let pairs = boolean.observations.iter();
-            let pairs: Vec<[u8; 2]> =
-                pairs.map(|&(value, evidence)| [u8::from(value), evidence]).collect();
-            let writer = Writer::new(3).byte(0, boolean.fact).optional(1, boolean.unknown);
-            writer.some(2, &pairs).finish(&mut bytes);
+            write_boolean(boolean.fact, boolean.unknown, &boolean.observations).finish(&mut bytes);
         }
         for relation in &self.relations {
-            let writer = Writer::new(4).byte(0, relation.fact).byte(1, u8::from(relation.value));
-            writer.byte(2, relation.evidence).finish(&mut bytes);
+            write_relation(relation.fact, relation.value, relation.evidence).finish(&mut bytes);
         }
-        for &node in &self.constraints {
-            Writer::new(5).byte(0, node).finish(&mut bytes);
-        }
+        self.constraints.iter().for_each(|node| write_constraint(*node).finish(&mut bytes));
         bytes
     }
 
-    fn heading_record(&self) -> Writer {
+    pub(crate) fn write_heading(&self) -> Writer {
         Writer::new(1)
             .byte(0, self.relation)
             .optional(1, given(self.scope))

@@ -255,8 +255,8 @@ impl Records {
         edges.chain(defeaters).chain(cuts).chain(rules).chain(bars).chain(statuses)
     }
 
-    /// Everyone whom a rule names.
-    pub(crate) fn rule_persons(&self) -> Persons {
+    /// Everyone whom a rule names: a roster has to hold them.
+    pub fn rule_persons(&self) -> Persons {
         let edges = self.edges.iter().map(Edge::ends);
         let cuts = self.cuts.iter().map(|cut| cut.members);
         let attachments = self.attachments.iter().map(Attachment::persons);

@@ -180,3 +180,21 @@ fn write_status(status: &Status) -> Writer {
         .byte(1, status.condition.number)
         .byte(2, status.citation.0)
 }
+
+pub(crate) fn write_family(number: u8, scope: Option<u8>, complete: Option<u8>) -> Writer {
+    Writer::new(2).byte(0, number).optional(1, scope).optional(2, complete)
+}
+
+pub(crate) fn write_boolean(fact: u8, unknown: Option<u8>, told: &[(bool, u8)]) -> Writer {
+    let pairs: Vec<[u8; 2]> =
+        told.iter().map(|&(value, evidence)| [u8::from(value), evidence]).collect();
+    Writer::new(3).byte(0, fact).optional(1, unknown).some(2, &pairs)
+}
+
+pub(crate) fn write_relation(fact: u8, value: bool, evidence: u8) -> Writer {
+    Writer::new(4).byte(0, fact).byte(1, u8::from(value)).byte(2, evidence)
+}
+
+pub(crate) fn write_constraint(node: u8) -> Writer {
+    Writer::new(5).byte(0, node)
+}

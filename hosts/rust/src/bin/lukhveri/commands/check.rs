@@ -43,7 +43,7 @@ impl Counts {
             attachments: records.attachments.len(),
             bars: records.bars.len(),
             statuses: records.statuses.len(),
-            persons: named_persons(plan),
+            persons: records.rule_persons(),
         }
     }
 
@@ -83,18 +83,6 @@ impl Counts {
 
 fn counted(count: usize, one: &str, more: &str) -> String {
     format!("{count} {}", if count == 1 { one } else { more })
-}
-
-/// Everyone whom a rule names: the roster has to hold them.
-fn named_persons(plan: &Plan) -> Persons {
-    let records = plan.records();
-    let edges = records.edges.iter().map(|edge| edge.ends());
-    let cuts = records.cuts.iter().map(|cut| cut.members);
-    let attachments = records.attachments.iter().map(|rule| rule.persons());
-    let bars = records.bars.iter().map(|bar| bar.members);
-    let statuses = records.statuses.iter().map(|status| status.persons());
-    let all = edges.chain(cuts).chain(attachments).chain(bars).chain(statuses);
-    all.fold(Persons::NOBODY, Persons::union)
 }
 
 /// A short name for programs, and words.
