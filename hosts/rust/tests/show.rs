@@ -47,6 +47,10 @@ fn worlds_that_are_none() {
     let said = on("show", &example("kitchen"), &["4"]);
     assert_eq!(said.status, Some(1));
     assert!(said.out.starts_with("Refused 14: "), "{}", said.out);
+    assert!(
+        said.out
+            .contains("mend it: ask for a world below the count of worlds; where there are none, ")
+    );
     assert_eq!(said.err, "lukhveri: examples/kitchen/case.bin: refused 14\n");
     let said = on("show", &example("kitchen"), &["4", "--json"]);
     assert_eq!(json::read(&said.out).at("refusal").at("number").number(), 14);
