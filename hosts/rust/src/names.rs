@@ -173,8 +173,11 @@ fn look(name: &str) -> String {
     seen.to_lowercase().split_whitespace().collect::<Vec<_>>().join(" ")
 }
 
-/// Whether a name has kind and number in it, as what has no name is called.
+/// Whether a name has kind and number in it, as what has no name is called, or is a number itself.
 fn like_a_number(kind: &str, look: &str) -> bool {
+    if look.chars().all(|c| c.is_ascii_digit()) {
+        return true;
+    }
     let digit = |rest: &str| {
         rest.strip_prefix(' ').is_some_and(|rest| rest.starts_with(|c: char| c.is_ascii_digit()))
     };

@@ -253,9 +253,10 @@ impl Refusal {
                 }
                 _ => "leave out what is not needed, or split the roster",
             },
-            Reason::Incomplete => {
-                "give the record all required fields, and none that exclude each other"
-            }
+            Reason::Incomplete => match self.place {
+                Some(Place { kind: None, .. }) => "write the file anew: it is empty",
+                _ => "give the record all required fields, and none that exclude each other",
+            },
             Reason::NamesNothing => "add what is named, or name something that is there",
             Reason::OutOfOrder => match self.at() {
                 Some((File::Plan, 2)) => "sort the facts and write each once",
@@ -278,7 +279,9 @@ impl Refusal {
                 "lend 29 bytes for each person of the roster; 1,856 always suffice"
             }
             Reason::EventsDoNotFit => "lend more for the events; 1,048,608 bytes always suffice",
-            Reason::NoSuchWorld => "ask for a world below the count that the answer gives",
+            Reason::NoSuchWorld => {
+                "ask for a world below the count of worlds; where there are none, confirm the roster or correct what contradicts the constraints"
+            }
             Reason::Other(_) => "use a program that fits the library",
         }
     }

@@ -155,8 +155,8 @@ fn folders_without_cases() {
     assert_eq!(said.out.lines().count(), 3, "the folder that has cases is done: {}", said.out);
     let complaints = [
         "lukhveri: examples: no cases in this folder; it has 01, allotments, club, kitchen and 1 more: try examples/*\n",
-        "lukhveri: nowhere: No such file or directory\n",
-        "lukhveri: examples/01/plan.bin: Not a directory\n",
+        "lukhveri: nowhere: there is no such folder\n",
+        "lukhveri: examples/01/plan.bin: this is a file; a folder of cases is wanted\n",
     ];
     for complaint in complaints {
         assert!(said.err.contains(complaint), "{complaint} is not in {}", said.err);

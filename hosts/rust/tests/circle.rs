@@ -94,6 +94,11 @@ fn refusals() {
 #[test]
 fn persons_that_are_none() {
     run(&["circle", "examples/kitchen", "64"]).is_trouble("there is no person 64, only 0 to 63");
-    run(&["circle", "examples/kitchen", "Otar"]).is_trouble("names.txt has no person 'Otar'");
+    run(&["circle", "examples/kitchen", "Otar"])
+        .is_trouble("examples/kitchen/names.txt has no person 'Otar'");
+    let folder = Folder::new("circle-unnamed");
+    folder.write("plan.bin", &example_file("kitchen", "plan.bin"));
+    folder.write("case.bin", &example_file("kitchen", "case.bin"));
+    on("circle", folder.path(), &["Otar"]).is_trouble("names.txt: give a number, not 'Otar'");
     run(&["circle", "nowhere", "0"]).is_trouble("nowhere/plan.bin: there is no such file");
 }

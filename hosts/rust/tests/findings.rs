@@ -120,6 +120,7 @@ fn a_refusal_in_one_sentence() {
         refusal.in_words(&[], &[], &names()),
         "refused 3: plan, record 0 (where the file ends, at byte 0): the first record must be a heading with all its required fields"
     );
+    assert_eq!(refusal.remedy(), "write the file anew: it is empty");
     let case = bytes("017f000101 0100000000000000 00 0000");
     let refusal = answer(&plan, &case).expect_err("no worlds");
     let said = refusal.in_words(&plan, &case, &names());

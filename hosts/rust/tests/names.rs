@@ -62,6 +62,7 @@ fn equal_names_are_told_apart() {
     // A name that looks like a number, or like a name with its number.
     let tricks = read("person 3 person 5\nperson 4 Anna (person 6)\nperson 6 Anna\n");
     assert_eq!(tricks.person(3), "person 5 (person 3)");
+    assert_eq!(read("person 3 5\n").person(3), "5 (person 3)");
     assert_eq!(tricks.person(4), "Anna (person 6) (person 4)");
     assert_eq!((tricks.person(5), tricks.person(6)), ("person 5".into(), "Anna".into()));
 }

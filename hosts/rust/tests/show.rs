@@ -16,13 +16,17 @@ fn a_world_of_the_kitchen() {
     assert_eq!((said.err.as_str(), said.status), ("", Some(0)));
     let wanted = [
         "World 3 of 4, counted from 0.\n",
-        "\nWhat makes it:\n  The decision \"does Nana's wish outweigh the one pot?\": yes, the cut overrides the edge\n  \"Eka and Nana eat from one pot\": yes\n",
+        "\nWhat makes it:\n  The decision \"does Nana's wish outweigh the one pot?\": yes; if the edge holds, the cut overrides it\n  \"Eka and Nana eat from one pot\": yes\n",
         "\nWhat everyone is in it:\n",
         "\nWhat happens in it:\n",
     ];
     for part in wanted {
         assert!(said.out.contains(part), "{part} is not in\n{}", said.out);
     }
+    // The decision says no, and still the cut is made: the edge does not hold.
+    let said = on("show", &example("kitchen"), &["0"]);
+    assert!(said.out.contains("one pot?\": no; if the edge holds, it blocks the cut\n"));
+    assert!(said.out.contains("The cut \"Nana's wish\" is made;"));
 }
 
 #[test]
@@ -43,6 +47,10 @@ fn worlds_that_are_none() {
     let said = on("show", &example("kitchen"), &["4"]);
     assert_eq!(said.status, Some(1));
     assert!(said.out.starts_with("Refused 14: "), "{}", said.out);
+    assert!(
+        said.out
+            .contains("mend it: ask for a world below the count of worlds; where there are none, ")
+    );
     assert_eq!(said.err, "lukhveri: examples/kitchen/case.bin: refused 14\n");
     let said = on("show", &example("kitchen"), &["4", "--json"]);
     assert_eq!(json::read(&said.out).at("refusal").at("number").number(), 14);

@@ -20,10 +20,18 @@ pub fn all(words: Vec<PathBuf>) -> impl Iterator<Item = io::Result<PathBuf>> {
     })
 }
 
-/// Empty lines name nothing; a name may hold any byte but a line feed.
+/// Empty lines name nothing; a name may hold any byte but a line feed. What cannot be read ends them: a folder in place of a list would fail for
+/// ever.
 fn lines(input: impl BufRead) -> impl Iterator<Item = io::Result<PathBuf>> {
-    let lines = input.split(b'\n');
-    let filled = lines.filter(|line| line.as_ref().map_or(true, |line| !line.is_empty()));
+    let mut lines = Some(input.split(b'\n'));
+    let read = std::iter::from_fn(move || {
+        let line = lines.as_mut()?.next()?;
+        if line.is_err() {
+            lines = None;
+        }
+        Some(line)
+    });
+    let filled = read.filter(|line| line.as_ref().map_or(true, |line| !line.is_empty()));
     filled.map(|line| line.map(|bytes| PathBuf::from(OsString::from_vec(bytes))))
 }
 
@@ -37,5 +45,12 @@ mod tests {
         let named: Vec<PathBuf> = lines(input).map(|line| line.expect("a line")).collect();
         let last = PathBuf::from(OsString::from_vec(vec![0xff]));
         assert_eq!(named, [PathBuf::from("a"), PathBuf::from("b c"), last]);
+    }
+
+    #[test]
+    fn what_cannot_be_read_is_said_once() {
+        let folder = std::fs::File::open(".").expect("a folder");
+        let said: Vec<_> = lines(io::BufReader::new(folder)).take(2).collect();
+        assert!(matches!(said.as_slice(), [Err(_)]));
     }
 }

@@ -91,6 +91,10 @@ impl Progress {
         };
         let filled = (done.saturating_mul(BAR) / all).min(BAR);
         let bar: String = (0..BAR).map(|at| if at < filled { '#' } else { '.' }).collect();
+        // The first cases wait until the folder is listed, and tell nothing of the others.
+        if done.saturating_mul(100) < all {
+            return format!("[{bar}] {done} of {all} cases");
+        }
         let left = all.saturating_sub(done) as f64 / rate.max(1e-9);
         format!("[{bar}] {done} of {all} cases, {left:.0} s left")
     }

@@ -1,5 +1,6 @@
 //! Goes from folder to folder: what is to be said of each, and its cases in order.
 
+use std::io::{self, ErrorKind};
 use std::path::{Path, PathBuf};
 use std::sync::Arc;
 use std::sync::mpsc::{Receiver, Sender, SyncSender, sync_channel};
@@ -23,6 +24,15 @@ pub struct Source {
     pub jobs: Sender<Job>,
     pub plan: Option<CommonPlan>,
     pub style: Style,
+}
+
+/// Why the files of a folder cannot be listed.
+fn no_folder(error: &io::Error) -> String {
+    match error.kind() {
+        ErrorKind::NotFound => "there is no such folder".to_string(),
+        ErrorKind::NotADirectory => "this is a file; a folder of cases is wanted".to_string(),
+        _ => format!("it cannot be read: {}", plainly(error)),
+    }
 }
 
 /// The printer or the workers are gone.
@@ -53,7 +63,7 @@ impl Source {
         let contents = match Contents::list(path, self.plan.as_ref()) {
             Ok(contents) => contents,
             Err(error) => {
-                let text = format!("{}: {}", path.display(), plainly(&error));
+                let text = format!("{}: {}", path.display(), no_folder(&error));
                 return self.remark(Remark { text, failed: true });
             }
         };

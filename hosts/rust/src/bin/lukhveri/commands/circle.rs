@@ -92,7 +92,7 @@ fn without_circle(inputs: &Inputs, person: u8, as_json: bool) -> Result<Outcome,
 pub fn run(arguments: &Arguments) -> Result<Outcome, Trouble> {
     let (folder, word) = arguments.two("a folder", "a person")?;
     let inputs = Inputs::read(Path::new(folder))?;
-    let person = person::find(arguments, word, &inputs.names)?;
+    let person = person::find(arguments, word, &inputs)?;
     let as_json = arguments.has("--json");
     let Some(circle) = lukhveri::circle(&inputs.plan, &inputs.case, person) else {
         return without_circle(&inputs, person, as_json);

@@ -67,7 +67,7 @@ fn officer(inputs: &Inputs) -> Option<Vec<String>> {
 pub fn run(arguments: &Arguments) -> Result<Outcome, Trouble> {
     let inputs = Inputs::read(Path::new(arguments.one("a folder")?))?;
     let asked = arguments.value("--person");
-    let person = asked.map(|word| person::find(arguments, word, &inputs.names)).transpose()?;
+    let person = asked.map(|word| person::find(arguments, word, &inputs)).transpose()?;
     let as_json = arguments.has("--json");
     match explained(&inputs, person) {
         Err(NearError::Refused(refusal)) => {

@@ -34,10 +34,16 @@ impl World<'_> {
             (Variable::Fact(fact), true) => format!("{}: yes", self.things().fact(fact)),
             (Variable::Fact(fact), false) => format!("{}: no", self.things().fact(fact)),
             (Variable::Decision(place), true) => {
-                format!("{}: yes, the cut overrides the edge", self.things().unresolved(place))
+                format!(
+                    "{}: yes; if the edge holds, the cut overrides it",
+                    self.things().unresolved(place)
+                )
             }
             (Variable::Decision(place), false) => {
-                format!("{}: no, the edge blocks the cut", self.things().unresolved(place))
+                format!(
+                    "{}: no; if the edge holds, it blocks the cut",
+                    self.things().unresolved(place)
+                )
             }
         }
     }
