@@ -77,7 +77,22 @@ pub enum Policy {
     DefaultTrue,
 }
 
-/// Who may elect, by which fact. All elections on one fact are equal.
+/// Who may elect, by which fact, and what silence means. All elections on one fact are equal.
+///
+/// ```
+/// use lukhveri::{Actor, Citation, Cut, Election, Persons, PlanBuilder, Policy};
+///
+/// # fn main() -> Result<(), Box<dyn std::error::Error>> {
+/// // Person 2 is counted apart if she asks for it; who has not asked has not (paragraph 4).
+/// let mut plan = PlanBuilder::new(1);
+/// let asked = plan.boolean()?;
+/// let condition = plan.holds(asked)?;
+/// let (actor, policy) = (Actor(1), Policy::DefaultFalse);
+/// let election = Election { fact: asked, actor, policy, citation: Citation(4) };
+/// plan.cut(Cut::new(Persons::of(&[2])?, condition, Citation(3)).elected(election))?;
+/// # Ok(())
+/// # }
+/// ```
 #[derive(Clone, Copy, Debug, PartialEq, Eq)]
 pub struct Election {
     pub fact: BooleanId,

@@ -270,7 +270,9 @@ impl Refusal {
                 "make fact, actor, policy and citation of both elections equal"
             }
             Reason::SegmentIncomplete => "cut the period where something changes and run each part",
-            Reason::Heading => "correct the heading, or use the plan that belongs to this roster",
+            Reason::Heading => {
+                "compare the case's heading with the plan; where people have come or gone, both files have to know"
+            }
             Reason::UnknownAndObserved => "keep the explicit unknown or the observations, not both",
             Reason::TooManyWorlds { .. } => {
                 "find out some of the open facts, settle decisions, or allow more worlds (4,096 at most)"

@@ -20,7 +20,7 @@ pub fn all(words: Vec<PathBuf>) -> impl Iterator<Item = io::Result<PathBuf>> {
     })
 }
 
-/// Empty lines name nothing; a name may hold any byte but a line feed. What cannot be read ends them: a folder in place of a list would fail for
+/// Empty lines name nothing; a name may hold any byte but a line feed, and a carriage return before that belongs to the line's end. What cannot be read ends them: a folder in place of a list would fail for
 /// ever.
 fn lines(input: impl BufRead) -> impl Iterator<Item = io::Result<PathBuf>> {
     let mut lines = Some(input.split(b'\n'));
@@ -31,8 +31,16 @@ fn lines(input: impl BufRead) -> impl Iterator<Item = io::Result<PathBuf>> {
         }
         Some(line)
     });
-    let filled = read.filter(|line| line.as_ref().map_or(true, |line| !line.is_empty()));
+    let names = read.map(|line| line.map(without_return));
+    let filled = names.filter(|line| line.as_ref().map_or(true, |line| !line.is_empty()));
     filled.map(|line| line.map(|bytes| PathBuf::from(OsString::from_vec(bytes))))
+}
+
+fn without_return(mut line: Vec<u8>) -> Vec<u8> {
+    if line.last() == Some(&b'\r') {
+        line.pop();
+    }
+    line
 }
 
 #[cfg(test)]
@@ -41,7 +49,7 @@ mod tests {
 
     #[test]
     fn one_name_to_a_line() {
-        let input: &[u8] = b"a\n\nb c\n\xff";
+        let input: &[u8] = b"a\n\nb c\r\n\r\n\xff";
         let named: Vec<PathBuf> = lines(input).map(|line| line.expect("a line")).collect();
         let last = PathBuf::from(OsString::from_vec(vec![0xff]));
         assert_eq!(named, [PathBuf::from("a"), PathBuf::from("b c"), last]);
