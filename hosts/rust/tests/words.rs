@@ -87,6 +87,23 @@ fn strangers_answers_change_no_paragraph() {
     }
 }
 
+/// Family 1 of 0 and 1 joins them, family 1 of 2 and 3 those. Of the first nothing is told, whatever record the family has for strangers.
+#[test]
+fn a_register_shows_by_nothing_but_its_answers() {
+    let plan = "010101 020301020001 020301020203 030200 030201 040f00010001 040f02030102";
+    let heading = "017f010101 0f00000000000000 00 0010";
+    let none = said(plan, heading, 0);
+    assert!(none.ends_with("It waits for fact 0, family 1 of person 0 and person 1 (not told)."));
+    for family in ["02030101 0407010105", "02030102 0407010105", "0207010209", "02030101"] {
+        assert_eq!(said(plan, &format!("{heading} {family}"), 0), none, "{family}");
+    }
+    let other = said(plan, &format!("{heading} 02030102 0407000105"), 0);
+    assert!(
+        other.ends_with("(told, but family 1 is of another scope than the roster)."),
+        "{other}"
+    );
+}
+
 /// Silence in a complete register, and a defeater.
 #[test]
 fn why_somebody_is_alone() {
