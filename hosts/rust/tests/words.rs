@@ -152,6 +152,18 @@ fn which_to_ask_first() {
     );
 }
 
+/// Cuts {0,1} and {0,2} overlap if fact 0 says so, {3,4} and {4,5} always; the relation of 0 and 3 is open, and while it is, carries that mark to 0.
+#[test]
+fn an_answer_takes_a_mark_away() {
+    let plan = "010101 0200 020307020003 030101 030200 030201
+        0507 0300000000000000 0101 0507 0500000000000000 0102 0507 1800000000000000 0003 0507 3000000000000000 0004 0807050205";
+    let told = said(plan, "017f010101 3f00000000000000 00 0010", 0);
+    let wanted =
+        "What is known of fact 1, family 7 of person 0 and person 3 (not told) can change it.
+Open as well, but changing nothing as things stand: fact 0 (not told).";
+    assert!(told.ends_with(wanted), "{told}");
+}
+
 /// A constraint ties two facts together: neither decides alone, either settles it.
 #[test]
 fn facts_that_a_constraint_ties() {
