@@ -25,7 +25,7 @@ fn a_mark_comes_from_where_it_comes_from() {
     let case = "017f0101017f00000000000000001000";
     let told = said(CHAINS, case, 6);
     let wanted = "Person 6 is left to discretion.
-Person 3, person 4 and person 5 hang together by a chain in which not everyone is joined with everyone, and the plan has no citation for chains; this reaches person 6 through edge 4 between person 5 and person 6 (citation 2).
+Person 3, person 4 and person 5 hang together by a chain of Base edges in which not every two are joined by one, and the plan has no citation for chains; this reaches person 6 through edge 4 between person 5 and person 6 (citation 2).
 An officer has to decide, unless the plan names a paragraph by which chains are enough.";
     assert_eq!(told, wanted);
     for stranger in ["person 0", "person 1", "person 2"] {
@@ -201,4 +201,61 @@ fn who_is_not_on_the_roster_has_no_paragraph() {
     let case = hex("017f0101010700000000000000001000");
     let found = words::explain_person(&hex(FIXED_PAIR), &case, &Names::default(), 9);
     assert_eq!(found, Err(NearError::OffRoster { person: 9 }));
+}
+
+/// Two cuts of one person: the first precedes the second, and an edge blocks it. The second is not blocked: it says that it overrides the edge.
+#[test]
+fn a_cut_that_gives_way_is_not_blocked() {
+    let plan = "010101 030101 042f00010001 0537 0100000000000000 0002 010001 0101 0517 0100000000000000 0003 010002";
+    let told = said(plan, "017f010101 0300000000000000 00 0010", 0);
+    let wanted = "Person 0 is counted together with person 1, under citation 1.
+Cut 0 of person 0 (citation 2) does not act: it is blocked by edge 0 between person 0 and person 1 (citation 1).
+Cut 1 of person 0 (citation 3) does not act: it gives way to cut 0 of person 0 (citation 2).";
+    assert_eq!(told, wanted);
+}
+
+/// A Combination edge joins the two whom the chain leaves apart: that does not make it a clique.
+#[test]
+fn a_chain_is_one_of_base_edges() {
+    let plan = "010101 030101 040f00010001 040f01020001 042f00020002";
+    let told = said(plan, "017f010101 0700000000000000 00 0010", 0);
+    assert!(
+        told.contains("a chain of Base edges in which not every two are joined by one"),
+        "{told}"
+    );
+}
+
+/// Person 0 is attached to 1, with whom an edge joins it anyway, and 1 then to 2: only the second attachment parts the two.
+#[test]
+fn attachments_part_only_whom_they_part() {
+    let plan = "010101 030101 040f00010001 061f 0100000000000000 01 00 02 05 061f 0200000000000000 02 00 03 05";
+    let told = said(plan, "017f010101 0700000000000000 00 0010", 0);
+    let wanted = "Person 0 is counted alone.
+Person 0 is attached by attachment 0 of person 0 to person 1 (citation 2).
+Edge 0 between person 0 and person 1 (citation 1) holds, but attachment 1 of person 1 to person 2 (citation 3) moves person 1 away.
+Attachment 0 of person 0 to person 1 (citation 2) acts, but a later attachment parts them.";
+    assert_eq!(told, wanted);
+}
+
+/// A cut of two, one of whom is attached to a third.
+#[test]
+fn a_cut_does_not_say_why_its_others_are_gone() {
+    let plan = "010101 030101 0507 0300000000000000 0001 061f 0200000000000000 02 00 02 05";
+    let told = said(plan, "017f010101 0700000000000000 00 0010", 0);
+    let wanted = "Cut 0 of person 0 and person 1 (citation 1) has others, too, but attachment 0 of person 1 to person 2 (citation 2) moves person 1 away.";
+    assert!(told.ends_with(wanted), "{told}");
+}
+
+/// Constraints that nothing told contradicts, and that cannot hold all the same.
+#[test]
+fn constraints_that_never_hold() {
+    let wanted = "Nothing is decided of person 0: as things are told, the constraints of the case cannot all hold.";
+    let heading = "017f010101 0100000000000000 00 0010";
+    let told = said("010101 0200 030200 031000 0304020001", &format!("{heading} 050102"), 0);
+    assert!(
+        told.starts_with(wanted) && told.contains("Constraint 0 uses fact 0 (not told)."),
+        "{told}"
+    );
+    let told = said("010101 030100", &format!("{heading} 050100"), 0);
+    assert!(told.starts_with(wanted), "{told}");
 }

@@ -46,7 +46,7 @@ impl Telling<'_> {
                 format!("{} overlaps with {}", self.things.cut(earlier), self.things.cut(later))
             }
             Seed::Chain(persons) => format!(
-                "{} hang together by a chain in which not everyone is joined with everyone, and the plan has no citation for chains",
+                "{} hang together by a chain of Base edges in which not every two are joined by one, and the plan has no citation for chains",
                 self.names.persons(persons)
             ),
         };
