@@ -46,7 +46,7 @@ fn uses(plan: &Plan, node: u8) -> u64 {
 }
 
 /// For each fact, everyone whom it touches; nobody for one that nothing uses.
-fn touched(plan: &Plan, case: &Case) -> Vec<u64> {
+pub fn touched(plan: &Plan, case: &Case) -> Vec<u64> {
     let mut touched = vec![0; plan.facts.len()];
     let mut bound = 0;
     let mut rule = |used: u64, persons: u64| {

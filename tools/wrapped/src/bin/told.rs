@@ -12,7 +12,7 @@ use wrapped::waiting::{Whole, shown};
 use wrapped::{claims, strangers};
 
 /// No more worlds than these are gone through.
-const MOST: u64 = 256;
+const MOST: u64 = 64;
 
 fn view(line: &Line) -> View {
     View { kind: line.kind, role: line.role, block: line.block }
@@ -135,10 +135,12 @@ fn case(random: &mut Random, done: &mut u64) -> Result<(), String> {
                 return Err(format!("person {}: other things are possible", line.person));
             }
             whole.outcome(line, &found)?;
-            if matches!(line.kind, LineKind::Overlap | LineKind::Discretion)
-                && near.marks(line.person, line.kind).is_empty()
-            {
-                return Err(format!("person {}: nothing marks the person", line.person));
+            if matches!(line.kind, LineKind::Overlap | LineKind::Discretion) {
+                let marks = near.marks(line.person, line.kind);
+                whole.marks(line.person, line.kind, &marks)?;
+                if marks.is_empty() {
+                    return Err(format!("person {}: nothing marks the person", line.person));
+                }
             }
             let paragraph = words::paragraph(&near, &names, line.person).ok_or("no paragraph")?;
             for text in &paragraph.sentences {
