@@ -259,3 +259,15 @@ fn constraints_that_never_hold() {
     let told = said("010101 030100", &format!("{heading} 050100"), 0);
     assert!(told.starts_with(wanted), "{told}");
 }
+
+/// Each node asks the one below it twice: a hundred of these are told at once.
+#[test]
+fn conditions_that_ask_the_one_below_twice() {
+    let mut plan = hex("010101 0200 030101 030200");
+    (1..101).for_each(|below| plan.extend([3, 4, 2, below, below]));
+    plan.extend(hex("041f00010001 0165"));
+    let case = hex("017f010101 0300000000000000 00 0010 030500010109");
+    let told = words::explain_person(&plan, &case, &Names::default(), 0).expect("a paragraph");
+    let wanted = "Edge 0 between person 0 and person 1 (citation 1) does not hold: it is defeated; fact 0: yes, by evidence 9.";
+    assert_eq!(told.sentences.last().map(String::as_str), Some(wanted));
+}
