@@ -271,3 +271,13 @@ fn conditions_that_ask_the_one_below_twice() {
     let wanted = "Edge 0 between person 0 and person 1 (citation 1) does not hold: it is defeated; fact 0: yes, by evidence 9.";
     assert_eq!(told.sentences.last().map(String::as_str), Some(wanted));
 }
+
+/// The chain of 0, 1 and 2 is longer by 3, by 4 or by both, as facts turn out: it is told once.
+#[test]
+fn a_chain_that_can_be_longer_is_told_once() {
+    let plan =
+        "010101 0200 0200 030101 030200 030201 040f00010001 040f01020001 040f00030101 040f00040201";
+    let told = said(plan, "017f010101 1f00000000000000 00 0010", 0);
+    assert_eq!(told.matches("hang together").count(), 1, "{told}");
+    assert!(told.contains("\nPerson 0, person 1 and person 2 hang together by"), "{told}");
+}
