@@ -2,8 +2,11 @@
 
 pub mod beside;
 pub mod building;
+pub mod claims;
+pub mod marking;
 pub mod same;
 pub mod strangers;
+pub mod waiting;
 
 /// The two numbers that a program is called with: how many, and the seed.
 pub fn count_and_seed(usage: &str) -> (u64, u64) {

@@ -46,7 +46,7 @@ fn uses(plan: &Plan, node: u8) -> u64 {
 }
 
 /// For each fact, everyone whom it touches; nobody for one that nothing uses.
-fn touched(plan: &Plan, case: &Case) -> Vec<u64> {
+pub fn touched(plan: &Plan, case: &Case) -> Vec<u64> {
     let mut touched = vec![0; plan.facts.len()];
     let mut bound = 0;
     let mut rule = |used: u64, persons: u64| {
@@ -81,36 +81,102 @@ pub fn touching(plan: &Plan, case: &Case, circle: u64) -> Vec<u8> {
     (0..).zip(touched).filter(|(_, persons)| persons & circle != 0).map(|(fact, _)| fact).collect()
 }
 
-/// A case of the same heading and constraints that says the same of these facts and of their families, and anything of the others.
+/// A case of the same heading and constraints that binds these facts alike, by the same papers, and says anything of the others.
 pub fn other(random: &mut Random, plan: &Plan, case: &Case, kept: &[u8]) -> Case {
-    let family = |fact: u8| plan.facts[usize::from(fact)].as_ref().map(|(family, _)| *family);
-    let own: Vec<u8> = kept.iter().filter_map(|fact| family(*fact)).collect();
     let mut other = case.clone();
-    other.families.retain(|family| own.contains(&family.number));
     other.booleans.retain(|boolean| kept.contains(&boolean.fact));
     other.relations.retain(|relation| kept.contains(&relation.fact));
-    let strangers: Vec<u8> =
-        (0..plan.facts.len() as u8).filter(|fact| !kept.contains(fact)).collect();
-    for &fact in &strangers {
-        match family(fact) {
+    other.families = families(random, plan, case, &other.relations, kept);
+    for fact in (0..plan.facts.len() as u8).filter(|fact| !kept.contains(fact)) {
+        match family(plan, fact) {
             None => other.booleans.extend(boolean(random, fact)),
-            Some(number) => {
-                if !own.contains(&number)
-                    && other.families.iter().all(|family| family.number != number)
-                {
-                    other.families.extend(any_family(random, number, case.scope));
-                }
-                if other.families.iter().any(|family| family.number == number) {
-                    let count = random.below(3);
-                    other.relations.extend((0..count).map(|_| relation(random, fact)));
-                }
+            Some(number) if other.families.iter().any(|family| family.number == number) => {
+                let count = random.below(3);
+                other.relations.extend((0..count).map(|_| relation(random, fact)));
             }
+            Some(_) => {}
         }
     }
-    other.families.truncate(16);
+    repeat(random, &mut other);
+    random.shuffle(&mut other.families);
     random.shuffle(&mut other.booleans);
     random.shuffle(&mut other.relations);
     other
+}
+
+fn family(plan: &Plan, fact: u8) -> Option<u8> {
+    plan.facts[usize::from(fact)].as_ref().map(|(family, _)| *family)
+}
+
+/// Families of any kind, as far as the facts that are kept are bound alike; those that they need come first.
+fn families(
+    random: &mut Random,
+    plan: &Plan,
+    case: &Case,
+    told: &[Relation],
+    kept: &[u8],
+) -> Vec<Family> {
+    let of = |facts: &mut dyn Iterator<Item = u8>| -> Vec<u8> {
+        facts.filter_map(|fact| family(plan, fact)).collect()
+    };
+    let needed = of(&mut told.iter().map(|relation| relation.fact));
+    let silent = of(&mut kept
+        .iter()
+        .copied()
+        .filter(|fact| told.iter().all(|relation| relation.fact != *fact)));
+    let mut numbers = of(&mut (0..plan.facts.len() as u8));
+    numbers.extend(case.families.iter().map(|family| family.number));
+    numbers.sort_by_key(|number| (!needed.contains(number), *number));
+    numbers.dedup();
+    let all = numbers.into_iter().filter_map(|number| {
+        let old = case.families.iter().find(|family| family.number == number);
+        let (needed, silent) = (needed.contains(&number), silent.contains(&number));
+        alike(random, old, needed, silent, case.scope).map(|(scope, complete)| Family {
+            number,
+            scope,
+            complete,
+        })
+    });
+    all.take(16).collect()
+}
+
+/// Scope and completeness under which told and silent facts of a family are bound as before; none where it has no record.
+fn alike(
+    random: &mut Random,
+    old: Option<&Family>,
+    needed: bool,
+    silent: bool,
+    scope: Option<u8>,
+) -> Option<(Option<u8>, Option<u8>)> {
+    let complete = random.percent(50).then(|| random.byte(64));
+    let beside = Some(random.byte(4)).filter(|number| Some(*number) != scope);
+    let in_scope = old.is_some_and(|family| family.scope == scope);
+    let known = in_scope && old.is_some_and(|family| family.complete.is_some());
+    match (needed, silent) {
+        (true, false) if in_scope => Some((scope, complete)),
+        (true, true) if in_scope => old.map(|family| (family.scope, family.complete)),
+        (true, _) => Some((beside, complete)),
+        (false, true) if known => old.map(|family| (family.scope, family.complete)),
+        (false, true) => match random.below(3) {
+            0 => None,
+            1 => Some((beside, complete)),
+            _ => Some((scope, None)),
+        },
+        (false, false) if random.percent(20) => None,
+        (false, false) => Some((if random.percent(80) { scope } else { beside }, complete)),
+    }
+}
+
+/// Some of what is told is told twice, which says nothing else.
+fn repeat(random: &mut Random, case: &mut Case) {
+    let again: Vec<Relation> =
+        case.relations.iter().filter(|_| random.percent(20)).cloned().collect();
+    case.relations.extend(again);
+    for boolean in &mut case.booleans {
+        let told = boolean.observations.iter_mut();
+        told.filter(|told| (1..16).contains(&told.len()) && random.percent(20))
+            .for_each(|told| told.push(told[0]));
+    }
 }
 
 fn boolean(random: &mut Random, fact: u8) -> Option<Boolean> {
@@ -123,12 +189,6 @@ fn boolean(random: &mut Random, fact: u8) -> Option<Boolean> {
         2 => Some(Boolean { fact, unknown: None, observations: observations(random, 2) }),
         _ => Some(Boolean { fact, unknown: None, observations: observations(random, 1) }),
     }
-}
-
-fn any_family(random: &mut Random, number: u8, scope: Option<u8>) -> Option<Family> {
-    let complete = random.percent(50).then(|| random.byte(64));
-    let scope = if random.percent(80) { scope } else { Some(random.byte(4)) };
-    random.percent(80).then_some(Family { number, scope, complete })
 }
 
 fn relation(random: &mut Random, fact: u8) -> Relation {

@@ -125,10 +125,10 @@ fn boolean(case: &mut CaseRecords, fact: u8, said: &Said) {
 
 fn relation(case: &mut CaseRecords, fact: u8, number: u8, said: &Said) {
     let (scope, complete) = match said {
-        Said::NoFamily { .. } => return,
         Said::OtherScope { .. } => (0, None),
         Said::Silence { evidence, .. } => (case.scope, Some(*evidence)),
-        _ => (case.scope, None),
+        Said::Observed(_) => (case.scope, None),
+        _ => return,
     };
     let there = case.families.iter().position(|family| family.number == number);
     match there.and_then(|at| case.families.get_mut(at)) {

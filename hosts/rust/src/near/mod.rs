@@ -4,6 +4,7 @@
 //! of them. Plan, heading and constraints are kept, so a line of the circle is the line of the whole case, which demand 3 promises; and
 //! whatever is made of a `Near` alone cannot show what a case says of strangers.
 
+mod carried;
 mod choices;
 mod kept;
 mod open;
@@ -80,6 +81,8 @@ pub struct Near {
     worlds: Worlds,
     /// Asked for when it is first needed.
     if_answered: OnceLock<IfAnswered>,
+    /// Found when it is first needed.
+    carried: OnceLock<Vec<(Variable, Persons)>>,
 }
 
 impl Near {
@@ -117,8 +120,8 @@ impl Near {
         let own = found.lines.iter().filter(|line| kept.circle.holds(line.person));
         let lines = own.map(|line| open.whole_line(line)).collect();
         let Kept { circle, plan, case, facts, .. } = kept;
-        let if_answered = OnceLock::new();
-        Ok(Near { circle, plan, case, facts, open, lines, worlds, if_answered })
+        let (if_answered, carried) = (OnceLock::new(), OnceLock::new());
+        Ok(Near { circle, plan, case, facts, open, lines, worlds, if_answered, carried })
     }
 
     /// Itself, if its lines are those of the whole case.

@@ -79,6 +79,10 @@ impl Near {
         let Some(place) = self.place(variable) else {
             return false;
         };
+        let carried = self.carried().iter().find(|(own, _)| *own == variable);
+        if carried.is_some_and(|(_, persons)| persons.holds(line.person)) {
+            return true;
+        }
         self.answers(variable).any(|(value, lines)| {
             let with = |values: &[bool]| values.get(place) == Some(&value);
             let then = lines.iter().find(|then| then.person == line.person);

@@ -17,11 +17,9 @@ pub enum Said {
     Default { value: bool, actor: u8, citation: u8 },
     /// Nothing is said of the relation, and its family is complete by this evidence.
     Silence { family: u8, evidence: u8 },
-    /// The relation's family has no record in the case.
-    NoFamily { family: u8 },
-    /// The relation's family is of another scope than the roster.
+    /// Something is said of the relation, but its family is of another scope than the roster.
     OtherScope { family: u8 },
-    /// Nothing is said.
+    /// Nothing is said. Whether the case has the relation's family is no part of it: that can hang on what is said of strangers.
     Nothing,
 }
 
@@ -92,21 +90,17 @@ fn default(election: &Election, value: bool) -> Said {
 }
 
 fn relation(case: &CaseRecords, fact: u8, family: u8) -> Said {
-    let record = case.families.iter().find(|record| record.number == family);
-    match record {
-        None => Said::NoFamily { family },
-        Some(record) if record.scope != case.scope => Said::OtherScope { family },
-        Some(record) => in_scope(case, fact, record),
-    }
-}
-
-fn in_scope(case: &CaseRecords, fact: u8, family: &FamilyRecord) -> Said {
     let records = case.relations.iter().filter(|record| record.fact == fact);
     let pairs: BTreeSet<(bool, u8)> =
         records.map(|record| (record.value, record.evidence)).collect();
-    match (pairs.is_empty(), family.complete) {
-        (false, _) => Said::Observed(pairs),
-        (true, Some(evidence)) => Said::Silence { family: family.number, evidence },
-        (true, None) => Said::Nothing,
+    let record = case.families.iter().find(|record| record.number == family);
+    let in_scope = record.filter(|record| record.scope == case.scope);
+    match (in_scope, pairs.is_empty()) {
+        (Some(_), false) => Said::Observed(pairs),
+        (None, false) => Said::OtherScope { family },
+        (Some(FamilyRecord { complete: Some(evidence), .. }), true) => {
+            Said::Silence { family, evidence: *evidence }
+        }
+        (_, true) => Said::Nothing,
     }
 }

@@ -91,7 +91,8 @@ impl Near {
     }
 }
 
-fn seeds(world: &World, kind: LineKind) -> Vec<Seed> {
+/// What marks by a kind in a world.
+pub(super) fn seeds(world: &World, kind: LineKind) -> Vec<Seed> {
     if kind == LineKind::Overlap {
         world.acts.overlaps.iter().map(|&(earlier, later)| Seed::Overlap(earlier, later)).collect()
     } else {
@@ -100,13 +101,13 @@ fn seeds(world: &World, kind: LineKind) -> Vec<Seed> {
 }
 
 /// What marks go along.
-struct Spread {
+pub(super) struct Spread {
     influence: Vec<(Variable, Persons)>,
     rules: Vec<(Rule, Persons)>,
 }
 
 impl Spread {
-    fn of(near: &Near) -> Spread {
+    pub(super) fn of(near: &Near) -> Spread {
         let records = near.plan().records();
         let sets = joined_sets(records);
         let influence = near
@@ -116,6 +117,19 @@ impl Spread {
         let joining = rules(records).filter(RuleOf::joins);
         let rules = joining.map(|rule| (rule.rule, rule.persons)).collect();
         Spread { influence: influence.collect(), rules }
+    }
+
+    /// As if a variable had an answer.
+    pub(super) fn without(&self, variable: Variable) -> Spread {
+        let rest = self.influence.iter().filter(|(own, _)| *own != variable);
+        Spread { influence: rest.copied().collect(), rules: self.rules.clone() }
+    }
+
+    /// Everyone whom marks reach from these persons.
+    pub(super) fn reach(&self, seed: Persons) -> Persons {
+        let influence: Vec<Persons> = self.influence.iter().map(|(_, persons)| *persons).collect();
+        let rules: Vec<Persons> = self.rules.iter().map(|(_, persons)| *persons).collect();
+        close(&rules, close(&influence, seed))
     }
 
     /// Fewest links from somebody of the seed to a person; none where the mark does not reach the person.

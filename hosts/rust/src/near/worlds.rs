@@ -94,6 +94,12 @@ impl World {
     pub fn view(&self, person: u8) -> Option<View> {
         self.views.iter().find(|(shown, _)| *shown == person).map(|(_, view)| *view)
     }
+
+    /// Who is shown with a kind.
+    pub fn shown(&self, kind: LineKind) -> Persons {
+        let shown = self.views.iter().filter(|(_, view)| view.kind == kind);
+        shown.fold(Persons::NOBODY, |all, (person, _)| all.union(Persons::alone(*person)))
+    }
 }
 
 /// A place for each choice of values, the first variable slowest; empty where it is not admissible.

@@ -3,21 +3,21 @@
 use std::collections::BTreeSet;
 
 use crate::line::Line;
-use crate::near::Acts;
+use crate::names::listed;
 use crate::persons::Persons;
-use crate::rules::{Rule, rules};
+use crate::rules::{Rule, RuleOf, rules};
 use crate::words::Telling;
-use crate::words::apart::{When, acted};
-use crate::words::either;
+use crate::words::apart::When;
 
 impl Telling<'_> {
     /// Each edge and attachment that could have joined the person with somebody, and why it did not; nothing where a cut says it all.
     pub(crate) fn why_alone(&self, line: &Line) -> Vec<String> {
-        let cut_off = self.naming(line.person, |rule| matches!(rule, Rule::Cut(_)));
-        if cut_off.into_iter().any(|cut| self.acting(cut) == When::Always) {
+        let own = Persons::alone(line.person);
+        let all = rules(self.near.plan().records());
+        let cuts = all.filter(|rule| matches!(rule.rule, Rule::Cut(_)));
+        if cuts.filter(|cut| cut.persons == own).any(|cut| self.acting(cut.rule) == When::Always) {
             return Vec::new();
         }
-        let own = Persons::of(&[line.person]).unwrap_or(Persons::NOBODY);
         let all = rules(self.near.plan().records());
         let with_others = all.filter(|rule| rule.persons.holds(line.person) && rule.persons != own);
         let mut why: Vec<String> = with_others
@@ -26,6 +26,9 @@ impl Telling<'_> {
                 match rule.rule {
                     Rule::Edge(_) => Some(self.edge_apart(rule.rule, line.person, other)),
                     Rule::Attachment(_) => Some(self.attachment_apart(rule.rule)),
+                    Rule::Cut(_) if self.acting(rule.rule) == When::Always => {
+                        Some(self.cut_apart(&rule, line.person))
+                    }
                     Rule::Cut(_) | Rule::Bar(_) | Rule::Status(_) => None,
                 }
             })
@@ -55,44 +58,16 @@ impl Telling<'_> {
             When::Always => "holds",
             When::Sometimes => "holds by some of the open answers",
         };
-        let parts = self.parting(edge, person, other);
-        format!("{words} {holds}, but {}.", either(parts))
+        let parts = self.parting(edge, [person, other]);
+        format!("{words} {holds}, but {parts}.")
     }
 
-    /// In each world in which the edge holds, an applied cut has one of the two, or an attachment moves one of them.
-    fn parting(&self, edge: Rule, person: u8, other: u8) -> Vec<String> {
-        let mut parting = BTreeSet::new();
-        for world in self.near.worlds().iter().filter(|world| acted(&world.acts, edge)) {
-            let cuts = self.near.plan().records().cuts.iter().zip(0..);
-            let cuts = cuts.filter(|(cut, _)| cut.members.parts(person, other));
-            let cuts = cuts.map(|(_, number)| Rule::Cut(number));
-            let applied: Vec<Rule> = cuts.filter(|cut| acted(&world.acts, *cut)).collect();
-            match applied.is_empty() {
-                false => parting.extend(applied),
-                true => parting.extend(self.moving(&world.acts, [person, other])),
-            }
-        }
-        parting.into_iter().map(|rule| self.parts(rule, person, other)).collect()
-    }
-
-    /// The attachments that move one of two persons.
-    fn moving(&self, acts: &Acts, both: [u8; 2]) -> Vec<Rule> {
-        let rules = self.near.plan().records().attachments.iter().zip(0..);
-        let own = rules.filter(|(rule, _)| both.iter().any(|person| rule.members.holds(*person)));
-        own.map(|(_, number)| Rule::Attachment(number)).filter(|rule| acted(acts, *rule)).collect()
-    }
-
-    fn parts(&self, rule: Rule, person: u8, other: u8) -> String {
-        let cuts = &self.near.plan().records().cuts;
-        let words = self.things.rule(rule);
-        let cut = cuts.get(usize::from(rule.number())).filter(|_| matches!(rule, Rule::Cut(_)));
-        match cut {
-            Some(cut) => {
-                let inside = if cut.members.holds(person) { person } else { other };
-                format!("{} is set apart by {words}", self.names.person(inside))
-            }
-            None => format!("{words} moves somebody away"),
-        }
+    /// A cut that has others as well, and by what these are gone.
+    fn cut_apart(&self, cut: &RuleOf, person: u8) -> String {
+        let others = cut.persons.without(Persons::alone(person));
+        let parts = others.iter().map(|other| self.parting(cut.rule, [person, other]));
+        let parts: BTreeSet<String> = parts.collect();
+        format!("{} has others, too, but {}.", self.things.rule(cut.rule), listed(parts))
     }
 
     fn attachment_apart(&self, attachment: Rule) -> String {

@@ -1,7 +1,5 @@
 //! The rules that name a decided person one by one: cuts, bars and statuses, what they do and why they do nothing.
 
-use std::collections::BTreeSet;
-
 use crate::line::{Line, Role};
 use crate::names::listed;
 use crate::near::Acts;
@@ -57,9 +55,9 @@ impl Telling<'_> {
     /// What cuts, bars and statuses do to a person with a block and a role.
     pub(crate) fn one_by_one(&self, line: &Line) -> Vec<String> {
         let mut said: Vec<String> = self.role(line).into_iter().collect();
-        said.extend(self.moved(line.person));
         let cuts = self.naming(line.person, |rule| matches!(rule, Rule::Cut(_)));
         said.extend(cuts.into_iter().map(|cut| self.cut(cut, line)));
+        said.extend(self.attached(line.person));
         let others =
             self.naming(line.person, |rule| matches!(rule, Rule::Bar(_) | Rule::Status(_)));
         said.extend(others.into_iter().filter_map(|rule| self.without_effect(rule, line)));
@@ -91,15 +89,15 @@ impl Telling<'_> {
         })
     }
 
-    /// The attachments that move a person in every world.
-    fn moved(&self, person: u8) -> Vec<String> {
+    /// The attachments that act on a person in every world; it may have been there already.
+    fn attached(&self, person: u8) -> Vec<String> {
         let rules = self.near.plan().records().attachments.iter().zip(0..);
         let own = rules.filter(|(rule, _)| rule.members.holds(person) && rule.anchor != person);
         let acting = own
             .map(|(_, number)| Rule::Attachment(number))
             .filter(|rule| self.acting(*rule) == When::Always);
         let name = self.names.person(person);
-        acting.map(|rule| format!("{name} is moved by {}.", self.things.rule(rule))).collect()
+        acting.map(|rule| format!("{name} is attached by {}.", self.things.rule(rule))).collect()
     }
 
     fn cut(&self, rule: Rule, line: &Line) -> String {
@@ -117,32 +115,6 @@ impl Telling<'_> {
         }
     }
 
-    /// What stops a cut in the worlds in which its condition holds: edges that block its set, or a cut that goes first.
-    fn stopped(&self, rule: Rule) -> String {
-        let holding = self.near.worlds().iter().zip(self.holding(rule));
-        let blocking: Vec<BTreeSet<u8>> = holding
-            .filter(|(_, holds)| *holds)
-            .map(|(world, _)| self.blocking(&world.acts, rule))
-            .collect();
-        let edges: BTreeSet<u8> = blocking.iter().flatten().copied().collect();
-        let blocked = listed(edges.iter().map(|edge| self.things.edge(*edge)));
-        let first = "gives way to a cut that goes first";
-        match (edges.is_empty(), blocking.iter().any(BTreeSet::is_empty)) {
-            (true, _) => format!("it {first}"),
-            (false, true) => format!("it is blocked by {blocked}, or {first}"),
-            (false, false) => format!("it is blocked by {blocked}"),
-        }
-    }
-
-    /// The edges that block a cut's set; the event may be that of another cut of the same set.
-    fn blocking(&self, acts: &Acts, rule: Rule) -> BTreeSet<u8> {
-        let cuts = &self.near.plan().records().cuts;
-        let members = |number: u8| cuts.get(usize::from(number)).map(|cut| cut.members);
-        let own = members(rule.number());
-        let blocked = acts.blocked.iter().filter(|(cut, _)| members(*cut) == own);
-        blocked.map(|(_, edge)| *edge).collect()
-    }
-
     /// A bar or a status that names a person and does nothing to that person.
     fn without_effect(&self, rule: Rule, line: &Line) -> Option<String> {
         let (name, words) = (self.names.person(line.person), self.things.rule(rule));
@@ -151,10 +123,10 @@ impl Telling<'_> {
                 Some(format!("{words} does not act: {}.", self.why_not(rule)))
             }
             (When::Never, When::Always, Rule::Bar(_)) => {
-                Some(format!("{words} spares {name}: all whom it names came by attachments."))
+                Some(format!("{words} spares {name}: all whom it names are attached."))
             }
             (When::Never, _, Rule::Bar(_)) => Some(format!(
-                "{words} spares {name}: where it holds, all whom it names came by attachments."
+                "{words} spares {name}: where it holds, all whom it names are attached."
             )),
             _ => None,
         }

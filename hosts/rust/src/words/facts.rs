@@ -19,11 +19,9 @@ impl Telling<'_> {
                 format!("said to be unknown, by {}", self.names.of("evidence", *evidence))
             }
             Said::Observed(pairs) => self.conflict(pairs),
-            Said::NoFamily { family } => {
-                format!("nothing is told of {}", self.names.of("family", *family))
-            }
             Said::OtherScope { family } => {
-                format!("what is told of {} is of another scope", self.names.of("family", *family))
+                let family = self.names.of("family", *family);
+                format!("told, but {family} is of another scope than the roster")
             }
             Said::Nothing | Said::Default { .. } | Said::Silence { .. } => "not told".to_string(),
         }

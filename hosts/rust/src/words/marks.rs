@@ -3,7 +3,31 @@
 use crate::line::LineKind;
 use crate::names::listed;
 use crate::near::{Link, Mark, Seed};
+use crate::persons::Persons;
 use crate::words::Telling;
+
+/// Without chains that hold another one which is as near: a chain that open edges make longer is another one for each answer.
+fn smallest(mut marks: Vec<Mark>) -> Vec<Mark> {
+    marks.sort_by_key(|mark| chain(mark).count());
+    let mut told: Vec<Mark> = Vec::new();
+    for mark in marks {
+        let longer = |other: &Mark| {
+            chain(other).without(chain(&mark)).is_empty() && other.links.len() <= mark.links.len()
+        };
+        if !told.iter().any(longer) {
+            told.push(mark);
+        }
+    }
+    told.sort();
+    told
+}
+
+fn chain(mark: &Mark) -> Persons {
+    match mark.seed {
+        Seed::Chain(persons) => persons,
+        Seed::Overlap(..) => Persons::NOBODY,
+    }
+}
 
 impl Telling<'_> {
     /// Whether a person has a mark of this kind in every world.
@@ -33,7 +57,7 @@ impl Telling<'_> {
             true => "",
             false => ", by some of the open answers",
         };
-        let marks = self.near.marks(person, LineKind::Discretion);
+        let marks = smallest(self.near.marks(person, LineKind::Discretion));
         let mut said = vec![format!("{name} is left to discretion{when}.")];
         said.extend(marks.iter().map(|mark| self.mark(mark, person)));
         said.push("An officer has to decide, unless the plan names a paragraph by which chains are enough.".to_string());
@@ -46,7 +70,7 @@ impl Telling<'_> {
                 format!("{} overlaps with {}", self.things.cut(earlier), self.things.cut(later))
             }
             Seed::Chain(persons) => format!(
-                "{} hang together by a chain in which not everyone is joined with everyone, and the plan has no citation for chains",
+                "{} hang together by a chain of Base edges in which not every two are joined by one, and the plan has no citation for chains",
                 self.names.persons(persons)
             ),
         };

@@ -12,7 +12,9 @@ mod fate;
 mod marks;
 mod officer;
 mod paragraph;
+mod parted;
 mod reasons;
+mod stopped;
 mod things;
 mod touching;
 mod waiting;
@@ -24,7 +26,9 @@ pub use paragraph::{Paragraph, explain, explain_person, paragraph};
 pub use things::Things;
 pub use touching::touching;
 
-use crate::names::Names;
+use std::collections::BTreeSet;
+
+use crate::names::{Names, listed};
 use crate::near::Near;
 
 /// What a person's paragraph is made of, and of nothing else.
@@ -48,5 +52,21 @@ pub(crate) fn either(items: impl IntoIterator<Item = String>) -> String {
         None => "nothing".to_string(),
         Some(last) if items.is_empty() => last,
         Some(last) => format!("{} or {last}", items.join(", ")),
+    }
+}
+
+/// What is so in several worlds: A and B where both are in each, A or B where worlds differ; none where it is nothing in all.
+pub(crate) fn across<T: Copy + Ord>(
+    worlds: &[BTreeSet<T>],
+    word: impl Fn(T) -> String,
+) -> Option<String> {
+    let some: Vec<&BTreeSet<T>> = worlds.iter().filter(|set| !set.is_empty()).collect();
+    let all: BTreeSet<T> = some.iter().flat_map(|set| set.iter().copied()).collect();
+    let alike = some.iter().all(|set| **set == all);
+    let words = all.into_iter().map(word);
+    match (some.is_empty(), alike) {
+        (true, _) => None,
+        (false, true) => Some(listed(words)),
+        (false, false) => Some(either(words)),
     }
 }

@@ -131,12 +131,12 @@ impl Telling<'_> {
         outcome.possible.iter().map(|view| fate(person, view, self.names)).collect()
     }
 
-    /// Which constraints cannot all hold, and what they ask.
+    /// The constraints, which cannot all hold, and what they ask.
     fn inconsistent(&self, name: &str) -> Vec<String> {
         let constraints = &self.near.case().constraints;
         let numbers = constraints.iter().zip(0..).map(|(_, number): (_, u8)| number);
         let mut said = vec![format!(
-            "Nothing is decided of {name}: what is told contradicts the constraints of the case."
+            "Nothing is decided of {name}: as things are told, the constraints of the case cannot all hold."
         )];
         said.extend(numbers.map(|number| self.constraint(number)));
         said.push("Look whether one of these answers is wrong, or a constraint.".to_string());

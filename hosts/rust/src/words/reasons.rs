@@ -22,33 +22,49 @@ fn only(bound: Bound) -> Option<bool> {
     }
 }
 
+fn of(all: &[[Option<Causes>; 2]], node: NodeId, wanted: bool) -> Option<Causes> {
+    let [no, yes] = all.get(usize::from(node.number))?;
+    if wanted { yes.clone() } else { no.clone() }
+}
+
+fn all(children: &[NodeId], of: impl Fn(&NodeId) -> Option<Causes>) -> Option<Causes> {
+    let causes: Option<Vec<Causes>> = children.iter().map(of).collect();
+    Some(causes?.into_iter().flatten().collect())
+}
+
 impl Telling<'_> {
-    fn node(&self, id: NodeId) -> Option<&Node> {
-        self.near.plan().records().nodes.get(usize::from(id.number))
+    /// For each node the facts of one value that make it false, and those that make it true, whatever is open; none where they do not. Node by node,
+    /// each once: a condition can use the one below it twice, and that one the next.
+    fn causes(&self) -> Vec<[Option<Causes>; 2]> {
+        let mut all: Vec<[Option<Causes>; 2]> = Vec::new();
+        for node in &self.near.plan().records().nodes {
+            let of = |child: &NodeId, wanted: bool| of(&all, *child, wanted);
+            let causes = [false, true].map(|wanted| self.cause(node, wanted, of));
+            all.push(causes);
+        }
+        all
     }
 
-    /// The facts of one value that make a node true, or false, whatever is open; none where they do not.
-    fn causes(&self, id: NodeId, wanted: bool) -> Option<Causes> {
-        match self.node(id)? {
+    fn cause(
+        &self,
+        node: &Node,
+        wanted: bool,
+        of: impl Fn(&NodeId, bool) -> Option<Causes>,
+    ) -> Option<Causes> {
+        match node {
             Node::Literal(value) => (*value == wanted).then(Causes::new),
             Node::Fact(fact) => {
                 let number = self.near.plan().fact_number(*fact)?;
                 let bound = self.near.said(number)?.bound();
                 (only(bound) == Some(wanted)).then(|| Causes::from([(number, wanted)]))
             }
-            Node::Not(child) => self.causes(*child, !wanted),
-            Node::And(children) if wanted => self.all(children, wanted),
-            Node::Or(children) if !wanted => self.all(children, wanted),
+            Node::Not(child) => of(child, !wanted),
+            Node::And(children) if wanted => all(children, |child| of(child, wanted)),
+            Node::Or(children) if !wanted => all(children, |child| of(child, wanted)),
             Node::And(children) | Node::Or(children) => {
-                children.iter().find_map(|child| self.causes(*child, wanted))
+                children.iter().find_map(|child| of(child, wanted))
             }
         }
-    }
-
-    fn all(&self, children: &[NodeId], wanted: bool) -> Option<Causes> {
-        let causes: Option<Vec<Causes>> =
-            children.iter().map(|child| self.causes(*child, wanted)).collect();
-        Some(causes?.into_iter().flatten().collect())
     }
 
     fn in_words(&self, causes: &Causes) -> Option<String> {
@@ -81,12 +97,13 @@ impl Telling<'_> {
         let Some((condition, defeaters)) = self.asked(rule) else {
             return String::new();
         };
-        if let Some(causes) = self.causes(condition, false) {
+        let all = self.causes();
+        if let Some(causes) = of(&all, condition, false) {
             return self
                 .in_words(&causes)
                 .unwrap_or_else(|| "by the plan it never does".to_string());
         }
-        match defeaters.iter().find_map(|defeater| self.causes(*defeater, true)) {
+        match defeaters.iter().find_map(|defeater| of(&all, *defeater, true)) {
             Some(causes) => {
                 let always = || "by the plan it always is".to_string();
                 format!("it is defeated; {}", self.in_words(&causes).unwrap_or_else(always))

@@ -1,6 +1,6 @@
 //! private N SEED [--spoiled]: N random pairs of cases that say the same of the facts that touch a person's circle and whatever else of the others; the
-//! paragraph of each roster person of the circle is the same in both, byte for byte. With --spoiled a paragraph ends with a sentence on all worlds,
-//! and the pairs must tell it.
+//! paragraph of each roster person of the circle is the same in both, byte for byte, and so is all that it is made of; nobody outside the circle is
+//! named. With --spoiled a paragraph ends with a sentence on all worlds, and the pairs must tell it.
 
 use std::sync::atomic::{AtomicU64, Ordering};
 use std::time::Instant;
@@ -13,7 +13,21 @@ use wrapped::strangers;
 
 const USAGE: &str = "private N SEED [--spoiled]";
 
-/// The paragraphs of a circle's roster persons, with all that they hold.
+/// Whether every "person 3" of a text is somebody of the circle.
+fn names_nobody_else(text: &str, near: &Near) -> bool {
+    let words: Vec<&str> = text.split(|letter: char| !letter.is_ascii_alphanumeric()).collect();
+    let mut named = words.windows(2).filter(|pair| pair[0].eq_ignore_ascii_case("person"));
+    named.all(|pair| pair[1].parse().map_or(true, |person| near.circle().holds(person)))
+}
+
+/// What the paragraphs are made of.
+fn made_of(near: &Near) -> String {
+    let said: Vec<_> = near.touching().map(|fact| (fact, near.said(fact.fact))).collect();
+    let (plan, case) = (hex(near.plan().bytes()), hex(&near.case().bytes()));
+    format!("{plan} {case} {said:?} {:?} {:?}", near.variables(), near.lines())
+}
+
+/// The paragraphs of a circle's roster persons, with all that they hold, and what they are made of.
 fn paragraphs(
     plan: &[u8],
     case: &[u8],
@@ -25,7 +39,12 @@ fn paragraphs(
     let own = near.lines().iter().filter_map(|line| words::paragraph(&near, &names, line.person));
     let worlds = || lukhveri::answer(plan, case).map_or(0, |answer| answer.worlds);
     let end = if spoiled { format!("\nThere are {} worlds.", worlds()) } else { String::new() };
-    Ok(own.map(|paragraph| format!("{paragraph:?}{end}")).collect())
+    let told = own.map(|paragraph| format!("{paragraph:?}{end}"));
+    let told = told.map(|text| match names_nobody_else(&text, &near) {
+        true => text,
+        false => format!("in the case {}, somebody else is named: {text}", hex(case)),
+    });
+    Ok(std::iter::once(made_of(&near)).chain(told).collect())
 }
 
 fn hex(bytes: &[u8]) -> String {
@@ -60,7 +79,7 @@ fn pair(random: &mut Random, spoiled: bool, tally: &mut Tally) -> Result<(), Str
     };
     let before = paragraphs(&plan, &first, person, spoiled);
     tally.pairs += 1;
-    tally.paragraphs += before.iter().flatten().count() as u64;
+    tally.paragraphs += before.as_ref().map_or(0, |told| told.len() as u64 - 1);
     tally.telling += u64::from(lukhveri::answer(&plan, &second) != Ok(answer));
     if before.is_ok() && before == after {
         return Ok(());

@@ -4,110 +4,22 @@
 use std::collections::BTreeSet;
 use std::time::Instant;
 
-use inputs::generate::Input;
 use inputs::random::Random;
-use inputs::wire::{BLOCKED, Node, OVERRIDES, Plan, UNRESOLVED};
-use lukhveri::near::{Near, Outcome, Variable, View};
-use lukhveri::{Answer, Event, Line, LineKind, words};
-use wrapped::strangers;
+use inputs::wire::Plan;
+use lukhveri::near::{Near, View, values};
+use lukhveri::{Answer, CaseRecords, Event, Line, LineKind, words};
+use wrapped::waiting::{Whole, shown};
+use wrapped::{claims, strangers};
 
 /// No more worlds than these are gone through.
-const MOST: u64 = 256;
-
-/// The plan in which a variable has a value.
-fn settled(plan: &Plan, variable: Variable, value: bool) -> Plan {
-    let mut plan = plan.clone();
-    match variable {
-        Variable::Fact(fact) => {
-            let nodes = plan.nodes.iter_mut().filter(|node| **node == Node::Fact(fact));
-            nodes.for_each(|node| *node = Node::Literal(u8::from(value)));
-        }
-        Variable::Decision(place) => {
-            let mut open: Vec<(usize, u8, &mut u8)> = Vec::new();
-            for (number, cut) in plan.cuts.iter_mut().enumerate() {
-                let entries = cut.decisions.iter_mut().flatten();
-                open.extend(
-                    entries
-                        .filter(|entry| entry.1 == UNRESOLVED)
-                        .map(|entry| (number, entry.0, &mut entry.1)),
-                );
-            }
-            open.sort_by_key(|(cut, edge, _)| (*cut, *edge));
-            *open[usize::from(place)].2 = if value { OVERRIDES } else { BLOCKED };
-        }
-    }
-    plan
-}
+const MOST: u64 = 64;
 
 fn view(line: &Line) -> View {
     View { kind: line.kind, role: line.role, block: line.block }
 }
 
-/// A person's line if a variable had a value; none where no world would be left.
-fn line_if(input: &Input, person: u8, variable: Variable, value: bool) -> Option<Line> {
-    let plan = settled(&input.plan, variable, value).encode();
-    let answer = lukhveri::answer(&plan, &input.case.encode()).expect("fewer worlds are answered");
-    answer.line(person).copied().filter(|line| line.kind != LineKind::Inconsistent)
-}
-
-/// What every world of the whole case shows a person.
-fn shown(plan: &[u8], case: &[u8], answer: &Answer) -> Vec<Answer> {
-    (0..answer.worlds)
-        .map(|world| lukhveri::show(plan, case, world).expect("an admissible world"))
-        .collect()
-}
-
 fn possible(worlds: &[Answer], person: u8) -> BTreeSet<View> {
     worlds.iter().filter_map(|world| world.line(person)).map(view).collect()
-}
-
-fn outcome(input: &Input, line: &Line, outcome: &Outcome) -> Result<(), String> {
-    for &variable in &outcome.idle {
-        for value in [false, true] {
-            let then = line_if(input, line.person, variable, value);
-            if then.is_some_and(|then| view(&then) != view(line))
-                && can_have(input, variable, value)
-            {
-                return Err(format!(
-                    "person {}: {variable:?} is said to change nothing",
-                    line.person
-                ));
-            }
-        }
-    }
-    for settling in &outcome.settling {
-        for &value in &settling.answers {
-            let then = line_if(input, line.person, settling.variable, value);
-            if then.is_none_or(|then| then.kind != LineKind::Decided) {
-                return Err(format!("person {}: {settling:?} does not settle", line.person));
-            }
-        }
-    }
-    Ok(())
-}
-
-/// A conflict whose papers all say the same has one value.
-fn can_have(input: &Input, variable: Variable, value: bool) -> bool {
-    let Variable::Fact(fact) = variable else {
-        return true;
-    };
-    let booleans = input.case.booleans.iter().filter(|record| record.fact == fact);
-    let mut told: Vec<u8> = booleans
-        .flat_map(|record| record.observations.iter().flatten())
-        .map(|pair| pair.0)
-        .collect();
-    let scoped = |family: u8| {
-        input
-            .case
-            .families
-            .iter()
-            .any(|record| record.number == family && record.scope == input.case.scope)
-    };
-    let in_scope =
-        input.plan.facts[usize::from(fact)].as_ref().is_some_and(|(family, _)| scoped(*family));
-    let relations = input.case.relations.iter().filter(|record| in_scope && record.fact == fact);
-    told.extend(relations.map(|record| record.value));
-    told.is_empty() || told.contains(&u8::from(value))
 }
 
 /// The number behind a word, such as the 3 of "edge 3".
@@ -192,6 +104,14 @@ fn preceded(plan: &Plan, cut: usize) -> u64 {
     }
 }
 
+type Values = Vec<Vec<(lukhveri::near::Variable, bool)>>;
+
+fn all_values(plan: &[u8], case: &[u8], answer: &Answer) -> Result<Values, String> {
+    let plan = lukhveri::Plan::read(plan).map_err(|refusal| refusal.to_string())?;
+    let case = CaseRecords::read(case).ok_or("a case that is answered can be read")?;
+    Ok((0..answer.worlds).filter_map(|world| values(&plan, &case, world)).collect())
+}
+
 fn case(random: &mut Random, done: &mut u64) -> Result<(), String> {
     let input = strangers::input(random);
     let (plan, case) = (input.plan.encode(), input.case.encode());
@@ -202,7 +122,9 @@ fn case(random: &mut Random, done: &mut u64) -> Result<(), String> {
         return Ok(());
     }
     *done += 1;
-    let worlds = shown(&plan, &case, &answer);
+    let worlds = shown(&plan, &case, answer.worlds);
+    let whole =
+        Whole { input: &input, worlds: &worlds, values: all_values(&plan, &case, &answer)? };
     let names = Default::default();
     for near in Near::all(&plan, &case).map_err(|error| error.to_string())? {
         for line in near.lines() {
@@ -212,16 +134,19 @@ fn case(random: &mut Random, done: &mut u64) -> Result<(), String> {
             {
                 return Err(format!("person {}: other things are possible", line.person));
             }
-            outcome(&input, line, &found)?;
-            if matches!(line.kind, LineKind::Overlap | LineKind::Discretion)
-                && near.marks(line.person, line.kind).is_empty()
-            {
-                return Err(format!("person {}: nothing marks the person", line.person));
+            whole.outcome(line, &found)?;
+            if matches!(line.kind, LineKind::Overlap | LineKind::Discretion) {
+                let marks = near.marks(line.person, line.kind);
+                whole.marks(line.person, line.kind, &marks)?;
+                if marks.is_empty() {
+                    return Err(format!("person {}: nothing marks the person", line.person));
+                }
             }
             let paragraph = words::paragraph(&near, &names, line.person).ok_or("no paragraph")?;
             for text in &paragraph.sentences {
                 sentence(text, &answer)?;
                 stopped(text, &input.plan, &answer)?;
+                claims::sentence(&input, &worlds, line.person, text)?;
                 if text.contains("but nothing") {
                     return Err(format!("without a reason: {text}"));
                 }
