@@ -91,7 +91,11 @@ fn a_refusal_says_what_would_mend_it() {
     assert_eq!(said.status, Some(1));
     assert!(said.out.starts_with("Refused 9: case, record 0 (the heading, at byte 0)"));
     assert!(said.out.contains(": its relation is 9, the plan's is 1.\n"));
-    assert!(said.out.contains("\nWhat would mend it: compare the case's heading with the plan"), "{}", said.out);
+    assert!(
+        said.out.contains("\nWhat would mend it: compare the case's heading with the plan"),
+        "{}",
+        said.out
+    );
     let path = folder.path().join("case.bin");
     assert_eq!(said.err, format!("lukhveri: {}: refused 9, record 0\n", path.display()));
     let said = on("explain", folder.path(), &["--json", "--officer"]);

@@ -26,7 +26,7 @@ fn a_mark_comes_from_where_it_comes_from() {
     let told = said(CHAINS, case, 6);
     let wanted = "Person 6 is left to discretion.
 Person 3, person 4 and person 5 hang together by a chain of Base edges in which not every two are joined by one, and the plan has no citation for chains; this reaches person 6 through edge 4 between person 5 and person 6 (citation 2).
-An officer has to decide, unless the plan names a paragraph by which chains are enough.";
+As things stand, an officer has to decide, unless the plan names a paragraph by which chains are enough.";
     assert_eq!(told, wanted);
     for stranger in ["person 0", "person 1", "person 2"] {
         assert!(!told.to_lowercase().contains(stranger), "{stranger} in {told}");
@@ -280,4 +280,24 @@ fn a_chain_that_can_be_longer_is_told_once() {
     let told = said(plan, "017f010101 1f00000000000000 00 0010", 0);
     assert_eq!(told.matches("hang together").count(), 1, "{told}");
     assert!(told.contains("\nPerson 0, person 1 and person 2 hang together by"), "{told}");
+}
+
+/// Whether a chain or an overlap is there can hang on an answer: then it is not said outright.
+#[test]
+fn marks_by_some_of_the_open_answers() {
+    let plan = "0101010200030101030200040f00010001040f01020101";
+    let told = said(plan, "017f0101010700000000000000001000", 0);
+    let wanted = "Person 0 is left to discretion, by some of the open answers.
+By some of the open answers, person 0, person 1 and person 2 hang together by a chain of Base edges";
+    assert!(told.starts_with(wanted), "{told}");
+    let plan = "010101 0200 030101 030200 0507 0300000000000000 0002 0507 0600000000000000 0102";
+    let told = said(plan, "017f010101 0700000000000000 00 0010", 0);
+    assert!(told.contains("\nBy some of the open answers, cut 0 of "), "{told}");
+}
+
+#[test]
+fn a_member_is_said_to_be_one_where_roles_differ() {
+    let plan = "010101 0200 030101 030200 040f00010001 0807000102";
+    let told = said(plan, "017f010101 0300000000000000 00 0010", 0);
+    assert!(told.contains("Possible: a member, with person 1; excluded, with person 1."), "{told}");
 }

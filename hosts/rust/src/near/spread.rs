@@ -1,5 +1,6 @@
 //! Where a mark comes from, and along what it reaches a person.
 
+use std::collections::btree_map::Entry;
 use std::collections::{BTreeMap, BTreeSet, VecDeque};
 
 use crate::line::LineKind;
@@ -33,6 +34,8 @@ pub struct Mark {
     pub seed: Seed,
     /// From the seed to the person; none where the person is in the seed.
     pub links: Vec<Link>,
+    /// Whether the seed marks in every world, a chain by itself or as part of a longer one.
+    pub always: bool,
 }
 
 /// Marks spread over influence first, over rules afterwards.
@@ -48,12 +51,13 @@ impl Near {
     /// The marks of a kind, overlap or discretion, that reach a person in some world.
     pub fn marks(&self, person: u8, kind: LineKind) -> Vec<Mark> {
         let marked = |world: &&World| world.view(person).is_some_and(|view| view.kind == kind);
-        let seeds: BTreeSet<Seed> =
-            self.worlds().iter().filter(marked).flat_map(|world| seeds(world, kind)).collect();
-        let spread = Spread::of(self);
-        let reaching = seeds.into_iter().filter_map(|seed| {
-            let links = spread.path(self.seeded(seed), person)?;
-            Some(Mark { seed, links })
+        let seeds_of = |world: &World| seeds(world, kind);
+        let own: BTreeSet<Seed> = self.worlds().iter().filter(marked).flat_map(seeds_of).collect();
+        let always = |seed: Seed| self.worlds().iter().all(|world| marks_in(world, seed));
+        let ways = Spread::of(self).ways(person);
+        let reaching = own.into_iter().filter_map(|seed| {
+            let links = ways.from(self.seeded(seed))?;
+            Some(Mark { seed, links, always: always(seed) })
         });
         reaching.collect()
     }
@@ -100,6 +104,16 @@ pub(super) fn seeds(world: &World, kind: LineKind) -> Vec<Seed> {
     }
 }
 
+/// Whether a seed marks in a world; a chain also as part of a longer one.
+fn marks_in(world: &World, seed: Seed) -> bool {
+    match seed {
+        Seed::Overlap(earlier, later) => world.acts.overlaps.contains(&(earlier, later)),
+        Seed::Chain(chain) => {
+            world.acts.chains.iter().any(|longer| chain.without(*longer).is_empty())
+        }
+    }
+}
+
 /// What marks go along.
 pub(super) struct Spread {
     influence: Vec<(Variable, Persons)>,
@@ -132,55 +146,61 @@ impl Spread {
         close(&rules, close(&influence, seed))
     }
 
-    /// Fewest links from somebody of the seed to a person; none where the mark does not reach the person.
-    fn path(&self, seed: Persons, person: u8) -> Option<Vec<Link>> {
-        let mut from: BTreeMap<State, Option<(State, Link)>> = BTreeMap::new();
+    /// The shortest ways on which a mark comes to a person, found backwards from there.
+    fn ways(&self, person: u8) -> Ways {
+        let mut ways = Ways { toward: BTreeMap::new() };
         let mut queue = VecDeque::new();
-        for start in seed {
-            for phase in [Phase::Rules, Phase::Influence] {
-                from.insert((phase, start), None);
-                queue.push_back((phase, start));
-            }
+        for phase in [Phase::Rules, Phase::Influence] {
+            ways.toward.insert((phase, person), (0, None));
+            queue.push_back((phase, person));
         }
         while let Some(state) = queue.pop_front() {
-            if state.1 == person {
-                return Some(links(&from, state));
-            }
-            for (next, link) in self.next(state) {
-                if let std::collections::btree_map::Entry::Vacant(place) = from.entry(next) {
-                    place.insert(Some((state, link)));
-                    queue.push_back(next);
+            let length = ways.toward.get(&state).map_or(0, |(length, _)| length + 1);
+            for (before, link) in self.before(state) {
+                if let Entry::Vacant(place) = ways.toward.entry(before) {
+                    place.insert((length, Some((link, state))));
+                    queue.push_back(before);
                 }
             }
         }
-        None
+        ways
     }
 
-    /// Whoever is reached over influence is reached for the rules, too.
-    fn next(&self, (phase, at): State) -> Vec<(State, Link)> {
+    /// From whom a mark comes to somebody in one step. Whoever is reached over influence is reached for the rules, too.
+    fn before(&self, (phase, at): State) -> Vec<(State, Link)> {
+        let sets = self.influence.iter().filter(|(_, persons)| persons.holds(at));
+        let influence = sets.flat_map(|&(variable, persons)| {
+            persons.iter().map(move |from| ((Phase::Influence, from), Link::Variable(variable)))
+        });
+        if phase == Phase::Influence {
+            return influence.collect();
+        }
         let rules = self.rules.iter().filter(|(_, persons)| persons.holds(at));
         let rules = rules.flat_map(|&(rule, persons)| {
-            persons.iter().map(move |next| ((Phase::Rules, next), Link::Rule(rule)))
+            persons.iter().map(move |from| ((Phase::Rules, from), Link::Rule(rule)))
         });
-        if phase == Phase::Rules {
-            return rules.collect();
-        }
-        let sets = self.influence.iter().filter(|(_, persons)| persons.holds(at));
-        let along = sets.flat_map(|&(variable, persons)| {
-            let both =
-                persons.iter().flat_map(|next| [(Phase::Rules, next), (Phase::Influence, next)]);
-            both.map(move |state| (state, Link::Variable(variable)))
-        });
-        along.collect()
+        rules.chain(influence).collect()
     }
 }
 
-fn links(from: &BTreeMap<State, Option<(State, Link)>>, end: State) -> Vec<Link> {
-    let (mut links, mut at) = (Vec::new(), end);
-    while let Some(Some((before, link))) = from.get(&at) {
-        links.push(*link);
-        at = *before;
+/// For everyone from whom a mark comes to a person: over how many links, and the first of them.
+struct Ways {
+    toward: BTreeMap<State, (usize, Option<(Link, State)>)>,
+}
+
+impl Ways {
+    /// Fewest links from somebody of the seed; none where the mark does not reach the person.
+    fn from(&self, seed: Persons) -> Option<Vec<Link>> {
+        let phases = [Phase::Rules, Phase::Influence];
+        let starts =
+            phases.into_iter().flat_map(|phase| seed.iter().map(move |start| (phase, start)));
+        let reaching = starts.filter_map(|start| Some((self.toward.get(&start)?.0, start)));
+        let (_, mut at) = reaching.min_by_key(|(length, _)| *length)?;
+        let mut links = Vec::new();
+        while let Some((_, Some((link, next)))) = self.toward.get(&at) {
+            links.push(*link);
+            at = *next;
+        }
+        Some(links)
     }
-    links.reverse();
-    links
 }

@@ -10,12 +10,17 @@ impl Telling<'_> {
         let uses = |why: &Why| *why == Why::Constraint(number);
         let facts = self.near.touching().filter(|touching| touching.why.iter().any(uses));
         let facts: Vec<String> = facts.map(|touching| self.answer(touching.fact)).collect();
-        match facts.is_empty() {
-            true => format!(
-                "Constraint {number} uses no fact: the plan itself makes its condition false or true."
-            ),
-            false => format!("Constraint {number} uses {}.", listed(facts)),
+        match (facts.is_empty(), self.never(number)) {
+            (true, true) => format!("Constraint {number} can never hold, by the plan."),
+            (true, false) => format!("Constraint {number} always holds, by the plan."),
+            (false, _) => format!("Constraint {number} uses {}.", listed(facts)),
         }
+    }
+
+    /// Whether the condition of a constraint is false whatever is open.
+    fn never(&self, number: u8) -> bool {
+        let node = self.near.case().constraints.get(usize::from(number));
+        node.is_some_and(|node| self.is_false(*node))
     }
 
     fn answer(&self, fact: u8) -> String {

@@ -48,7 +48,7 @@ fn asked(names: &Names, actor: Option<u8>, evidence: Evidence) -> String {
             format!("; it is up to {}, and there is no paper", names.of("actor", actor))
         }
         (Some(actor), false) => {
-            format!("; it is up to {}, with {}", names.of("actor", actor), listed(papers))
+            format!("; it is up to {}; papers on it: {}", names.of("actor", actor), listed(papers))
         }
     }
 }

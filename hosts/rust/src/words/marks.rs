@@ -60,7 +60,7 @@ impl Telling<'_> {
         let marks = smallest(self.near.marks(person, LineKind::Discretion));
         let mut said = vec![format!("{name} is left to discretion{when}.")];
         said.extend(marks.iter().map(|mark| self.mark(mark, person)));
-        said.push("An officer has to decide, unless the plan names a paragraph by which chains are enough.".to_string());
+        said.push("As things stand, an officer has to decide, unless the plan names a paragraph by which chains are enough.".to_string());
         said
     }
 
@@ -73,6 +73,10 @@ impl Telling<'_> {
                 "{} hang together by a chain of Base edges in which not every two are joined by one, and the plan has no citation for chains",
                 self.names.persons(persons)
             ),
+        };
+        let what = match mark.always {
+            true => what,
+            false => format!("by some of the open answers, {what}"),
         };
         match mark.links.is_empty() {
             true => format!("{what}."),

@@ -127,8 +127,15 @@ impl Telling<'_> {
         }
     }
 
+    /// What can come about; where roles differ, a member is said to be one.
     fn possible(&self, person: u8, outcome: &Outcome) -> Vec<String> {
-        outcome.possible.iter().map(|view| fate(person, view, self.names)).collect()
+        let differ = roles(outcome).len() > 1;
+        let words = outcome.possible.iter().map(|view| {
+            let fate = fate(person, view, self.names);
+            let member = differ && view.role == Role::Member;
+            if member { format!("a member, {fate}") } else { fate }
+        });
+        words.collect()
     }
 
     /// The constraints, which cannot all hold, and what they ask.
@@ -146,7 +153,8 @@ impl Telling<'_> {
 
 /// The roles that can come about, in words.
 fn roles(outcome: &Outcome) -> Vec<String> {
-    let mut roles: Vec<Role> = outcome.possible.iter().map(|view| view.role).collect();
+    let shown = outcome.possible.iter().map(|view| view.role);
+    let mut roles: Vec<Role> = shown.filter(|role| *role != Role::None).collect();
     roles.sort_by_key(|role| role.number());
     roles.dedup();
     let word = |role: &Role| match role {

@@ -67,6 +67,11 @@ impl Telling<'_> {
         }
     }
 
+    /// Whether a node is false whatever is open.
+    pub(crate) fn is_false(&self, node: u8) -> bool {
+        self.causes().get(usize::from(node)).is_some_and(|[no, _]| no.is_some())
+    }
+
     fn in_words(&self, causes: &Causes) -> Option<String> {
         let facts = causes.iter().map(|(fact, value)| self.known(*fact, *value));
         (!causes.is_empty()).then(|| listed(facts))

@@ -23,10 +23,12 @@ impl Telling<'_> {
             });
         }
         said.extend(self.first(outcome));
-        if !outcome.idle.is_empty() {
-            let all = self.all_open(&outcome.idle);
-            said.push(format!("Open as well, but changing nothing as things stand: {all}."));
-        }
+        let idle = match outcome.idle.len() {
+            0 => return said,
+            1 => "changing nothing as things stand",
+            _ => "none of these changes anything by itself as things stand",
+        };
+        said.push(format!("Open as well, but {idle}: {}.", self.all_open(&outcome.idle)));
         said
     }
 
