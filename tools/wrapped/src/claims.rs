@@ -177,7 +177,7 @@ fn parted(_: &Input, worlds: &[Answer], named: &[Named]) -> bool {
     let (first, rest) = (named[0], &named[1..]);
     let own = worlds.iter().filter(|world| acts(world, first));
     let all = own.map(|world| rest.iter().any(|rule| acts(world, *rule)));
-    all.fold(true, |all, is| all && is) && !rest.is_empty()
+    all.into_iter().all(|is| is) && !rest.is_empty()
 }
 
 /// That no rule names a person, or none that joins.
