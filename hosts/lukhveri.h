@@ -6,11 +6,12 @@
  * Rules of use
  *   - Any bytes may be given as plan and case, and buffers of any length and content may be lent: nothing is asked of the caller but that each
  *     pointer reaches as many bytes as its length says. A pointer is never null, also where its length is 0.
- *   - Buffers that are written (lines, events, told) overlap no other buffer of the call. Plan and case are only read.
+ *   - Buffers that are written (lines, events, text, told) overlap no other buffer of the call. Plan and case are only read.
  *   - Nothing is allocated and nothing is kept between calls: no state, no pointer. Calls from several threads are independent.
- *   - Each function returns the refusal's number, 0 for none, which is also told[LUKHVERI_TOLD_REFUSAL]; all seven numbers of told are written.
- *   - After a refusal both buffers are zero from end to end. After a result the lines and events stand at their start, one after another, and
- *     every byte past them is zero.
+ *   - A function that takes told returns the refusal's number, 0 for none, which is also told[LUKHVERI_TOLD_REFUSAL]; all seven numbers of told
+ *     are written. The other two, lukhveri_list and lukhveri_circle, say themselves what they return.
+ *   - After a refusal the buffers of lines and events are zero from end to end. After a result the lines and events stand at their start, one
+ *     after another, and every byte past them is zero.
  *   - A call works on the stack of its thread, which has to be large enough: see LUKHVERI_STACK.
  *
  * Integers in files, lines and events are little-endian. A mask has bit p for person (or fact, citation, piece of evidence) p, bit 0 lowest.
@@ -113,7 +114,10 @@ extern "C" {
  * base-chain citation in the plan's heading there are none of kind 9. */
 #define LUKHVERI_MOST_EVENTS_LENGTH ((1368 + 21 * LUKHVERI_WORLDS) * LUKHVERI_EVENT)
 
-/* Bytes of stack that are enough for a call, whatever is lent: hosts/measure found 96,759. Many events take little time: an answer with 4,096
+/* Bytes that hold every text of the lister. */
+#define LUKHVERI_TEXT_LENGTH 13216
+
+/* Bytes of stack that are enough for a call, whatever is lent: hosts/measure found 97,015. Many events take little time: an answer with 4,096
  * of kind 9 took 2 ms, one with 16,384 took 21 ms. */
 #define LUKHVERI_STACK (256 * 1024)
 
@@ -127,6 +131,19 @@ uint8_t lukhveri_answer(const uint8_t *plan, size_t plan_length, const uint8_t *
 /* Shows the world of that number, counted from 0 among the admissible ones. Its lines have open fields of zero; events are its own. */
 uint8_t lukhveri_show(const uint8_t *plan, size_t plan_length, const uint8_t *case_bytes, size_t case_length, uint64_t world,
                       uint8_t *lines, size_t lines_length, uint8_t *events, size_t events_length, uint64_t told[LUKHVERI_TOLD]);
+
+/* Writes what the lister prints of a plan and a case to the start of text, in ASCII, without a zero at its end, and returns how many bytes it
+ * wrote: a heading, a row for each line and the count of units; or a single row, which begins with "refused", with the refusal's number and
+ * record. A line feed ends each row. Of a text that is longer than its buffer it writes and counts what fits; bytes past the text stay as they
+ * are. Lines and events are answered into their buffers, which decide whether 12 or 13 comes. */
+size_t lukhveri_list(const uint8_t *plan, size_t plan_length, const uint8_t *case_bytes, size_t case_length, uint8_t *lines,
+                     size_t lines_length, uint8_t *events, size_t events_length, uint8_t *text, size_t text_length);
+
+/* Returns the circle of a person as a mask: that person and all who are reached by rules, unresolved decisions and facts that join persons, on
+ * the roster or off it. What a case says of a fact that touches nobody of the circle does not show in the person's line. Plan, heading and
+ * constraints alone make a circle. 0 for a person above 63, for a plan that lukhveri_check refuses, and for a case that is refused by 1 to 4; a
+ * case that a later number refuses has circles. */
+uint64_t lukhveri_circle(const uint8_t *plan, size_t plan_length, const uint8_t *case_bytes, size_t case_length, uint8_t person);
 
 #ifdef __cplusplus
 }

@@ -1,4 +1,5 @@
-/* measure: how long an answer with many events of kind 9 takes, and how much stack it uses, for what lukhveri.h says of time and stack.
+/* measure: how long an answer with many events of kind 9 takes, and how much stack the calls use that answer it, list it and find a circle, for
+ * what lukhveri.h says of time and stack.
  *
  * The plan has stars of Base edges: two arms that are always there, twelve that come and go with twelve open facts. So there are 4,096 worlds, in each
  * of which each star is another component that is left to discretion. */
@@ -13,9 +14,11 @@
 
 enum { FACTS = 12, STAR = FACTS + 3, MOST_STARS = 4, MOST_EVENTS = MOST_STARS * (4096 + FACTS + 2), STACK = 1 << 20, ROUNDS = 9, PAINT = 0xa5 };
 
-static uint8_t plan[4096], roster_case[16], lines[LUKHVERI_LINES_LENGTH], events[MOST_EVENTS * LUKHVERI_EVENT];
+static uint8_t plan[4096], roster_case[16], lines[LUKHVERI_LINES_LENGTH], events[MOST_EVENTS * LUKHVERI_EVENT], text[LUKHVERI_TEXT_LENGTH];
 static size_t plan_length;
 static uint64_t told[LUKHVERI_TOLD];
+static size_t listed;
+static uint64_t circle;
 static double best;
 static uintptr_t top;
 
@@ -57,7 +60,7 @@ static double seconds(void) {
     return now.tv_sec + now.tv_nsec * 1e-9;
 }
 
-static void *answer(void *nothing) {
+static void *call(void *nothing) {
     char here;
     top = (uintptr_t)&here;
     best = 1e9;
@@ -67,10 +70,12 @@ static void *answer(void *nothing) {
         double taken = seconds() - start;
         if (taken < best) best = taken;
     }
+    listed = lukhveri_list(plan, plan_length, roster_case, sizeof roster_case, lines, sizeof lines, events, sizeof events, text, sizeof text);
+    circle = lukhveri_circle(plan, plan_length, roster_case, sizeof roster_case, 0);
     return nothing;
 }
 
-/* On a stack that was painted before, so that what is left of the paint tells how deep the call went. */
+/* On a stack that was painted before, so that what is left of the paint tells how deep the calls went. */
 static int measure(uint8_t stars, uint8_t *stack) {
     pthread_attr_t how;
     pthread_t thread;
@@ -78,12 +83,12 @@ static int measure(uint8_t stars, uint8_t *stack) {
     make_plan(stars);
     make_case(stars);
     memset(stack, PAINT, STACK);
-    if (pthread_attr_init(&how) || pthread_attr_setstack(&how, stack, STACK) || pthread_create(&thread, &how, answer, NULL)) return 0;
+    if (pthread_attr_init(&how) || pthread_attr_setstack(&how, stack, STACK) || pthread_create(&thread, &how, call, NULL)) return 0;
     pthread_join(thread, NULL);
     while (untouched < STACK && stack[untouched] == PAINT) untouched++;
     printf("%6d %8d %8d %10.2f %8d\n", (int)told[LUKHVERI_TOLD_REFUSAL], (int)told[LUKHVERI_TOLD_WORLDS], (int)told[LUKHVERI_TOLD_EVENTS],
            best * 1e3, (int)(top - (uintptr_t)(stack + untouched)));
-    return told[LUKHVERI_TOLD_REFUSAL] == 0;
+    return told[LUKHVERI_TOLD_REFUSAL] == 0 && listed > 0 && circle != 0;
 }
 
 int main(void) {
@@ -91,6 +96,6 @@ int main(void) {
     int fine = stack != MAP_FAILED;
     puts("refusal   worlds   events milliseconds  stack");
     for (uint8_t stars = 1; fine && stars <= MOST_STARS; stars *= 2) fine = measure(stars, stack);
-    if (!fine) fputs("measure: an answer was refused, or there is no thread for it\n", stderr);
+    if (!fine) fputs("measure: a call was refused, or there is no thread for it\n", stderr);
     return !fine;
 }

@@ -1,1 +1,2 @@
 pub mod HandLaws
+pub mod CircleLaws

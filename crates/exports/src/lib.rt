@@ -1,6 +1,9 @@
-// What a host links: the operations under C names.
+// What a host links: the operations, the lister's work and a person's circle, under C names.
+mod circle;
 mod tell;
 
+use circle::circle_in;
+use listing::list::list;
 use report::operations::answer;
 use report::operations::check;
 use report::operations::show;
@@ -8,7 +11,9 @@ use tell::tell;
 ghost use mathlib.Core.Path.{_≡_};
 ghost use lib.ListN.{length};
 ghost use Rattle.report.specs.paper.Operations.{told as toldOf, check as checkOf, answer as answerOf, show as showOf};
+ghost use Rattle.listing.specs.Shown.{Listed};
 ghost use Rattle.exports.specs.Handed.{numbers, handed};
+ghost use Rattle.exports.specs.Circled.{circleIn};
 
 // Check a plan: the refusal's number, 0 for none. The seven numbers of document 01 go behind the reference.
 #[no_mangle]
@@ -48,4 +53,26 @@ pub extern "C" fn lukhveri_show(
 {
     let answer = show(plan, case, world, lines, events);
     tell(answer, told)
+}
+
+// What the lister prints of a plan and a case, at the start of `text`: its length. Lines and events are those of the answer.
+#[no_mangle]
+pub extern "C" fn lukhveri_list(
+    plan: &[u8],
+    case: &[u8],
+    lines: &mut [u8],
+    events: &mut [u8],
+    text: &mut [u8],
+) -> usize
+    ensures { λ r. ⌜ Listed (now (plan .entry)) (now (case .entry)) (now (lines .entry)) (now (events .entry)) (now (text .entry)) (now (lines .exit)) (now (events .exit)) (now (text .exit)) r ⌝ }
+{
+    list(plan, case, lines, events, text)
+}
+
+// The circle of a person, as a mask; 0 where plan or case is not read, and for a number that is no person's.
+#[no_mangle]
+pub extern "C" fn lukhveri_circle(plan: &[u8], case: &[u8], person: u8) -> u64
+    ensures { λ r. ⌜ r ≡ circleIn (now (plan .entry)) (now (case .entry)) person ⌝ }
+{
+    circle_in(plan, case, person)
 }

@@ -2,22 +2,33 @@
 
 use crate::build_error::{BuildError, at_most, within};
 use crate::case::Case;
+use crate::case_records::CaseRecords;
 use crate::handles::{BooleanId, NodeId, RelationId};
 use crate::limits;
+use crate::numbers::Paper;
 use crate::persons::Persons;
 use crate::plan::Plan;
-use crate::write::Writer;
+use crate::write::{write_boolean, write_constraint, write_family, write_relation};
+
+/// Which group of people in which period a case is about: the office's numbers for them, 1 to 255.
+#[derive(Clone, Copy, Debug, PartialEq, Eq, Hash)]
+pub struct Frame {
+    /// The group of people.
+    pub scope: u8,
+    /// The period.
+    pub segment: u8,
+}
 
 /// A family of relations, as the case knows it.
 #[derive(Clone, Copy, Debug, PartialEq, Eq)]
 pub struct Family {
-    number: u8,
-    scope: Option<u8>,
-    complete: Option<u8>,
+    pub(crate) number: u8,
+    pub(crate) scope: Option<u8>,
+    pub(crate) complete: Option<Paper>,
 }
 
 impl Family {
-    /// A family in the roster's scope that is not complete.
+    /// A family in the scope that the case has when it is told, and not complete.
     pub fn new(number: u8) -> Family {
         Family { number, scope: None, complete: None }
     }
@@ -27,60 +38,49 @@ impl Family {
         Family { scope: Some(scope), ..self }
     }
 
-    /// Complete by this evidence: what is not told of it is false.
-    pub fn complete(self, evidence: u8) -> Family {
-        Family { complete: Some(evidence), ..self }
+    /// Complete by this paper: what is not told of it is false.
+    pub fn complete(self, paper: Paper) -> Family {
+        Family { complete: Some(paper), ..self }
     }
 }
 
 /// What is said of a boolean fact.
-#[derive(Debug)]
-struct Boolean {
-    fact: BooleanId,
-    unknown: Option<u8>,
-    observations: Vec<[u8; 2]>,
+#[derive(Clone, Debug)]
+pub(crate) struct Boolean {
+    pub(crate) fact: BooleanId,
+    pub(crate) unknown: Option<Paper>,
+    pub(crate) observations: Vec<(bool, Paper)>,
 }
 
-/// A case in the making, over a plan. An answer to a finished case refuses nothing up to 10, but 8 where the segment is said to be
-/// incomplete: only too many worlds or short buffers are left.
-#[derive(Debug)]
+/// A case in the making, over a plan: from nothing, or from a case that is there. An answer to a finished case refuses nothing up to 10, but 8
+/// where the segment is said to be incomplete: only too many worlds or short buffers are left.
+#[derive(Clone, Debug)]
 pub struct CaseBuilder<'a> {
-    plan: &'a Plan,
-    scope: u8,
-    segment: u8,
-    segment_complete: bool,
-    roster: Persons,
-    complete: Option<u8>,
-    most_worlds: u16,
-    families: Vec<Family>,
-    booleans: Vec<Boolean>,
-    /// Fact, value and evidence.
-    relations: Vec<(RelationId, bool, u8)>,
-    constraints: Vec<u8>,
+    pub(crate) plan: &'a Plan,
+    pub(crate) frame: Frame,
+    pub(crate) segment_complete: bool,
+    pub(crate) roster: Persons,
+    pub(crate) complete: Option<Paper>,
+    pub(crate) most_worlds: u16,
+    pub(crate) families: Vec<Family>,
+    pub(crate) booleans: Vec<Boolean>,
+    pub(crate) relations: Vec<(RelationId, bool, Paper)>,
+    pub(crate) constraints: Vec<NodeId>,
 }
 
 impl<'a> CaseBuilder<'a> {
-    /// A case of this roster in a scope and a complete segment, both from 1 to 255. The roster is not complete until
+    /// A case of this roster. Its segment is complete: nothing changes within it. The roster is not complete until
     /// [`roster_complete`](CaseBuilder::roster_complete) says so; 4,096 worlds are allowed.
     pub fn new(
         plan: &'a Plan,
-        scope: u8,
-        segment: u8,
+        frame: Frame,
         roster: Persons,
     ) -> Result<CaseBuilder<'a>, BuildError> {
-        within("scope", scope, 1, 255)?;
-        within("segment", segment, 1, 255)?;
-        if roster.is_empty() {
-            return Err(BuildError::EmptyRoster);
-        }
-        let persons = plan.records().rule_persons().without(roster);
-        if !persons.is_empty() {
-            return Err(BuildError::OffRoster { persons });
-        }
+        framed(frame)?;
+        fitting(plan, roster)?;
         Ok(CaseBuilder {
             plan,
-            scope,
-            segment,
+            frame,
             segment_complete: true,
             roster,
             complete: None,
@@ -92,13 +92,13 @@ impl<'a> CaseBuilder<'a> {
         })
     }
 
-    /// The roster is complete by this evidence. Of an incomplete one nothing is decided.
-    pub fn roster_complete(&mut self, evidence: u8) -> Result<(), BuildError> {
-        self.complete = Some(proven(evidence)?);
+    /// The roster is complete by this paper. Of an incomplete one nothing is decided.
+    pub fn roster_complete(&mut self, paper: Paper) -> Result<(), BuildError> {
+        self.complete = Some(proven(paper)?);
         Ok(())
     }
 
-    /// The segment is not complete: an answer will be refused with 8.
+    /// The segment is not complete, something changes within it: an answer will be refused with 8.
     pub fn segment_incomplete(&mut self) {
         self.segment_complete = false;
     }
@@ -115,7 +115,13 @@ impl<'a> CaseBuilder<'a> {
 
     /// A family; each once. Families are told before or after their relations.
     pub fn family(&mut self, family: Family) -> Result<(), BuildError> {
-        family.complete.map_or(Ok(0), proven)?;
+        let scope = Some(family.scope.unwrap_or(self.frame.scope));
+        self.add_family(Family { scope, ..family })
+    }
+
+    /// A family whose scope, if there is none, is left out.
+    pub(crate) fn add_family(&mut self, family: Family) -> Result<(), BuildError> {
+        family.complete.map_or(Ok(()), |paper| proven(paper).map(drop))?;
         if self.has_family(family.number) {
             return Err(BuildError::FamilyTwice { family: family.number });
         }
@@ -125,16 +131,17 @@ impl<'a> CaseBuilder<'a> {
     }
 
     /// A boolean fact is explicitly unknown: no default stands in for it.
-    pub fn unknown(&mut self, fact: BooleanId, evidence: u8) -> Result<(), BuildError> {
-        proven(evidence)?;
+    pub fn unknown(&mut self, fact: BooleanId, paper: Paper) -> Result<(), BuildError> {
+        proven(paper)?;
         let boolean = self.boolean(fact)?;
+        let fact = boolean.fact;
         if boolean.unknown.is_some() {
             return Err(BuildError::UnknownTwice { fact });
         }
         if !boolean.observations.is_empty() {
             return Err(BuildError::UnknownAndObserved { fact });
         }
-        boolean.unknown = Some(evidence);
+        boolean.unknown = Some(paper);
         Ok(())
     }
 
@@ -143,16 +150,16 @@ impl<'a> CaseBuilder<'a> {
         &mut self,
         fact: BooleanId,
         value: bool,
-        evidence: u8,
+        paper: Paper,
     ) -> Result<(), BuildError> {
-        proven(evidence)?;
+        proven(paper)?;
         let boolean = self.boolean(fact)?;
         if boolean.unknown.is_some() {
-            return Err(BuildError::UnknownAndObserved { fact });
+            return Err(BuildError::UnknownAndObserved { fact: boolean.fact });
         }
         let count = boolean.observations.len() + 1;
         at_most("observations of a fact", count, limits::OBSERVATIONS)?;
-        boolean.observations.push([u8::from(value), evidence]);
+        boolean.observations.push((value, paper));
         Ok(())
     }
 
@@ -161,65 +168,69 @@ impl<'a> CaseBuilder<'a> {
         &mut self,
         fact: RelationId,
         value: bool,
-        evidence: u8,
+        paper: Paper,
     ) -> Result<(), BuildError> {
-        proven(evidence)?;
+        proven(paper)?;
         if self.plan.family_of(fact).is_none() {
             return Err(BuildError::NotOfThisPlan { what: "fact" });
         }
         at_most("relations", self.relations.len() + 1, limits::RELATIONS)?;
-        self.relations.push((fact, value, evidence));
+        self.relations.push((fact, value, paper));
         Ok(())
     }
 
     /// Only worlds in which this condition holds are admissible.
     pub fn constrain(&mut self, node: NodeId) -> Result<(), BuildError> {
-        if !self.plan.has_node(node) {
-            return Err(BuildError::NotOfThisPlan { what: "node" });
-        }
+        self.node_number(node)?;
         at_most("constraints", self.constraints.len() + 1, limits::CONSTRAINTS)?;
-        self.constraints.push(node.number);
+        self.constraints.push(node);
         Ok(())
     }
 
     /// The case as it stands, with its bytes; the builder can go on.
     pub fn finish(&self) -> Result<Case, BuildError> {
         let mut bytes = Vec::new();
-        self.heading().finish(&mut bytes);
+        self.heading().write_heading().finish(&mut bytes);
         for family in &self.families {
-            let scope = family.scope.unwrap_or(self.scope);
-            let writer = Writer::new(2).byte(0, family.number).byte(1, scope);
-            writer.optional(2, family.complete).finish(&mut bytes);
+            let complete = family.complete.map(|paper| paper.0);
+            write_family(family.number, family.scope, complete).finish(&mut bytes);
         }
         for boolean in &self.booleans {
-            let writer = Writer::new(3).byte(0, self.number(boolean.fact)?);
-            let writer = writer.optional(1, boolean.unknown);
-            writer.some(2, &boolean.observations).finish(&mut bytes);
+            let told: Vec<(bool, u8)> =
+                boolean.observations.iter().map(|&(value, paper)| (value, paper.0)).collect();
+            let (number, unknown) = (self.fact_number(boolean.fact)?, boolean.unknown);
+            write_boolean(number, unknown.map(|paper| paper.0), &told).finish(&mut bytes);
         }
-        for &(fact, value, evidence) in &self.relations {
+        for &(fact, value, paper) in &self.relations {
             self.family_told(fact)?;
-            let writer = Writer::new(4).byte(0, self.number(fact)?);
-            writer.byte(1, u8::from(value)).byte(2, evidence).finish(&mut bytes);
+            write_relation(self.fact_number(fact)?, value, paper.0).finish(&mut bytes);
         }
         for &node in &self.constraints {
-            Writer::new(5).byte(0, node).finish(&mut bytes);
+            write_constraint(self.node_number(node)?).finish(&mut bytes);
         }
         Ok(Case::of(bytes))
     }
 
-    fn heading(&self) -> Writer {
-        Writer::new(1)
-            .byte(0, self.plan.records().relation)
-            .byte(1, self.scope)
-            .byte(2, self.segment)
-            .flag(3, self.segment_complete)
-            .bytes(4, &self.roster.mask().to_le_bytes())
-            .optional(5, self.complete)
-            .bytes(6, &self.most_worlds.to_le_bytes())
+    /// The heading alone.
+    fn heading(&self) -> CaseRecords {
+        CaseRecords {
+            relation: self.plan.records().relation,
+            scope: self.frame.scope,
+            segment: self.frame.segment,
+            segment_complete: self.segment_complete,
+            roster: self.roster,
+            complete: self.complete.map(|paper| paper.0),
+            most_worlds: self.most_worlds,
+            ..CaseRecords::default()
+        }
     }
 
-    fn number(&self, fact: impl Into<crate::FactId>) -> Result<u8, BuildError> {
+    pub(crate) fn fact_number(&self, fact: impl Into<crate::FactId>) -> Result<u8, BuildError> {
         self.plan.fact_number(fact).ok_or(BuildError::NotOfThisPlan { what: "fact" })
+    }
+
+    pub(crate) fn node_number(&self, node: NodeId) -> Result<u8, BuildError> {
+        self.plan.node_number(node).ok_or(BuildError::NotOfThisPlan { what: "node" })
     }
 
     fn has_family(&self, number: u8) -> bool {
@@ -234,9 +245,10 @@ impl<'a> CaseBuilder<'a> {
         }
     }
 
-    /// What is said of this fact, from now on if nothing was. There is room: a plan has no more facts than a case has boolean records.
+    /// What is said of this fact, begun if nothing was. There is room: a plan has no more facts than a case has boolean records.
     fn boolean(&mut self, fact: BooleanId) -> Result<&mut Boolean, BuildError> {
-        self.number(fact)?;
+        let number = self.fact_number(fact)?;
+        let fact = BooleanId { number, ..fact };
         let there = self.booleans.iter().position(|boolean| boolean.fact == fact);
         let at = there.unwrap_or(self.booleans.len());
         if there.is_none() {
@@ -246,6 +258,24 @@ impl<'a> CaseBuilder<'a> {
     }
 }
 
-fn proven(evidence: u8) -> Result<u8, BuildError> {
-    within("evidence", evidence, 0, limits::CITATION)
+pub(crate) fn framed(frame: Frame) -> Result<Frame, BuildError> {
+    within("scope", frame.scope, 1, 255)?;
+    within("segment", frame.segment, 1, 255)?;
+    Ok(frame)
+}
+
+/// A roster needs somebody, and everyone whom a rule of the plan names.
+pub(crate) fn fitting(plan: &Plan, roster: Persons) -> Result<Persons, BuildError> {
+    if roster.is_empty() {
+        return Err(BuildError::EmptyRoster);
+    }
+    let persons = plan.records().rule_persons().without(roster);
+    if !persons.is_empty() {
+        return Err(BuildError::OffRoster { persons });
+    }
+    Ok(roster)
+}
+
+fn proven(paper: Paper) -> Result<Paper, BuildError> {
+    within("evidence", paper.0, 0, limits::CITATION).map(Paper)
 }

@@ -2,6 +2,7 @@
 
 use crate::persons::Persons;
 use crate::read::{File, Reader, Record};
+use crate::write::{Writer, write_boolean, write_constraint, write_family, write_relation};
 
 /// What is told of a family.
 #[derive(Clone, Copy, Debug, PartialEq, Eq)]
@@ -59,6 +60,34 @@ impl CaseRecords {
         reader.rest().is_empty().then_some(case)
     }
 
+    /// What case.bin holds: these records, one after another. A scope or a segment of 0 is left out.
+    pub fn bytes(&self) -> Vec<u8> {
+        let mut bytes = Vec::new();
+        self.write_heading().finish(&mut bytes);
+        for family in &self.families {
+            write_family(family.number, given(family.scope), family.complete).finish(&mut bytes);
+        }
+        for boolean in &self.booleans {
+            write_boolean(boolean.fact, boolean.unknown, &boolean.observations).finish(&mut bytes);
+        }
+        for relation in &self.relations {
+            write_relation(relation.fact, relation.value, relation.evidence).finish(&mut bytes);
+        }
+        self.constraints.iter().for_each(|node| write_constraint(*node).finish(&mut bytes));
+        bytes
+    }
+
+    pub(crate) fn write_heading(&self) -> Writer {
+        Writer::new(1)
+            .byte(0, self.relation)
+            .optional(1, given(self.scope))
+            .optional(2, given(self.segment))
+            .flag(3, self.segment_complete)
+            .bytes(4, &self.roster.mask().to_le_bytes())
+            .optional(5, self.complete)
+            .bytes(6, &self.most_worlds.to_le_bytes())
+    }
+
     fn add(&mut self, record: &Record) -> Option<()> {
         match record.kind {
             1 => self.heading(record)?,
@@ -92,6 +121,11 @@ impl CaseRecords {
         self.most_worlds = u16::from_le_bytes(*record.field(6)?.first_chunk()?);
         Some(())
     }
+}
+
+/// None for 0, which is empty.
+fn given(number: u8) -> Option<u8> {
+    Some(number).filter(|number| *number != 0)
 }
 
 fn pairs(bytes: &[u8]) -> Vec<(bool, u8)> {

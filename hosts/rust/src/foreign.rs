@@ -1,4 +1,4 @@
-//! The three functions of the static library, over slices.
+//! The functions of the static library, over slices.
 
 /// Refusal, record, count, maximum, lines, events, worlds.
 pub(crate) type Told = [u64; 7];
@@ -30,6 +30,27 @@ unsafe extern "C" {
         events_length: usize,
         told: *mut Told,
     ) -> u8;
+
+    fn lukhveri_list(
+        plan: *const u8,
+        plan_length: usize,
+        case: *const u8,
+        case_length: usize,
+        lines: *mut u8,
+        lines_length: usize,
+        events: *mut u8,
+        events_length: usize,
+        text: *mut u8,
+        text_length: usize,
+    ) -> usize;
+
+    fn lukhveri_circle(
+        plan: *const u8,
+        plan_length: usize,
+        case: *const u8,
+        case_length: usize,
+        person: u8,
+    ) -> u64;
 }
 
 pub(crate) fn check(plan: &[u8]) -> Told {
@@ -82,4 +103,34 @@ pub(crate) fn show(
         )
     };
     told
+}
+
+/// How many bytes of the text stand at the start of its buffer.
+pub(crate) fn list(
+    plan: &[u8],
+    case: &[u8],
+    lines: &mut [u8],
+    events: &mut [u8],
+    text: &mut [u8],
+) -> usize {
+    // SAFETY: five slices, none of which it keeps; those that it writes are borrowed mutably, so nothing overlaps them.
+    unsafe {
+        lukhveri_list(
+            plan.as_ptr(),
+            plan.len(),
+            case.as_ptr(),
+            case.len(),
+            lines.as_mut_ptr(),
+            lines.len(),
+            events.as_mut_ptr(),
+            events.len(),
+            text.as_mut_ptr(),
+            text.len(),
+        )
+    }
+}
+
+pub(crate) fn circle(plan: &[u8], case: &[u8], person: u8) -> u64 {
+    // SAFETY: two slices, which it only reads and does not keep.
+    unsafe { lukhveri_circle(plan.as_ptr(), plan.len(), case.as_ptr(), case.len(), person) }
 }

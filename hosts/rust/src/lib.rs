@@ -5,10 +5,14 @@
 //! whatever these are, and give typed lines and events or a [`Refusal`] that says in words what is wrong and where. Nothing panics.
 //!
 //! [`PlanBuilder`] and [`CaseBuilder`] make the bytes from named things. They turn away what the operations would refuse, when it is
-//! given, so that a rule editor can say it at once; facts may come in any order. [`Plan::read`] reads a plan's bytes back.
+//! given, so that a rule editor can say it at once; facts may come in any order. [`Plan::read`] reads a plan's bytes back, and
+//! [`PlanBuilder::reopen`] and [`CaseBuilder::reopen`] open a plan and a case again, to change what they say. [`Plan::warnings`] tells what
+//! is accepted and seldom meant.
 //!
 //! ```
-//! use lukhveri::{Cut, CaseBuilder, Decision, Edge, LineKind, Persons, PlanBuilder};
+//! use lukhveri::{
+//!     CaseBuilder, Citation, Cut, Decision, Edge, Family, Frame, LineKind, Paper, Persons, PlanBuilder,
+//! };
 //!
 //! # fn main() -> Result<(), Box<dyn std::error::Error>> {
 //! // Persons 0 and 1 belong together if they live together. Person 1 is counted alone if he asks for it.
@@ -17,16 +21,17 @@
 //! let asked = plan.boolean()?;
 //! let together = plan.holds(live_together)?;
 //! let apart = plan.holds(asked)?;
-//! let edge = plan.edge(Edge::combination(0, 1, together, 5))?;
-//! plan.cut(Cut::new(Persons::of(&[1])?, apart, 6).deciding(edge, Decision::Overrides))?;
+//! let edge = plan.edge(Edge::combination(0, 1, together, Citation(5)))?;
+//! plan.cut(Cut::new(Persons::of(&[1])?, apart, Citation(6)).deciding(edge, Decision::Overrides))?;
 //! let plan = plan.finish()?;
 //! lukhveri::check(plan.bytes())?;
 //!
 //! // They do live together. Nobody knows yet whether person 1 asked.
-//! let mut case = CaseBuilder::new(&plan, 1, 1, Persons::of(&[0, 1, 2])?)?;
-//! case.roster_complete(0)?;
-//! case.family(lukhveri::Family::new(4))?;
-//! case.relate(live_together, true, 3)?;
+//! let frame = Frame { scope: 1, segment: 1 };
+//! let mut case = CaseBuilder::new(&plan, frame, Persons::of(&[0, 1, 2])?)?;
+//! case.roster_complete(Paper(0))?;
+//! case.family(Family::new(4))?;
+//! case.relate(live_together, true, Paper(3))?;
 //! let answer = lukhveri::answer(plan.bytes(), case.finish()?.bytes())?;
 //! assert_eq!(answer.worlds, 2);
 //! let line = answer.line(0).ok_or("person 0 is on the roster")?;
@@ -34,12 +39,28 @@
 //! assert_eq!(line.open_facts().next(), plan.fact_number(asked));
 //!
 //! // He did not: one block of two, and person 2 alone.
-//! case.observe(asked, false, 7)?;
+//! case.observe(asked, false, Paper(7))?;
 //! let answer = lukhveri::answer(plan.bytes(), case.finish()?.bytes())?;
 //! assert_eq!(answer.units(), [Persons::of(&[0, 1])?, Persons::of(&[2])?]);
 //! let line = answer.line(0).ok_or("person 0 is on the roster")?;
 //! assert_eq!(line.others(), Persons::of(&[1])?);
 //! assert_eq!(line.citations().collect::<Vec<_>>(), [5]);
+//!
+//! // The scheme changes: persons 0 and 2 belong together, too. The handles serve on, and the case follows its plan.
+//! let mut changed = PlanBuilder::reopen(&plan);
+//! let always = changed.literal(true)?;
+//! changed.edge(Edge::base(0, 2, always, Citation(7)))?;
+//! let changed = changed.finish()?;
+//! assert!(changed.warnings().is_empty());
+//! let mut case = case.over(&changed, Persons::of(&[0, 1, 2])?)?;
+//! let answer = lukhveri::answer(changed.bytes(), case.finish()?.bytes())?;
+//! assert_eq!(answer.units(), [Persons::of(&[0, 1, 2])?]);
+//!
+//! // He asks after all: what was said of it is forgotten, and said anew.
+//! case.forget(asked)?;
+//! case.observe(asked, true, Paper(8))?;
+//! let answer = lukhveri::answer(changed.bytes(), case.finish()?.bytes())?;
+//! assert_eq!(answer.units(), [Persons::of(&[0, 2])?, Persons::of(&[1])?]);
 //!
 //! // What is refused says where.
 //! let refusal = lukhveri::check(&plan.bytes()[..4]).expect_err("a plan that is cut short");
@@ -47,6 +68,12 @@
 //! # Ok(())
 //! # }
 //! ```
+//!
+//! [`list`] gives the lister's text, [`circle`] the persons with whom somebody is joined, directly or through others. [`words`] says in sentences what
+//! a person's line says and why, from what belongs to the person's circle alone ([`near`]).
+//!
+//! A refusal says in words what is wrong ([`Refusal::in_words`], [`Refusal::finding`]) and what would mend it ([`Refusal::remedy`]), with the
+//! names that [`names`] reads from a file of names; [`files`] reads plans and cases no further than they can be long.
 //!
 //! [`answer_into`] and [`show_into`] work in buffers that the caller lends and allocate nothing; [`Buffers`] keeps such buffers for many calls.
 //! Calls from several threads are independent. A call takes less than 256 KB of its thread's stack ([`STACK`]).
@@ -60,41 +87,65 @@
 mod build_error;
 mod case;
 mod case_builder;
+mod case_change;
 mod case_records;
+mod conditions;
 mod diagnosis;
 mod event;
+pub mod files;
 #[allow(unsafe_code)]
 mod foreign;
 mod handles;
 pub mod limits;
 mod line;
+mod listing;
+pub mod names;
+pub mod near;
+mod numbers;
 mod operations;
 mod persons;
 mod plan;
 mod plan_builder;
+mod plan_change;
 mod plan_reader;
+mod plan_removal;
 mod ranges;
 mod read;
 mod records;
 mod refusal;
+mod refused;
+mod renumber;
+mod rules;
+mod unnamed;
+mod warning;
+mod warnings;
+pub mod words;
 mod write;
 
 pub use build_error::BuildError;
 pub use case::Case;
-pub use case_builder::{CaseBuilder, Family};
+pub use case_builder::{CaseBuilder, Family, Frame};
+pub use case_change::ReopenError;
 pub use case_records::{BooleanRecord, CaseRecords, FamilyRecord, RelationRecord};
 pub use event::{EVENT, Event, Evidence};
-pub use handles::{BooleanId, CutId, EdgeId, FactId, NodeId, RelationId};
+pub use handles::{
+    AttachmentId, BarId, BooleanId, CutId, EdgeId, FactId, NodeId, RelationId, RuleId, StatusId,
+};
 pub use line::{LINE, Line, LineKind, Role};
+pub use listing::{Listing, TEXT_LENGTH, list};
+pub use numbers::{Actor, Citation, Paper};
 pub use operations::{
     Answer, Answered, Buffers, EVENTS_LENGTH, LINES_LENGTH, MOST_EVENTS_LENGTH, STACK, answer,
-    answer_into, check, show, show_into,
+    answer_into, check, circle, show, show_into,
 };
 pub use persons::{Numbers, Persons};
 pub use plan::Plan;
 pub use plan_builder::PlanBuilder;
+pub use plan_removal::Departure;
 pub use read::File;
 pub use records::{
-    Attachment, Bar, Cut, Decision, Edge, Election, Fact, Node, Policy, Records, Status,
+    Attachment, Bar, Cut, Decision, Edge, Election, Fact, Node, Policy, Precedence, Records, Status,
 };
 pub use refusal::{Place, Reason, Refusal};
+pub use rules::Rule;
+pub use warning::Warning;

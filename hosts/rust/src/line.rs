@@ -121,6 +121,13 @@ impl Line {
         Numbers::of(u64::from(self.open_decisions))
     }
 
+    /// The same line with these unresolved decisions.
+    pub(crate) fn with_open_decisions(&self, places: impl Iterator<Item = u8>) -> Line {
+        let open_decisions =
+            places.filter(|place| *place < 16).fold(0, |all, place| all | 1 << place);
+        Line { open_decisions, ..*self }
+    }
+
     /// The citations of the rules that made the block.
     pub fn citations(&self) -> Numbers {
         Numbers::of(self.citations)

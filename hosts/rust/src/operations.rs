@@ -1,4 +1,4 @@
-//! Check a plan, answer a case, show a world.
+//! Check a plan, answer a case, show a world; the circle of a person.
 
 use crate::event::{EVENT, Event};
 use crate::foreign::{self, Told};
@@ -46,7 +46,8 @@ pub fn show_into<'a>(
     events: &'a mut [u8],
 ) -> Result<Answered<'a>, Refusal> {
     let told = foreign::show(plan, case, world, lines, events);
-    answered(&told, plan, case, lines, events)
+    let shown = answered(&told, plan, case, lines, events);
+    shown.map_err(|refusal| Refusal { world: Some(world), ..refusal })
 }
 
 fn answered<'a>(
@@ -160,7 +161,8 @@ impl Buffers {
     /// Shows the world of that number, counted from 0 among the admissible ones.
     pub fn show(&mut self, plan: &[u8], case: &[u8], world: u64) -> Result<Answered<'_>, Refusal> {
         let told = self.ask(|lines, events| foreign::show(plan, case, world, lines, events));
-        answered(&told, plan, case, &self.lines, &self.events)
+        let shown = answered(&told, plan, case, &self.lines, &self.events);
+        shown.map_err(|refusal| Refusal { world: Some(world), ..refusal })
     }
 
     /// Lends room for 4,096 events; if that is too short, for all that there can be.
@@ -184,4 +186,13 @@ pub fn answer(plan: &[u8], case: &[u8]) -> Result<Answer, Refusal> {
 /// Shows the world of that number, counted from 0 among the admissible ones. There is room as for an answer.
 pub fn show(plan: &[u8], case: &[u8], world: u64) -> Result<Answer, Refusal> {
     Buffers::new().show(plan, case, world).map(|answered| answered.to_answer())
+}
+
+/// The circle of a person: that person and all who are reached by rules, unresolved decisions and facts that join persons, on the roster or
+/// off it. What a case says of a fact that touches nobody of the circle does not show in the person's line. Plan, heading and constraints
+/// alone make a circle. None for a number above 63, for a plan that is refused, and for a case that is refused by 1 to 4; a case that a later
+/// number refuses has circles.
+pub fn circle(plan: &[u8], case: &[u8], person: u8) -> Option<Persons> {
+    let circle = Persons::from_mask(foreign::circle(plan, case, person));
+    (!circle.is_empty()).then_some(circle)
 }

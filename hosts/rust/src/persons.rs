@@ -20,6 +20,11 @@ impl Persons {
         Ok(Persons(mask))
     }
 
+    /// The set of one person; nobody for a number above 63.
+    pub fn alone(person: u8) -> Persons {
+        Persons(1u64.checked_shl(u32::from(person)).unwrap_or(0))
+    }
+
     /// Bit p stands for person p.
     pub const fn from_mask(mask: u64) -> Persons {
         Persons(mask)

@@ -1,25 +1,39 @@
 //! The records of a plan that the check has accepted, as values.
 
-use crate::handles::{BooleanId, CutId, EdgeId, FactId, NodeId, PlanId};
+use crate::handles::{BooleanId, EdgeId, FactId, Given, Handles, NodeId};
+use crate::numbers::{Actor, Citation};
 use crate::persons::Persons;
 use crate::read::{File, Reader, Record};
 use crate::records::{
     Attachment, Bar, Cut, Decision, Edge, Election, Fact, Node, Policy, Records, Status,
 };
 
-/// All records; none where the bytes are no accepted plan.
-pub(crate) fn read(id: PlanId, bytes: &[u8]) -> Option<Records> {
+/// All records and their handles; none where the bytes are no accepted plan.
+pub(crate) fn read(bytes: &[u8]) -> Option<(Handles, Records)> {
+    let handles = handles(bytes);
     let mut records = Records::new(0);
     let mut reader = Reader::new(File::Plan, bytes);
     for record in reader.by_ref() {
-        Taken { id, record }.add_to(&mut records)?;
+        Taken { handles: &handles, record }.add_to(&mut records)?;
     }
-    reader.rest().is_empty().then_some(records)
+    reader.rest().is_empty().then_some((handles, records))
 }
 
-/// A record of the plan whose handles are made.
+/// A handle for each record, so that those may be named that come later.
+fn handles(bytes: &[u8]) -> Handles {
+    let mut counts = [0; 9];
+    for record in Reader::new(File::Plan, bytes) {
+        if let Some(count) = counts.get_mut(usize::from(record.kind)) {
+            *count += 1;
+        }
+    }
+    let [_, _, facts, nodes, edges, cuts, attachments, bars, statuses] = counts.map(Given::fresh);
+    Handles { facts, nodes, edges, cuts, attachments, bars, statuses }
+}
+
+/// A record of the plan whose handles are there.
 struct Taken<'a> {
-    id: PlanId,
+    handles: &'a Handles,
     record: Record<'a>,
 }
 
@@ -28,7 +42,7 @@ impl Taken<'_> {
         match self.record.kind {
             1 => {
                 records.relation = self.record.byte(0)?;
-                records.chain = self.record.byte(1);
+                records.chain = self.citation(1);
             }
             2 => records.facts.push(self.fact()?),
             3 => records.nodes.push(self.node()?),
@@ -42,16 +56,24 @@ impl Taken<'_> {
         Some(())
     }
 
-    fn node_id(&self, number: u8) -> NodeId {
-        NodeId { plan: self.id, number }
+    fn node_id(&self, number: u8) -> Option<NodeId> {
+        self.handles.nodes.at(usize::from(number))
     }
 
     fn node_at(&self, bit: usize) -> Option<NodeId> {
-        self.record.byte(bit).map(|number| self.node_id(number))
+        self.node_id(self.record.byte(bit)?)
     }
 
-    fn nodes(&self, bytes: &[u8]) -> Vec<NodeId> {
+    fn nodes(&self, bytes: &[u8]) -> Option<Vec<NodeId>> {
         bytes.iter().map(|&number| self.node_id(number)).collect()
+    }
+
+    fn citation(&self, bit: usize) -> Option<Citation> {
+        self.record.byte(bit).map(Citation)
+    }
+
+    fn fact_id(&self, number: u8) -> Option<FactId> {
+        self.handles.facts.at(usize::from(number))
     }
 
     fn members(&self) -> Option<Persons> {
@@ -69,9 +91,9 @@ impl Taken<'_> {
     fn node(&self) -> Option<Node> {
         let record = &self.record;
         let literal = || record.byte(0).map(|value| Node::Literal(value == 1));
-        let fact = || record.byte(1).map(|number| Node::Fact(FactId { plan: self.id, number }));
-        let and = || record.field(2).map(|children| Node::And(self.nodes(children)));
-        let or = || record.field(3).map(|children| Node::Or(self.nodes(children)));
+        let fact = || self.fact_id(record.byte(1)?).map(Node::Fact);
+        let and = || self.nodes(record.field(2)?).map(Node::And);
+        let or = || self.nodes(record.field(3)?).map(Node::Or);
         let not = || self.node_at(4).map(Node::Not);
         literal().or_else(fact).or_else(and).or_else(or).or_else(not)
     }
@@ -81,8 +103,8 @@ impl Taken<'_> {
             left: self.record.byte(0)?,
             right: self.record.byte(1)?,
             condition: self.node_at(2)?,
-            citation: self.record.byte(3)?,
-            defeaters: self.nodes(self.record.bytes(4)),
+            citation: self.citation(3)?,
+            defeaters: self.nodes(self.record.bytes(4))?,
             combination: self.record.has(5),
         })
     }
@@ -92,10 +114,12 @@ impl Taken<'_> {
         Some(Cut {
             members: self.members()?,
             condition: self.node_at(1)?,
-            citation: self.record.byte(2)?,
+            citation: self.citation(2)?,
             election: self.election(3)?,
             decisions: self.decisions()?,
-            precedes: precedes.map(|&number| CutId { plan: self.id, number }).collect(),
+            precedes: precedes
+                .map(|&number| self.handles.cuts.at(usize::from(number)))
+                .collect::<Option<Vec<_>>>()?,
         })
     }
 
@@ -111,7 +135,7 @@ impl Taken<'_> {
             3 => Decision::Unresolved,
             _ => return None,
         };
-        Some((EdgeId { plan: self.id, number }, decision))
+        Some((self.handles.edges.at(usize::from(number))?, decision))
     }
 
     /// An election is there or not; none for one that cannot be read.
@@ -126,8 +150,9 @@ impl Taken<'_> {
             2 => Policy::DefaultTrue,
             _ => return None,
         };
-        let fact = BooleanId { plan: self.id, number };
-        Some(Some(Election { fact, actor, policy, citation }))
+        let FactId { serial, number } = self.fact_id(number)?;
+        let fact = BooleanId { serial, number };
+        Some(Some(Election { fact, actor: Actor(actor), policy, citation: Citation(citation) }))
     }
 
     fn attachment(&self) -> Option<Attachment> {
@@ -135,19 +160,19 @@ impl Taken<'_> {
             members: self.members()?,
             anchor: self.record.byte(1)?,
             condition: self.node_at(2)?,
-            citation: self.record.byte(3)?,
-            actor: self.record.byte(4)?,
+            citation: self.citation(3)?,
+            actor: Actor(self.record.byte(4)?),
             election: self.election(5)?,
         })
     }
 
     fn bar(&self) -> Option<Bar> {
-        let (condition, citation) = (self.node_at(1)?, self.record.byte(2)?);
+        let (condition, citation) = (self.node_at(1)?, self.citation(2)?);
         Some(Bar { members: self.members()?, condition, citation })
     }
 
     fn status(&self) -> Option<Status> {
-        let (condition, citation) = (self.node_at(1)?, self.record.byte(2)?);
+        let (condition, citation) = (self.node_at(1)?, self.citation(2)?);
         Some(Status { person: self.record.byte(0)?, condition, citation })
     }
 }

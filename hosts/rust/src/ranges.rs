@@ -107,7 +107,7 @@ fn wrong(values: Values, bytes: &[u8]) -> Option<String> {
         Values::Within(least, most) => row(bytes, &[(least, most)]),
         Values::Worlds => {
             let most = u16::from_le_bytes(*bytes.first_chunk()?);
-            (most > 4096).then(|| format!("{most} is above 4096"))
+            (most > 4096).then(|| format!("are {most}, above 4096"))
         }
         Values::Row(ranges) => row(bytes, ranges),
         Values::List(most, ranges) => {

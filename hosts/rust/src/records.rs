@@ -1,6 +1,7 @@
 //! What the records of a plan say, as values.
 
 use crate::handles::{BooleanId, CutId, EdgeId, FactId, NodeId};
+use crate::numbers::{Actor, Citation};
 use crate::persons::Persons;
 
 /// A fact: a boolean one, or a relation of a family between up to four persons.
@@ -22,13 +23,24 @@ pub enum Node {
     Not(NodeId),
 }
 
+impl Node {
+    /// The nodes that it is made of.
+    pub fn children(&self) -> &[NodeId] {
+        match self {
+            Node::Literal(_) | Node::Fact(_) => &[],
+            Node::And(children) | Node::Or(children) => children,
+            Node::Not(child) => std::slice::from_ref(child),
+        }
+    }
+}
+
 /// Two persons who belong together where the condition holds and no defeater does.
 #[derive(Clone, Debug, PartialEq, Eq)]
 pub struct Edge {
     pub left: u8,
     pub right: u8,
     pub condition: NodeId,
-    pub citation: u8,
+    pub citation: Citation,
     pub defeaters: Vec<NodeId>,
     /// A Combination edge; else a Base edge.
     pub combination: bool,
@@ -36,12 +48,12 @@ pub struct Edge {
 
 impl Edge {
     /// A Base edge without defeaters.
-    pub fn base(left: u8, right: u8, condition: NodeId, citation: u8) -> Edge {
+    pub fn base(left: u8, right: u8, condition: NodeId, citation: Citation) -> Edge {
         Edge { left, right, condition, citation, defeaters: Vec::new(), combination: false }
     }
 
     /// A Combination edge without defeaters.
-    pub fn combination(left: u8, right: u8, condition: NodeId, citation: u8) -> Edge {
+    pub fn combination(left: u8, right: u8, condition: NodeId, citation: Citation) -> Edge {
         Edge { combination: true, ..Edge::base(left, right, condition, citation) }
     }
 
@@ -65,14 +77,29 @@ pub enum Policy {
     DefaultTrue,
 }
 
-/// Who may elect, by which fact. All elections on one fact are equal.
+/// Who may elect, by which fact, and what silence means. All elections on one fact are equal.
+///
+/// ```
+/// use lukhveri::{Actor, Citation, Cut, Election, Persons, PlanBuilder, Policy};
+///
+/// # fn main() -> Result<(), Box<dyn std::error::Error>> {
+/// // Person 2 is counted apart if she asks for it; who has not asked has not (paragraph 4).
+/// let mut plan = PlanBuilder::new(1);
+/// let asked = plan.boolean()?;
+/// let condition = plan.holds(asked)?;
+/// let (actor, policy) = (Actor(1), Policy::DefaultFalse);
+/// let election = Election { fact: asked, actor, policy, citation: Citation(4) };
+/// plan.cut(Cut::new(Persons::of(&[2])?, condition, Citation(3)).elected(election))?;
+/// # Ok(())
+/// # }
+/// ```
 #[derive(Clone, Copy, Debug, PartialEq, Eq)]
 pub struct Election {
     pub fact: BooleanId,
     /// 1 to 255.
-    pub actor: u8,
+    pub actor: Actor,
     pub policy: Policy,
-    pub citation: u8,
+    pub citation: Citation,
 }
 
 /// Whether a Combination edge that crosses a cut stops it.
@@ -91,7 +118,7 @@ pub enum Decision {
 pub struct Cut {
     pub members: Persons,
     pub condition: NodeId,
-    pub citation: u8,
+    pub citation: Citation,
     pub election: Option<Election>,
     pub decisions: Vec<(EdgeId, Decision)>,
     pub precedes: Vec<CutId>,
@@ -99,7 +126,7 @@ pub struct Cut {
 
 impl Cut {
     /// A cut without election, decisions and preceded cuts.
-    pub fn new(members: Persons, condition: NodeId, citation: u8) -> Cut {
+    pub fn new(members: Persons, condition: NodeId, citation: Citation) -> Cut {
         let (election, decisions, precedes) = (None, Vec::new(), Vec::new());
         Cut { members, condition, citation, election, decisions, precedes }
     }
@@ -122,15 +149,22 @@ impl Cut {
     }
 }
 
+/// That a cut precedes another: where both hold and overlap, the other drops, unless it precedes this one, too.
+#[derive(Clone, Copy, Debug, PartialEq, Eq)]
+pub struct Precedence {
+    pub cut: CutId,
+    pub precedes: CutId,
+}
+
 /// Members who move to the block of the anchor.
 #[derive(Clone, Debug, PartialEq, Eq)]
 pub struct Attachment {
     pub members: Persons,
     pub anchor: u8,
     pub condition: NodeId,
-    pub citation: u8,
+    pub citation: Citation,
     /// 1 to 255.
-    pub actor: u8,
+    pub actor: Actor,
     pub election: Option<Election>,
 }
 
@@ -139,8 +173,8 @@ impl Attachment {
         members: Persons,
         anchor: u8,
         condition: NodeId,
-        citation: u8,
-        actor: u8,
+        citation: Citation,
+        actor: Actor,
     ) -> Attachment {
         Attachment { members, anchor, condition, citation, actor, election: None }
     }
@@ -161,11 +195,11 @@ impl Attachment {
 pub struct Bar {
     pub members: Persons,
     pub condition: NodeId,
-    pub citation: u8,
+    pub citation: Citation,
 }
 
 impl Bar {
-    pub fn new(members: Persons, condition: NodeId, citation: u8) -> Bar {
+    pub fn new(members: Persons, condition: NodeId, citation: Citation) -> Bar {
         Bar { members, condition, citation }
     }
 }
@@ -175,11 +209,11 @@ impl Bar {
 pub struct Status {
     pub person: u8,
     pub condition: NodeId,
-    pub citation: u8,
+    pub citation: Citation,
 }
 
 impl Status {
-    pub fn new(person: u8, condition: NodeId, citation: u8) -> Status {
+    pub fn new(person: u8, condition: NodeId, citation: Citation) -> Status {
         Status { person, condition, citation }
     }
 
@@ -194,7 +228,7 @@ impl Status {
 pub struct Records {
     pub relation: u8,
     /// The base-chain citation.
-    pub chain: Option<u8>,
+    pub chain: Option<Citation>,
     pub facts: Vec<Fact>,
     pub nodes: Vec<Node>,
     pub edges: Vec<Edge>,
@@ -225,8 +259,19 @@ impl Records {
         cuts.chain(self.attachments.iter().filter_map(|rule| rule.election.as_ref()))
     }
 
-    /// Everyone whom a rule names.
-    pub(crate) fn rule_persons(&self) -> Persons {
+    /// The nodes that rules use: conditions and defeaters.
+    pub(crate) fn rule_nodes(&self) -> impl Iterator<Item = NodeId> {
+        let edges = self.edges.iter().map(|edge| edge.condition);
+        let defeaters = self.edges.iter().flat_map(|edge| edge.defeaters.iter().copied());
+        let cuts = self.cuts.iter().map(|cut| cut.condition);
+        let rules = self.attachments.iter().map(|rule| rule.condition);
+        let bars = self.bars.iter().map(|bar| bar.condition);
+        let statuses = self.statuses.iter().map(|status| status.condition);
+        edges.chain(defeaters).chain(cuts).chain(rules).chain(bars).chain(statuses)
+    }
+
+    /// Everyone whom a rule names: a roster has to hold them.
+    pub fn rule_persons(&self) -> Persons {
         let edges = self.edges.iter().map(Edge::ends);
         let cuts = self.cuts.iter().map(|cut| cut.members);
         let attachments = self.attachments.iter().map(Attachment::persons);

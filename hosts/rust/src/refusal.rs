@@ -138,6 +138,8 @@ pub struct Refusal {
     pub reason: Reason,
     /// Where, for the refusals that name a record: 1 to 10.
     pub place: Option<Place>,
+    /// The world that was to be shown, if one was.
+    pub(crate) world: Option<u64>,
 }
 
 impl Refusal {
@@ -152,7 +154,7 @@ impl Refusal {
             Some(case) => Place::find(File::Case, case, record),
             None => Place::find(File::Plan, plan, record),
         };
-        Some(Refusal { reason, place: reason.has_record().then(place) })
+        Some(Refusal { reason, place: reason.has_record().then(place), world: None })
     }
 
     /// Its number in document 01.
@@ -192,7 +194,9 @@ impl Refusal {
                 "a Combination edge crosses the cut, and the cut does not decide it"
             }
             Reason::ElectionsDiffer => "its election differs from an earlier one on the same fact",
-            Reason::SegmentIncomplete => "the segment is not complete",
+            Reason::SegmentIncomplete => {
+                "the segment, which is the period, is not complete: something changes within it"
+            }
             Reason::Heading => {
                 "the relation is not the plan's, or scope, segment or roster is empty, or a rule of the plan names someone off the roster"
             }
@@ -242,10 +246,17 @@ impl Refusal {
     pub fn remedy(&self) -> &'static str {
         match self.reason {
             Reason::Malformed => "write this record anew, or make the file again from its source",
-            Reason::PastLimit => "leave out the records that are too many, or split the rules",
-            Reason::Incomplete => {
-                "give the record all required fields, and none that exclude each other"
-            }
+            Reason::PastLimit => match self.at() {
+                Some((_, 1)) => "keep one heading",
+                Some((File::Plan, 5)) => {
+                    "leave out what is not needed, take some of the decisions, or split the roster"
+                }
+                _ => "leave out what is not needed, or split the roster",
+            },
+            Reason::Incomplete => match self.place {
+                Some(Place { kind: None, .. }) => "write the file anew: it is empty",
+                _ => "give the record all required fields, and none that exclude each other",
+            },
             Reason::NamesNothing => "add what is named, or name something that is there",
             Reason::OutOfOrder => match self.at() {
                 Some((File::Plan, 2)) => "sort the facts and write each once",
@@ -258,17 +269,36 @@ impl Refusal {
             Reason::ElectionsDiffer => {
                 "make fact, actor, policy and citation of both elections equal"
             }
-            Reason::SegmentIncomplete => {
-                "wait until the segment is complete, then say so in the heading"
+            Reason::SegmentIncomplete => "cut the period where something changes and run each part",
+            Reason::Heading => {
+                "compare the case's heading with the plan; where people have come or gone, both files have to know"
             }
-            Reason::Heading => "correct the heading, or use the plan that belongs to this roster",
             Reason::UnknownAndObserved => "keep the explicit unknown or the observations, not both",
             Reason::TooManyWorlds { .. } => {
                 "find out some of the open facts, settle decisions, or allow more worlds (4,096 at most)"
             }
-            Reason::LinesDoNotFit | Reason::EventsDoNotFit => "lend a longer buffer",
-            Reason::NoSuchWorld => "ask for a world below the count that the answer gives",
+            Reason::LinesDoNotFit => {
+                "lend 29 bytes for each person of the roster; 1,856 always suffice"
+            }
+            Reason::EventsDoNotFit => "lend more for the events; 1,048,608 bytes always suffice",
+            Reason::NoSuchWorld => {
+                "ask for a world below the count of worlds; where there are none, confirm the roster or correct what contradicts the constraints"
+            }
             Reason::Other(_) => "use a program that fits the library",
+        }
+    }
+}
+
+impl Refusal {
+    /// The reason, with the numbers that it comes with.
+    pub(crate) fn reason_in_words(&self) -> String {
+        let words = self.words();
+        match self.reason {
+            Reason::TooManyWorlds { count: u64::MAX, most: u64::MAX } => {
+                format!("{words}: 2^64 or more")
+            }
+            Reason::TooManyWorlds { count, most } => format!("{words}: {count}, allowed {most}"),
+            _ => words.to_string(),
         }
     }
 }
@@ -279,14 +309,7 @@ impl fmt::Display for Refusal {
         if let Some(place) = self.place {
             write!(to, "{place}: ")?;
         }
-        write!(to, "{}", self.words())?;
-        match self.reason {
-            Reason::TooManyWorlds { count: u64::MAX, most: u64::MAX } => {
-                write!(to, ": 2^64 or more")
-            }
-            Reason::TooManyWorlds { count, most } => write!(to, ": {count}, allowed {most}"),
-            _ => Ok(()),
-        }
+        write!(to, "{}", self.reason_in_words())
     }
 }
 

@@ -1,120 +1,331 @@
-//! The program batch, run on folders.
+//! lukhveri batch.
 
 mod folder;
+mod program;
 
-use std::process::{Command, Output};
+use std::io::{BufRead, BufReader, Write};
+use std::path::Path;
+use std::process::Stdio;
 
 use folder::Folder;
-use lukhveri::{CaseBuilder, Edge, Persons, Plan, PlanBuilder};
+use program::json::{self, Value};
+use program::{EXAMPLES, Random, Said, example, example_file, on, program, run, run_with};
 
-fn run(words: &[&str]) -> (String, String, Option<i32>) {
-    let done = Command::new(env!("CARGO_BIN_EXE_batch")).args(words).output();
-    let Output { status, stdout, stderr } = done.expect("batch runs");
-    let text = |bytes: Vec<u8>| String::from_utf8(bytes).expect("text");
-    (text(stdout), text(stderr), status.code())
+const HEADING: &str = "case,person,name,kind,role,block,open facts,open decisions,citations,refusal,record,reason\r\n";
+
+/// Persons 0 and 1 belong together.
+const PAIR: [u8; 12] = [1, 1, 7, 3, 1, 1, 4, 15, 0, 1, 0, 5];
+
+/// A complete roster of the persons from 0 to below a number, for that plan.
+fn complete(persons: u32) -> Vec<u8> {
+    let roster = (1u64 << persons) - 1;
+    let mut case = vec![1, 127, 7, 1, 2];
+    case.extend(roster.to_le_bytes());
+    case.extend([9, 0, 16]);
+    case
 }
 
-fn batch(folder: &Folder) -> (String, String, Option<i32>) {
-    let plan = folder.path().join("plan.bin");
-    run(&[plan.to_str().expect("a path"), folder.path().to_str().expect("a path")])
+/// The counts at the end of the standard error, up to the time.
+fn counts(said: &Said) -> &str {
+    let last = said.err.lines().last().expect("counts");
+    let (counts, time) = last.rsplit_once("; ").expect("counts and a time");
+    assert!(time.ends_with(" cases a second") && !last.contains('\r'), "{last}");
+    counts.strip_prefix("lukhveri: ").expect("the program's name")
 }
 
-fn pair() -> Plan {
-    let mut plan = PlanBuilder::new(7);
-    let always = plan.literal(true).expect("a node");
-    plan.edge(Edge::base(0, 1, always, 5)).expect("an edge");
-    plan.finish().expect("a plan")
+fn text(path: &Path) -> &str {
+    path.to_str().expect("a path")
 }
 
-fn complete(plan: &Plan, roster: &[u8]) -> Vec<u8> {
-    let roster = Persons::of(roster).expect("persons");
-    let mut case = CaseBuilder::new(plan, 1, 2, roster).expect("a case");
-    case.roster_complete(9).expect("evidence");
-    case.finish().expect("a case").bytes().to_vec()
+#[test]
+fn the_examples() {
+    let words: Vec<String> = EXAMPLES.map(|name| format!("examples/{name}")).to_vec();
+    let mut all = vec!["batch".to_string()];
+    all.extend(words);
+    let said = run(&all);
+    assert_eq!(said.status, Some(0));
+    assert_eq!(counts(&said), "5 cases: 5 answered, 0 refused, 0 unreadable; 28 persons");
+    assert!(said.out.starts_with(HEADING));
+    for row in [
+        "examples/01/case.bin,0,Ana,0,1,0 1,,,1,,,\r\n",
+        "examples/allotments/case.bin,6,Irma,2,0,6 7,0 1,,1 3,,,\r\n",
+        "examples/kitchen/case.bin,2,Nana,1,0,,2,0,,,,\r\n",
+    ] {
+        assert!(said.out.contains(row), "{row} is not in {}", said.out);
+    }
+    assert!(
+        said.err.contains("lukhveri: examples/club: not taken for cases: README.md, printed.txt\n")
+    );
 }
 
 #[test]
 fn a_mixed_folder() {
-    let plan = pair();
-    let folder = Folder::new("mixed");
-    folder.write("plan.bin", plan.bytes());
-    folder.write("b.bin", &complete(&plan, &[0, 1, 2]));
-    folder.write("a, \"the first\".bin", &complete(&plan, &[0, 1]));
+    let folder = Folder::new("batch-mixed");
+    let here = text(folder.path());
+    folder.write("plan.bin", &PAIR);
+    folder.write("b.bin", &complete(3));
+    folder.write("a, \"the first\".bin", &complete(2));
     folder.write("c.bin", &[]);
+    let mut wrong = complete(2);
+    wrong[2] = 9;
+    folder.write("e.bin", &wrong);
+    folder.write("names.txt", "person 0 Anna, the first\nperson 2 Éva\n".as_bytes());
     folder.write("notes.txt", b"no case");
     std::fs::create_dir(folder.path().join("d.bin")).expect("a folder");
-    let (table, last, status) = batch(&folder);
-    let wanted = "\
-case,person,kind,role,block,refusal
-\"a, \"\"the first\"\".bin\",0,0,1,\"0,1\",
-\"a, \"\"the first\"\".bin\",1,0,1,\"0,1\",
-b.bin,0,0,1,\"0,1\",
-b.bin,1,0,1,\"0,1\",
-b.bin,2,0,1,2,
-c.bin,,,,,\"refused 3: case, record 0 (where the file ends, at byte 0): the first record must be a heading with all its required fields\"
-d.bin,,,,,unreadable: not a file
-";
-    assert_eq!(table, wanted);
-    assert!(
-        last.starts_with("4 cases: 2 answered, 1 refused, 1 unreadable; 5 persons; "),
-        "{last}"
+    let said = on("batch", folder.path(), &[]);
+    let first = format!("\"{here}/a, \"\"the first\"\".bin\"");
+    let wanted = format!(
+        "{HEADING}\
+{first},0,\"Anna, the first\",0,1,0 1,,,5,,,\r
+{first},1,,0,1,0 1,,,5,,,\r
+{here}/b.bin,0,\"Anna, the first\",0,1,0 1,,,5,,,\r
+{here}/b.bin,1,,0,1,0 1,,,5,,,\r
+{here}/b.bin,2,Éva,0,1,2,,,,,,\r
+{here}/c.bin,,,,,,,,,3,0,\""
     );
-    assert!(last.ends_with(" cases a second\n") && !last.contains('\r'), "{last}");
-    assert_eq!(status, Some(1));
+    assert!(said.out.starts_with(&wanted), "{}\nand not\n{wanted}", said.out);
+    let last: Vec<&str> = said.out.lines().skip(6).collect();
+    assert_eq!(last.len(), 3, "{last:?}");
+    assert_eq!(
+        last[1],
+        format!("{here}/d.bin,,,,,,,,,,,\"unreadable: this is a folder, not a file\"")
+    );
+    assert!(last[2].starts_with(&format!("{here}/e.bin,,,,,,,,,9,0,\"case, record 0 ")));
+    assert!(last[2].ends_with(": its relation is 9, the plan's is 7\""), "{}", last[2]);
+    assert_eq!(counts(&said), "5 cases: 2 answered, 2 refused, 1 unreadable; 5 persons");
+    assert!(said.err.starts_with(&format!("lukhveri: {here}: not taken for cases: notes.txt\n")));
+    assert_eq!(said.status, Some(2));
+    std::fs::remove_dir(folder.path().join("d.bin")).expect("a folder");
+    assert_eq!(on("batch", folder.path(), &[]).status, Some(1));
 }
 
-/// Many cases of different lengths, over all cores: the table is in order and always the same.
+#[test]
+fn as_json_lines() {
+    let folder = Folder::new("batch-json");
+    folder.write("plan.bin", &example_file("kitchen", "plan.bin"));
+    folder.write("a \"b\".bin", &example_file("kitchen", "case.bin"));
+    folder.write("c.bin", &[1]);
+    std::fs::create_dir(folder.path().join("d.bin")).expect("a folder");
+    let said = on("batch", folder.path(), &["--json"]);
+    assert_eq!(said.status, Some(2));
+    let rows: Vec<Value> = said.out.split_inclusive('\n').map(json::read).collect();
+    assert_eq!(rows.len(), 7);
+    assert_eq!(rows[0].at("case").text(), format!("{}/a \"b\".bin", folder.path().display()));
+    assert_eq!(rows[2].at("open_facts"), &Value::List(vec![Value::Number(2)]));
+    assert_eq!(rows[3].at("block"), &Value::List(vec![Value::Number(3), Value::Number(4)]));
+    assert_eq!((rows[3].at("person").number(), rows[3].at("name")), (3, &Value::Null));
+    assert_eq!(rows[5].at("refusal").at("number").number(), 1);
+    assert_eq!(rows[6].at("error").text(), "unreadable: this is a folder, not a file");
+}
+
+/// Many cases of different lengths, over all processors: the table is in order and always the same.
 #[test]
 fn many_cases_in_order() {
-    let plan = pair();
-    let folder = Folder::new("many");
-    folder.write("plan.bin", plan.bytes());
-    let mut wanted = "case,person,kind,role,block,refusal\n".to_string();
+    let folder = Folder::new("batch-many");
+    let here = text(folder.path());
+    folder.write("plan.bin", &PAIR);
+    let mut wanted = HEADING.to_string();
     for number in 0..2000u32 {
-        let last = 2 + (number * 7 % 60) as u8;
-        let roster: Vec<u8> = (0..last).collect();
-        folder.write(&format!("{number:04}.bin"), &complete(&plan, &roster));
+        let last = 2 + number * 7 % 60;
+        folder.write(&format!("{number:04}.bin"), &complete(last));
         for person in 0..last {
-            let block = if person < 2 { "\"0,1\"".to_string() } else { person.to_string() };
-            wanted += &format!("{number:04}.bin,{person},0,1,{block},\n");
+            let (block, cited) =
+                if person < 2 { ("0 1".to_string(), "5") } else { (person.to_string(), "") };
+            wanted += &format!("{here}/{number:04}.bin,{person},,0,1,{block},,,{cited},,,\r\n");
         }
     }
     for _ in 0..3 {
-        let (table, _, status) = batch(&folder);
-        assert!(table == wanted);
-        assert_eq!(status, Some(0));
+        let said = on("batch", folder.path(), &[]);
+        assert!(said.out == wanted);
+        assert_eq!(said.status, Some(0));
     }
 }
 
 #[test]
-fn an_empty_folder() {
-    let folder = Folder::new("none");
-    folder.write("plan.bin", pair().bytes());
-    let (table, last, status) = batch(&folder);
-    assert_eq!((table.as_str(), status), ("case,person,kind,role,block,refusal\n", Some(0)));
-    assert!(last.starts_with("0 cases: 0 answered"), "{last}");
+fn folders_without_cases() {
+    let folder = Folder::new("batch-none");
+    folder.write("plan.bin", &PAIR);
+    let said = on("batch", folder.path(), &[]);
+    assert_eq!((said.out.as_str(), said.status), (HEADING, Some(2)));
+    assert!(said.err.contains(": no cases in this folder\n"), "{}", said.err);
+    assert!(counts(&said).starts_with("0 cases: 0 answered"));
+    let said =
+        run(&["batch", "--rows", "examples", "nowhere", "examples/01/plan.bin", "examples/01"]);
+    assert_eq!(said.status, Some(2));
+    assert_eq!(said.out.lines().count(), 3, "the folder that has cases is done: {}", said.out);
+    let complaints = [
+        "lukhveri: examples: no cases in this folder; it has 01, allotments, club, kitchen and 1 more: try examples/*\n",
+        "lukhveri: nowhere: there is no such folder\n",
+        "lukhveri: examples/01/plan.bin: this is a file; a folder of cases is wanted\n",
+    ];
+    for complaint in complaints {
+        assert!(said.err.contains(complaint), "{complaint} is not in {}", said.err);
+    }
 }
 
 #[test]
-fn wrong_use() {
-    let (table, said, status) = run(&["plan.bin"]);
-    assert_eq!((table.as_str(), status), ("", Some(2)));
-    assert!(said.starts_with("batch: a plan and a folder are wanted\nusage: batch PLAN FOLDER"));
-    assert!(run(&["-x", "a", "b"]).1.contains("unknown option -x"));
-    let (help, said, status) = run(&["--help"]);
-    assert!(help.starts_with("usage: batch PLAN FOLDER") && said.is_empty());
-    assert_eq!((run(&["-h"]).0, status), (help, Some(0)));
-    let folder = Folder::new("wrong");
-    let (table, said, status) = batch(&folder);
-    assert_eq!((table.as_str(), status), ("", Some(2)));
-    assert!(said.contains("plan.bin: "), "{said}");
-    folder.write("plan.bin", &[1, 1]);
-    let (_, said, status) = batch(&folder);
-    assert!(said.contains("refused 1: plan, record 0 (the heading, at byte 0)"), "{said}");
-    assert_eq!(status, Some(2));
-    folder.write("plan.bin", pair().bytes());
+fn one_plan_for_all() {
+    let folder = Folder::new("batch-common");
+    folder.write("pair.bin", &PAIR);
+    folder.write("a.bin", &complete(2));
+    folder.write("b.bin", &complete(3));
+    let plan = folder.path().join("pair.bin");
+    let said = on("batch", folder.path(), &["--rows", "--plan", text(&plan)]);
+    assert_eq!((said.out.lines().count(), said.status), (5, Some(0)), "{said:?}");
+    let said = on("batch", folder.path(), &["--rows"]);
+    assert_eq!(said.status, Some(2));
+    assert!(said.err.contains("/plan.bin: there is no such file\n"), "{}", said.err);
+    assert_eq!(said.out.lines().count(), 3, "every case has a row: {}", said.out);
+    assert!(said.out.contains("/a.bin,,,,,,,,,,,unreadable: plan.bin: there is no such file\r\n"));
+    let said = run(&["batch", "--plan", text(&plan), "examples/01"]);
+    assert!(said.err.contains("examples/01: its plan.bin is not used, as --plan is given\n"));
+    assert_eq!(said.status, Some(1));
+    let said = run(&["batch", "--plan", "nowhere.bin", "examples/01"]);
+    said.is_trouble("nowhere.bin: there is no such file");
+    let own = run(&["batch", "--plan", "examples/01/plan.bin", "examples/01"]);
+    assert!(!own.err.contains("is not used"), "{}", own.err);
+}
+
+#[test]
+fn plans_that_are_refused() {
+    let folder = Folder::new("batch-refused");
+    folder.write("plan.bin", &PAIR[..5]);
+    folder.write("a.bin", &complete(2));
+    let said = on("batch", folder.path(), &["--rows"]);
+    assert_eq!(said.status, Some(1));
+    assert!(
+        said.out.contains("/a.bin,,,,,,,,,1,1,\"plan, record 1 (at byte 3), node 0: the file ends before its last field does\""),
+        "{said:?}"
+    );
     let plan = folder.path().join("plan.bin");
-    let (_, said, status) = run(&[plan.to_str().expect("a path"), "/nowhere/at/all"]);
-    assert!(said.contains("/nowhere/at/all: "), "{said}");
-    assert_eq!(status, Some(2));
+    let said = on("batch", folder.path(), &["--plan", text(&plan)]);
+    assert_eq!((said.out.as_str(), said.status), ("", Some(1)));
+    assert!(
+        said.err.starts_with(&format!("lukhveri: {}: refused 1: plan, record 1", plan.display()))
+    );
+    assert_eq!(said.err.lines().count(), 1);
+}
+
+/// A names.txt with faults costs the names of its folder, no row.
+#[test]
+fn faulty_names() {
+    let folder = Folder::new("batch-names");
+    folder.write("plan.bin", &PAIR);
+    folder.write("a.bin", &complete(2));
+    folder.write("names.txt", b"person 0 Anna\nperson x Ben\n");
+    let said = on("batch", folder.path(), &["--rows"]);
+    assert_eq!((said.out.lines().count(), said.status), (2, Some(2)));
+    assert!(said.err.contains("names.txt: line 2: 'x' is no number of a person"), "{}", said.err);
+    assert!(!said.out.contains("Anna"));
+}
+
+/// A pipe that nobody fills stops nothing.
+#[test]
+fn a_case_that_is_a_pipe() {
+    let folder = Folder::new("batch-pipe");
+    folder.write("plan.bin", &PAIR);
+    folder.write("a.bin", &complete(2));
+    let pipe = folder.path().join("b.bin");
+    let made = std::process::Command::new("mkfifo").arg(&pipe).status().expect("mkfifo");
+    assert!(made.success());
+    let said = on("batch", folder.path(), &["--rows"]);
+    assert!(
+        said.out.ends_with(
+            "/b.bin,,,,,,,,,,,\"unreadable: this is a device, a pipe or a socket, not a file\"\r\n"
+        ),
+        "{}",
+        said.out
+    );
+}
+
+/// A federation: folders with plans, cases and names of their own, among them some that are refused.
+fn federation(name: &str, count: usize) -> (Folder, Vec<String>) {
+    let (folder, mut random) = (Folder::new(name), Random(7));
+    let mut names = Vec::new();
+    for number in 0..count {
+        let own = folder.path().join(format!("club {number}"));
+        std::fs::create_dir(&own).expect("a folder");
+        let from = EXAMPLES[random.below(5) as usize];
+        let file = |file: &str| example_file(from, file);
+        std::fs::write(own.join("plan.bin"), file("plan.bin")).expect("a plan");
+        std::fs::write(own.join("names.txt"), file("names.txt")).expect("names");
+        for case in 0..random.below(4) {
+            let mut bytes = file("case.bin");
+            let at = random.below(bytes.len() as u64) as usize;
+            bytes[at] ^= random.below(3) as u8;
+            std::fs::write(own.join(format!("{case}.bin")), bytes).expect("a case");
+        }
+        names.push(text(&own).to_string());
+    }
+    (folder, names)
+}
+
+/// However the list of folders is split, the parts put together are the whole table.
+#[test]
+fn parts_make_the_whole() {
+    let (_folder, names) = federation("batch-parts", 40);
+    let list = |names: &[String]| names.iter().map(|name| format!("{name}\n")).collect::<String>();
+    let whole = run_with(&["batch", "-"], list(&names).as_bytes());
+    let rows = whole.out.strip_prefix(HEADING).expect("a heading");
+    assert!(rows.lines().count() > 100);
+    let mut random = Random(3);
+    for _ in 0..10 {
+        let (mut rest, mut parts) = (&names[..], String::new());
+        while !rest.is_empty() {
+            let (part, more) = rest.split_at(1 + random.below(rest.len() as u64) as usize);
+            parts += &match random.below(2) {
+                0 => run_with(&["batch", "--rows", "-"], list(part).as_bytes()).out,
+                _ => {
+                    let mut words = vec!["batch", "--rows"];
+                    words.extend(part.iter().map(String::as_str));
+                    run(&words).out
+                }
+            };
+            rest = more;
+        }
+        assert!(parts == rows);
+    }
+}
+
+/// Rows come while more folders are still to be named.
+#[test]
+fn folders_are_taken_as_they_come() {
+    let mut command = program();
+    command.args(["batch", "-", "--rows"]);
+    command.stdin(Stdio::piped()).stdout(Stdio::piped()).stderr(Stdio::null());
+    let mut child = command.spawn().expect("lukhveri runs");
+    let mut input = child.stdin.take().expect("a pipe");
+    let mut rows = BufReader::new(child.stdout.take().expect("a pipe")).lines();
+    for name in ["01", "kitchen", "01"] {
+        writeln!(input, "{}", example(name).display()).expect("a name");
+        let row = rows.next().expect("a row").expect("text");
+        assert!(row.starts_with(&format!("examples/{name}/case.bin,0,")), "{row}");
+        let count = if name == "01" { 2 } else { 4 };
+        rows.by_ref().take(count).for_each(|row| assert!(row.is_ok()));
+    }
+    drop(input);
+    assert_eq!(child.wait().expect("the end").code(), Some(0));
+}
+
+/// Where the reader goes away, the program ends, though more folders could come.
+#[test]
+fn a_reader_who_goes_away() {
+    let mut command = program();
+    command.args(["batch", "-"]);
+    command.stdin(Stdio::piped()).stdout(Stdio::piped()).stderr(Stdio::piped());
+    let mut child = command.spawn().expect("lukhveri runs");
+    let mut input = child.stdin.take().expect("a pipe");
+    drop(child.stdout.take());
+    let _ = writeln!(input, "examples/01");
+    let done = child.wait_with_output().expect("the end");
+    assert_eq!(done.status.code(), Some(2));
+    assert!(!String::from_utf8(done.stderr).expect("text").contains("standard output"));
+    drop(input);
+}
+
+#[test]
+fn no_folder_at_all() {
+    run(&["batch", "--rows"]).is_trouble("batch: a folder is wanted (lukhveri batch --help helps)");
+    let said = run_with(&["batch", "-"], b"");
+    assert_eq!((said.out.as_str(), said.status), (HEADING, Some(0)));
 }

@@ -1,169 +1,150 @@
-//! The program explain, run on folders.
+//! lukhveri explain: which paragraphs are printed and how. What they say is the library's.
 
 mod folder;
-
-use std::process::{Command, Output};
+mod program;
 
 use folder::Folder;
-use lukhveri::{
-    Bar, CaseBuilder, Cut, Decision, Edge, Election, Family, Persons, Plan, PlanBuilder, Policy,
-    Status,
-};
+use program::json::{self, Value};
+use program::{EXAMPLES, example, example_file, on, run};
 
-fn explain(folder: &Folder) -> (String, String, Option<i32>) {
-    run(&[folder.path().to_str().expect("a path")])
-}
-
-fn run(words: &[&str]) -> (String, String, Option<i32>) {
-    let done = Command::new(env!("CARGO_BIN_EXE_explain")).args(words).output();
-    let Output { status, stdout, stderr } = done.expect("explain runs");
-    let text = |bytes: Vec<u8>| String::from_utf8(bytes).expect("text");
-    (text(stdout), text(stderr), status.code())
-}
-
-fn persons(numbers: &[u8]) -> Persons {
-    Persons::of(numbers).expect("persons")
-}
-
-/// 0 and 1 live together; whether 2 does is not told; 3 is cut out by default; 4 is excluded; 5 is barred; 6 hangs on an open decision.
-fn household() -> (Plan, Vec<u8>) {
-    let mut plan = PlanBuilder::new(1);
-    plan.base_chain(9).expect("a citation");
-    let wish = plan.boolean().expect("a fact");
-    let lives = plan.relation(4, &[1, 2]).expect("a fact");
-    let always = plan.literal(true).expect("a node");
-    let wished = plan.holds(wish).expect("a node");
-    let live = plan.holds(lives).expect("a node");
-    plan.edge(Edge::base(0, 1, always, 1)).expect("an edge");
-    plan.edge(Edge::base(1, 2, live, 2)).expect("an edge");
-    let shared = plan.edge(Edge::combination(5, 6, always, 3)).expect("an edge");
-    let election = Election { fact: wish, actor: 8, policy: Policy::DefaultTrue, citation: 4 };
-    plan.cut(Cut::new(persons(&[3]), wished, 5).elected(election)).expect("a cut");
-    let open = Cut::new(persons(&[6]), always, 6).deciding(shared, Decision::Unresolved);
-    plan.cut(open).expect("a cut");
-    plan.bar(Bar::new(persons(&[5]), always, 7)).expect("a bar");
-    plan.status(Status::new(4, always, 8)).expect("a status");
-    let plan = plan.finish().expect("a plan");
-    let roster = persons(&[0, 1, 2, 3, 4, 5, 6]);
-    let mut case = CaseBuilder::new(&plan, 1, 1, roster).expect("a case");
-    case.roster_complete(0).expect("evidence");
-    case.family(Family::new(4)).expect("a family");
-    let case = case.finish().expect("a case").bytes().to_vec();
-    (plan, case)
-}
+const HEADING: &str =
+    "For the officer: what follows belongs to all persons of the case and is not for families.";
 
 #[test]
-fn every_sort_of_person() {
-    let (plan, case) = household();
-    let folder = Folder::new("household");
-    folder.write("plan.bin", plan.bytes());
-    folder.write("case.bin", &case);
-    let names = "person 0 Anna\nperson 2 Cleo\nperson 3 Dora\nfact 0 Dora asks\ncitation 5 §5(1)\n";
-    folder.write("names.txt", names.as_bytes());
-    let (said, complained, status) = explain(&folder);
-    assert_eq!((complained.as_str(), status), ("", Some(0)));
-    let wanted = [
-        "It is open with whom Anna is counted.\n  It waits for fact 1, family 4 of person 1 and Cleo (not told).\n",
-        "  Possible: with person 1 in 2 of 4 worlds; with person 1 and Cleo in 2 of 4 worlds.\n",
-        "Dora is counted alone, under §5(1).\n  Dora is set apart by cut 0 of Dora (§5(1)).\n",
-        "Person 4 is counted alone, under citation 8.\n  Person 4 is excluded by status 0 (citation 8).\n",
-        "It waits for decision 0, whether cut 1 of person 6 (citation 6) overrides edge 2 between person 5 and person 6 (citation 3).\n",
-        "Taken by default: \"Dora asks\" is true, as actor 8 has not elected (citation 4).\n",
-        "7 persons, 5 of them open; 2 units; 4 worlds.\n",
-    ];
-    for text in wanted {
-        assert!(said.contains(text), "{text}\nis not in\n{said}");
+fn a_paragraph_for_each_person() {
+    for name in EXAMPLES {
+        let said = on("explain", &example(name), &[]);
+        assert_eq!((said.err.as_str(), said.status), ("", Some(0)), "{name}");
+        let lines = example_file(name, "printed.txt").iter().filter(|byte| **byte == b'\n').count();
+        assert_eq!(said.out.split("\n\n").count(), lines - 2, "{}", said.out);
+        assert!(!said.out.contains(HEADING));
     }
 }
 
 #[test]
-fn why_somebody_is_alone() {
-    let mut plan = PlanBuilder::new(1);
-    let never = plan.literal(false).expect("a node");
-    plan.edge(Edge::base(0, 1, never, 1)).expect("an edge");
-    let plan = plan.finish().expect("a plan");
-    let mut case = CaseBuilder::new(&plan, 1, 1, persons(&[0, 1, 2])).expect("a case");
-    case.roster_complete(0).expect("evidence");
-    let folder = Folder::new("alone");
-    folder.write("plan.bin", plan.bytes());
-    folder.write("case.bin", case.finish().expect("a case").bytes());
-    let (said, _, _) = explain(&folder);
-    let edge = "Person 0 is counted alone.\n  Edge 0 between person 0 and person 1 (citation 1) does not hold.\n";
-    assert!(said.contains(edge), "{said}");
-    assert!(said.contains("No edge and no attachment of the plan joins person 2 with anyone"));
+fn one_person_by_number_or_name() {
+    let all = on("explain", &example("kitchen"), &[]).out;
+    let nana = on("explain", &example("kitchen"), &["--person", "Nana"]);
+    assert_eq!((nana.err.as_str(), nana.status), ("", Some(0)));
+    assert_eq!(all.split("\n\n").nth(2), nana.out.strip_suffix('\n'));
+    assert_eq!(nana, on("explain", &example("kitchen"), &["--person=2"]));
+    let said = on("explain", &example("kitchen"), &["--person", "Otar"]);
+    said.is_trouble("names.txt has no person 'Otar'");
+    let said = on("explain", &example("kitchen"), &["--person", "64"]);
+    said.is_trouble("there is no person 64, only 0 to 63");
+    let said = on("explain", &example("kitchen"), &["--person", "9"]);
+    said.is_trouble("examples/kitchen/case.bin: person 9 is not on the roster");
 }
 
 #[test]
-fn a_chain_and_an_overlap() {
-    let mut plan = PlanBuilder::new(1);
-    let always = plan.literal(true).expect("a node");
-    plan.edge(Edge::base(0, 1, always, 1)).expect("an edge");
-    plan.edge(Edge::base(1, 2, always, 1)).expect("an edge");
-    plan.cut(Cut::new(persons(&[4, 5]), always, 2)).expect("a cut");
-    plan.cut(Cut::new(persons(&[5, 6]), always, 3)).expect("a cut");
-    let plan = plan.finish().expect("a plan");
-    let mut case = CaseBuilder::new(&plan, 1, 1, persons(&[0, 1, 2, 4, 5, 6])).expect("a case");
-    case.roster_complete(0).expect("evidence");
-    let folder = Folder::new("chain");
-    folder.write("plan.bin", plan.bytes());
-    folder.write("case.bin", case.finish().expect("a case").bytes());
-    let (said, _, _) = explain(&folder);
-    let chain = "Person 1 is left to discretion.\n  Person 0, person 1 and person 2 hang together by a chain";
-    assert!(said.contains(chain), "{said}");
-    let overlap = "They are cut 0 of person 4 and person 5 (citation 2) with cut 1 of person 5 and person 6 (citation 3)";
-    assert!(said.contains(overlap), "{said}");
+fn equal_names_want_a_number() {
+    let folder = Folder::new("explain-equal");
+    folder.write("plan.bin", &example_file("kitchen", "plan.bin"));
+    folder.write("case.bin", &example_file("kitchen", "case.bin"));
+    folder.write("names.txt", b"person 0 Nana\nperson 2 Nana\n");
+    let said = on("explain", folder.path(), &["--person", "Nana"]);
+    said.is_trouble("person 0 and person 2 are both called 'Nana': give a number");
+    assert_eq!(on("explain", folder.path(), &["--person", "2"]).status, Some(0));
 }
 
 #[test]
-fn refusals_say_what_would_mend_them() {
-    let (plan, case) = household();
-    let folder = Folder::new("refused");
-    folder.write("plan.bin", plan.bytes());
-    let mut other = case.clone();
-    other[2] = 9;
-    folder.write("case.bin", &other);
-    let (said, _, status) = explain(&folder);
-    assert_eq!(status, Some(1));
+fn what_belongs_to_all_stands_under_its_heading() {
+    let family = on("explain", &example("club"), &["--person", "Otar"]).out;
+    let both = on("explain", &example("club"), &["--person", "Otar", "--officer"]).out;
+    let (before, after) = both.split_once(HEADING).expect("the heading");
+    assert_eq!(before, family + "\n");
+    assert!(after.starts_with("\n  ") && after.lines().count() > 2, "{after}");
+}
+
+#[test]
+fn as_json() {
+    for name in EXAMPLES {
+        let said = on("explain", &example(name), &["--json", "--officer"]);
+        assert_eq!((said.err.as_str(), said.status), ("", Some(0)));
+        let object = json::read(&said.out);
+        assert!(!object.at("officer").list().is_empty());
+        for person in object.at("persons").list() {
+            assert!(!person.at("sentences").list().is_empty());
+            assert!(person.at("name") == person.at("called"), "{person:?}");
+        }
+    }
+    let said = on("explain", &example("kitchen"), &["--json", "--person", "Nana"]);
+    let object = json::read(&said.out);
+    assert_eq!(object.at("officer"), &Value::Null);
+    let [nana] = object.at("persons").list() else {
+        panic!("one person: {object:?}");
+    };
+    let numbers = ["person", "kind", "role"].map(|name| nana.at(name).number());
+    assert_eq!(numbers, [2, 1, 0]);
+    assert_eq!(nana.at("open_facts"), &Value::List(vec![Value::Number(2)]));
+    assert_eq!(nana.at("open_decisions"), &Value::List(vec![Value::Number(0)]));
+}
+
+#[test]
+fn a_refusal_says_what_would_mend_it() {
+    let folder = Folder::new("explain-refused");
+    folder.write("plan.bin", &example_file("kitchen", "plan.bin"));
+    let mut case = example_file("kitchen", "case.bin");
+    case[2] = 9;
+    folder.write("case.bin", &case);
+    let said = on("explain", folder.path(), &[]);
+    assert_eq!(said.status, Some(1));
+    assert!(said.out.starts_with("Refused 9: case, record 0 (the heading, at byte 0)"));
+    assert!(said.out.contains(": its relation is 9, the plan's is 1.\n"));
     assert!(
-        said.starts_with("There is no answer: refused 9: case, record 0 (the heading, at byte 0)")
+        said.out.contains("\nWhat would mend it: compare the case's heading with the plan"),
+        "{}",
+        said.out
     );
-    assert!(said.contains("What is wrong: its relation is 9, the plan's is 1.\n"), "{said}");
-    assert!(said.contains("What would mend it: correct the heading"), "{said}");
-    let mut other = plan.bytes().to_vec();
-    let last = other.len() - 1;
-    other[last] = 64;
-    folder.write("plan.bin", &other);
-    let (said, _, _) = explain(&folder);
-    assert!(said.contains("(a status, at byte"), "{said}");
-    assert!(said.contains("What is wrong: its citation has 64, outside 0 to 63.\n"), "{said}");
-}
-
-#[test]
-fn wrong_use() {
-    let (said, complained, status) = run(&[]);
-    assert_eq!((said.as_str(), status), ("", Some(2)));
-    assert!(complained.starts_with("explain: no folder was given\nusage: explain FOLDER"));
-    assert!(run(&["a", "b"]).1.contains("more than one folder"));
-    assert!(run(&["--fast"]).1.contains("unknown option --fast"));
-    let (said, complained, status) = run(&["--help"]);
-    assert!(said.starts_with("usage: explain FOLDER") && complained.is_empty());
-    assert_eq!((run(&["-h"]).0, status), (said, Some(0)));
-    let folder = Folder::new("empty");
-    let (said, complained, status) = explain(&folder);
-    assert_eq!((said.as_str(), status), ("", Some(2)));
-    assert!(complained.contains("plan.bin"), "{complained}");
+    let path = folder.path().join("case.bin");
+    assert_eq!(said.err, format!("lukhveri: {}: refused 9, record 0\n", path.display()));
+    let said = on("explain", folder.path(), &["--json", "--officer"]);
+    assert_eq!(said.status, Some(1));
+    assert_eq!(json::read(&said.out).at("refusal").at("number").number(), 9);
 }
 
 #[test]
 fn faulty_names() {
-    let (plan, case) = household();
-    let folder = Folder::new("names");
-    folder.write("plan.bin", plan.bytes());
-    folder.write("case.bin", &case);
-    folder.write("names.txt", b"person 0 Anna\nperson x Ben\n");
-    let (said, complained, status) = explain(&folder);
-    assert_eq!((said.as_str(), status), ("", Some(2)));
-    assert!(complained.contains("names.txt: line 2: 'x' is no number of a person"), "{complained}");
-    folder.write("names.txt", b"person 0 Anna\n\nperson 1 \xff\n");
-    assert!(explain(&folder).1.contains("names.txt: line 3: this is no UTF-8 text"));
+    let folder = Folder::new("explain-names");
+    folder.write("plan.bin", &example_file("kitchen", "plan.bin"));
+    folder.write("case.bin", &example_file("kitchen", "case.bin"));
+    let says = |names: &[u8], part: &str| {
+        folder.write("names.txt", names);
+        on("explain", folder.path(), &[]).is_trouble(part);
+    };
+    says(b"person 0 Anna\nperson x Ben\n", "names.txt: line 2: 'x' is no number of a person");
+    says(b"person 0 Anna\n\nperson 1 \xff\n", "names.txt: line 3 is no UTF-8 text");
+    says(&b"#\n".repeat(1 << 20), "names.txt: it is longer than 1048576 bytes");
+    std::fs::remove_file(folder.path().join("names.txt")).expect("no names");
+    assert_eq!(on("explain", folder.path(), &[]).status, Some(0));
+    std::fs::create_dir(folder.path().join("names.txt")).expect("a folder");
+    on("explain", folder.path(), &[]).is_trouble("names.txt: this is a folder, not a file");
+}
+
+#[test]
+fn folders_that_are_none() {
+    run(&["explain", "nowhere"]).is_trouble("nowhere/plan.bin: there is no such file");
+    run(&["explain", "examples"]).is_trouble("examples/plan.bin: there is no such file");
+}
+
+/// Damaged bytes are answered or refused, by every command on a folder.
+#[test]
+fn damaged_cases() {
+    let folder = Folder::new("explain-damaged");
+    folder.write("plan.bin", &example_file("club", "plan.bin"));
+    let case = example_file("club", "case.bin");
+    let commands: [&[&str]; 4] =
+        [&["list"], &["explain", "--officer"], &["show", "0"], &["circle", "0"]];
+    for at in 0..case.len() {
+        let mut damaged = case.clone();
+        damaged[at] ^= 0x55;
+        for bytes in [&damaged[..], &case[..at]] {
+            folder.write("case.bin", bytes);
+            for words in commands {
+                let said = on(words[0], folder.path(), &words[1..]);
+                assert!(matches!(said.status, Some(0 | 1)), "{words:?} {bytes:x?} {said:?}");
+                assert!(!said.out.is_empty() && said.err.lines().count() <= 1, "{said:?}");
+            }
+        }
+    }
 }

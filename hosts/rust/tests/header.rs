@@ -2,7 +2,7 @@
 
 use std::collections::BTreeMap;
 
-use lukhveri::{EVENT, Event, LINE, LineKind, Persons, Reason, Role, limits};
+use lukhveri::{EVENT, Event, LINE, LineKind, Persons, Reason, Role, TEXT_LENGTH, limits};
 
 /// Every constant of the header that is a plain number.
 fn constants() -> BTreeMap<String, usize> {
@@ -24,6 +24,7 @@ fn sizes_kinds_and_roles() {
     is("EVENT", EVENT);
     is("PERSONS", limits::PERSONS);
     is("WORLDS", usize::from(limits::WORLDS));
+    is("TEXT_LENGTH", TEXT_LENGTH);
     is("DECIDED", usize::from(LineKind::Decided.number()));
     is("MEMBERSHIP_OPEN", usize::from(LineKind::Membership.number()));
     is("ROLE_OPEN", usize::from(LineKind::Role.number()));

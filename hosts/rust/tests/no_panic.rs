@@ -1,8 +1,10 @@
 //! No input makes anything panic: random bytes, and good bytes that were damaged.
 
+use lukhveri::names::Names;
 use lukhveri::{
-    Buffers, CaseBuilder, Cut, Decision, Edge, Event, Family, Line, Persons, Plan, PlanBuilder,
-    Reason, Refusal, answer_into, check, show_into,
+    Buffers, CaseBuilder, CaseRecords, Citation, Cut, Decision, Edge, Event, Family, Frame, Line,
+    Paper, Persons, Plan, PlanBuilder, Reason, Refusal, answer_into, check, circle, list,
+    show_into,
 };
 
 /// A small source of numbers.
@@ -48,15 +50,16 @@ fn good() -> (Vec<u8>, Vec<u8>) {
     let lives = plan.relation(4, &[0, 1]).expect("a fact");
     let wished = plan.holds(wish).expect("a node");
     let live = plan.holds(lives).expect("a node");
-    let edge = plan.edge(Edge::combination(0, 1, live, 5)).expect("an edge");
+    let edge = plan.edge(Edge::combination(0, 1, live, Citation(5))).expect("an edge");
     let alone = Persons::of(&[0]).expect("persons");
-    plan.cut(Cut::new(alone, wished, 6).deciding(edge, Decision::Unresolved)).expect("a cut");
+    plan.cut(Cut::new(alone, wished, Citation(6)).deciding(edge, Decision::Unresolved))
+        .expect("a cut");
     let plan = plan.finish().expect("a plan");
     let roster = Persons::of(&[0, 1, 2]).expect("persons");
-    let mut case = CaseBuilder::new(&plan, 1, 1, roster).expect("a case");
-    case.roster_complete(0).expect("evidence");
+    let mut case = CaseBuilder::new(&plan, Frame { scope: 1, segment: 1 }, roster).expect("a case");
+    case.roster_complete(Paper(0)).expect("evidence");
     case.family(Family::new(4)).expect("a family");
-    case.relate(lives, true, 3).expect("a relation");
+    case.relate(lives, true, Paper(3)).expect("a relation");
     case.constrain(live).expect("a constraint");
     (plan.bytes().to_vec(), case.finish().expect("a case").bytes().to_vec())
 }
@@ -64,10 +67,45 @@ fn good() -> (Vec<u8>, Vec<u8>) {
 /// Everything that can be said of a refusal.
 fn say(refusal: &Refusal, plan: &[u8], case: &[u8]) {
     assert!((1..=14).contains(&refusal.number()));
-    let exact = [Reason::Malformed, Reason::NamesNothing, Reason::Undecided, Reason::Heading];
-    let finding = refusal.finding(plan, case);
+    let exact = [
+        Reason::Malformed,
+        Reason::PastLimit,
+        Reason::NamesNothing,
+        Reason::OutOfOrder,
+        Reason::Undecided,
+        Reason::ElectionsDiffer,
+        Reason::Heading,
+        Reason::UnknownAndObserved,
+        Reason::LinesDoNotFit,
+        Reason::EventsDoNotFit,
+        Reason::NoSuchWorld,
+    ];
+    let names = Names::read("fact 0 one\nperson 0 Ana\nedge 0 bond\ncut 0 wish").expect("names");
+    let finding = refusal.finding(plan, case, &names);
+    assert!(refusal.in_words(plan, case, &names).starts_with("refused "));
     assert!(finding.is_some() || !exact.contains(&refusal.reason), "{refusal} {plan:?} {case:?}");
     assert!(!format!("{refusal} {} {}", refusal.remedy(), refusal.record()).is_empty());
+}
+
+/// Everything that can be done with an accepted plan.
+fn accepted(plan: &Plan, case: &[u8], random: &mut Random) {
+    assert!(plan.decisions().len() <= 16);
+    assert!((0..=255).filter_map(|number| plan.fact(number)).count() <= 64);
+    for warning in plan.warnings() {
+        assert!(warning.to_string().len() > 20 && warning.record(plan) > 0);
+    }
+    let mut builder = PlanBuilder::reopen(plan);
+    let finished = builder.finish().expect("an accepted plan can be finished");
+    assert_eq!(finished.warnings().len(), plan.warnings().len());
+    match CaseBuilder::reopen(plan, case) {
+        Ok(reopened) => assert!(reopened.finish().is_ok()),
+        Err(error) => assert!(error.to_string().len() > 5),
+    }
+    let person = random.byte();
+    assert_eq!(builder.remove_person(person).is_ok(), person < 64);
+    builder.remove_unused();
+    let left = builder.finish().expect("with less in it, too");
+    assert_eq!(check(left.bytes()), Ok(()));
 }
 
 fn all_calls(plan: &[u8], case: &[u8], random: &mut Random, buffers: &mut Buffers) {
@@ -75,14 +113,14 @@ fn all_calls(plan: &[u8], case: &[u8], random: &mut Random, buffers: &mut Buffer
     let read = Plan::read(plan);
     assert_eq!(checked.is_ok(), read.is_ok());
     if let Ok(read) = read {
-        assert!(read.decisions().len() <= 16);
-        assert!((0..=255).filter_map(|number| read.fact(number)).count() <= 64);
+        accepted(&read, case, random);
     }
     checked.err().iter().for_each(|refusal| say(refusal, plan, case));
-    buffers
-        .answer(plan, case)
-        .map(|answered| drop(answered.to_answer()))
-        .unwrap_or_else(|no| say(&no, plan, case));
+    let answered = buffers.answer(plan, case).map(|answered| drop(answered.to_answer()));
+    assert_eq!(list(plan, case).refused, answered.is_err());
+    answered.unwrap_or_else(|no| say(&no, plan, case));
+    let person = random.byte();
+    assert!(circle(plan, case, person).is_none_or(|circle| circle.holds(person)));
     let (mut lines, mut events) = (random.bytes(200), random.bytes(200));
     if let Err(refusal) = answer_into(plan, case, &mut lines, &mut events) {
         say(&refusal, plan, case);
@@ -114,6 +152,29 @@ fn damaged_bytes() {
             random.damage(&mut case);
         }
         all_calls(&plan, &case, random, buffers);
+    }
+}
+
+/// Names are read from any text, and what they say of a plan is said.
+#[test]
+fn names_of_any_text() {
+    let (random, (plan, case)) = (&mut Random(4), good());
+    let (plan, case) = (Plan::read(&plan).expect("a plan"), CaseRecords::read(&case));
+    let words =
+        ["person ", "fact ", "edge ", "status ", "evidence ", "\u{feff}", "#", "\n", "\r", " "];
+    for _ in 0..100_000 {
+        let mut text = String::new();
+        for _ in 0..random.below(12) {
+            match random.below(3) {
+                0 => text.push_str(words[random.below(words.len())]),
+                1 => text.push_str(&random.byte().to_string()),
+                _ => text.extend(char::from_u32(random.next() as u32 % 0x2_ffff)),
+            }
+        }
+        match Names::read(&text) {
+            Ok(names) => drop(names.warnings(&plan, case.as_ref())),
+            Err(fault) => assert!(fault.to_string().starts_with("line ")),
+        }
     }
 }
 

@@ -1,9 +1,10 @@
-//! Check, answer and show through the static library.
+//! Check, answer, show, list and circles through the static library.
 
 use lukhveri::{
-    Buffers, CaseBuilder, Cut, Decision, EVENTS_LENGTH, Edge, Election, Event, File, LINES_LENGTH,
-    LineKind, MOST_EVENTS_LENGTH, Persons, Plan, PlanBuilder, Policy, Reason, Role, STACK, Status,
-    answer, answer_into, check, show,
+    Actor, Buffers, CaseBuilder, Citation, Cut, Decision, EVENTS_LENGTH, Edge, Election, Event,
+    File, Frame, LINES_LENGTH, LineKind, MOST_EVENTS_LENGTH, Paper, Persons, Plan, PlanBuilder,
+    Policy, Reason, Role, STACK, Status, TEXT_LENGTH, answer, answer_into, check, circle, list,
+    show,
 };
 
 fn persons(numbers: &[u8]) -> Persons {
@@ -14,13 +15,14 @@ fn persons(numbers: &[u8]) -> Persons {
 fn pair() -> Plan {
     let mut plan = PlanBuilder::new(7);
     let always = plan.literal(true).expect("a node");
-    plan.edge(Edge::base(0, 1, always, 5)).expect("an edge");
+    plan.edge(Edge::base(0, 1, always, Citation(5))).expect("an edge");
     plan.finish().expect("a plan")
 }
 
 fn complete(plan: &Plan, roster: &[u8]) -> Vec<u8> {
-    let mut case = CaseBuilder::new(plan, 1, 2, persons(roster)).expect("a case");
-    case.roster_complete(9).expect("evidence");
+    let mut case =
+        CaseBuilder::new(plan, Frame { scope: 1, segment: 2 }, persons(roster)).expect("a case");
+    case.roster_complete(Paper(9)).expect("evidence");
     case.finish().expect("a case").bytes().to_vec()
 }
 
@@ -45,7 +47,8 @@ fn the_example() {
 #[test]
 fn a_roster_that_is_not_complete() {
     let plan = pair();
-    let case = CaseBuilder::new(&plan, 1, 2, persons(&[0, 1])).expect("a case");
+    let case =
+        CaseBuilder::new(&plan, Frame { scope: 1, segment: 2 }, persons(&[0, 1])).expect("a case");
     let case = case.finish().expect("a case");
     let answer = answer(plan.bytes(), case.bytes()).expect("an answer");
     assert!(answer.lines.iter().all(|line| line.kind == LineKind::RosterIncomplete));
@@ -57,8 +60,8 @@ fn a_roster_that_is_not_complete() {
 fn an_open_decision() {
     let mut plan = PlanBuilder::new(1);
     let always = plan.literal(true).expect("a node");
-    let edge = plan.edge(Edge::combination(0, 1, always, 1)).expect("an edge");
-    let cut = Cut::new(persons(&[0]), always, 2).deciding(edge, Decision::Unresolved);
+    let edge = plan.edge(Edge::combination(0, 1, always, Citation(1))).expect("an edge");
+    let cut = Cut::new(persons(&[0]), always, Citation(2)).deciding(edge, Decision::Unresolved);
     let cut = plan.cut(cut).expect("a cut");
     let plan = plan.finish().expect("a plan");
     assert_eq!(plan.decisions(), [(cut, edge)]);
@@ -74,9 +77,14 @@ fn a_default() {
     let mut plan = PlanBuilder::new(1);
     let wish = plan.boolean().expect("a fact");
     let wished = plan.holds(wish).expect("a node");
-    let election = Election { fact: wish, actor: 8, policy: Policy::DefaultTrue, citation: 6 };
-    plan.cut(Cut::new(persons(&[0]), wished, 2).elected(election)).expect("a cut");
-    plan.status(Status::new(1, wished, 3)).expect("a status");
+    let election = Election {
+        fact: wish,
+        actor: Actor(8),
+        policy: Policy::DefaultTrue,
+        citation: Citation(6),
+    };
+    plan.cut(Cut::new(persons(&[0]), wished, Citation(2)).elected(election)).expect("a cut");
+    plan.status(Status::new(1, wished, Citation(3))).expect("a status");
     let plan = plan.finish().expect("a plan");
     let answer = answer(plan.bytes(), &complete(&plan, &[0, 1])).expect("an answer");
     let default = Event::Default { fact: 0, actor: 8, value: true, citation: 6 };
@@ -110,8 +118,8 @@ fn more_events_than_the_lister_takes() {
     for leaf in 1..13 {
         let fact = plan.boolean().expect("a fact");
         let node = plan.holds(fact).expect("a node");
-        plan.edge(Edge::base(0, leaf, node, 1)).expect("an edge");
-        plan.edge(Edge::base(20, 20 + leaf, node, 1)).expect("an edge");
+        plan.edge(Edge::base(0, leaf, node, Citation(1))).expect("an edge");
+        plan.edge(Edge::base(20, 20 + leaf, node, Citation(1))).expect("an edge");
     }
     let plan = plan.finish().expect("a plan");
     let all: Vec<u8> = (0..33).collect();
@@ -119,6 +127,8 @@ fn more_events_than_the_lister_takes() {
     let (mut lines, mut events) = ([0; LINES_LENGTH], vec![0; EVENTS_LENGTH]);
     let short = answer_into(plan.bytes(), &case, &mut lines, &mut events).map(|_| ());
     assert_eq!(short.map_err(|refusal| refusal.reason), Err(Reason::EventsDoNotFit));
+    let listing = list(plan.bytes(), &case);
+    assert_eq!((listing.text.as_str(), listing.refused), ("refused 13 0\n", true));
     let mut buffers = Buffers::new();
     let answered = buffers.answer(plan.bytes(), &case).expect("an answer");
     assert_eq!(answered.worlds(), 4096);
@@ -171,7 +181,7 @@ fn too_many_worlds() {
     for person in 0..13 {
         let fact = plan.boolean().expect("a fact");
         let node = plan.holds(fact).expect("a node");
-        plan.status(Status::new(person, node, 0)).expect("a status");
+        plan.status(Status::new(person, node, Citation(0))).expect("a status");
     }
     let plan = plan.finish().expect("a plan");
     let all: Vec<u8> = (0..13).collect();
@@ -188,22 +198,23 @@ fn too_many_worlds() {
 #[test]
 fn a_plan_is_read_back() {
     let mut built = PlanBuilder::new(1);
-    built.base_chain(3).expect("a citation");
+    built.base_chain(Citation(3)).expect("a citation");
     let wish = built.boolean().expect("a fact");
     let lives = built.relation(4, &[0, 1]).expect("a fact");
     let wished = built.holds(wish).expect("a node");
     let live = built.holds(lives).expect("a node");
     let either = built.or(&[wished, live]).expect("a node");
-    built.edge(Edge::base(0, 1, either, 5).unless(wished)).expect("an edge");
+    built.edge(Edge::base(0, 1, either, Citation(5)).unless(wished)).expect("an edge");
     let built = built.finish().expect("a plan");
     let read = Plan::read(built.bytes()).expect("a plan");
     assert_eq!(read.bytes(), built.bytes());
-    assert_eq!(read.records().chain, Some(3));
+    assert_eq!(read.records().chain, Some(Citation(3)));
     assert_eq!(read.records().facts, built.records().facts);
     assert_eq!(read.records().edges.len(), 1);
-    let mut case = CaseBuilder::new(&read, 1, 1, persons(&[0, 1])).expect("a case");
-    case.roster_complete(0).expect("evidence");
-    case.observe(read.boolean(0).expect("a fact"), false, 1).expect("an observation");
+    let mut case =
+        CaseBuilder::new(&read, Frame { scope: 1, segment: 1 }, persons(&[0, 1])).expect("a case");
+    case.roster_complete(Paper(0)).expect("evidence");
+    case.observe(read.boolean(0).expect("a fact"), false, Paper(1)).expect("an observation");
     case.constrain(read.node(2).expect("a node")).expect("a constraint");
     let case = case.finish().expect("a case");
     let answer = answer(read.bytes(), case.bytes()).expect("an answer");
@@ -217,9 +228,9 @@ fn threads_are_independent() {
         .map(|last| {
             let mut plan = PlanBuilder::new(last);
             let always = plan.literal(true).expect("a node");
-            plan.base_chain(1).expect("a citation");
+            plan.base_chain(Citation(1)).expect("a citation");
             for left in 0..last - 1 {
-                plan.edge(Edge::base(left, left + 1, always, left)).expect("an edge");
+                plan.edge(Edge::base(left, left + 1, always, Citation(left))).expect("an edge");
             }
             let plan = plan.finish().expect("a plan");
             let roster: Vec<u8> = (0..last).collect();
@@ -237,4 +248,71 @@ fn threads_are_independent() {
             });
         }
     });
+}
+
+/// The rows of document 01, and those of refusals.
+#[test]
+fn the_text_of_the_lister() {
+    let plan = pair();
+    let case = complete(&plan, &[0, 1, 2]);
+    let listing = list(plan.bytes(), &case);
+    let rows = "person kind role block\n0 0 1 0,1\n1 0 1 0,1\n2 0 1 2\nunits 2\n";
+    assert_eq!((listing.to_string().as_str(), listing.refused), (rows, false));
+    let of_plan = list(&plan.bytes()[..9], &case);
+    assert_eq!((of_plan.text.as_str(), of_plan.refused), ("refused 1 2\n", true));
+    let of_case = list(plan.bytes(), &[]);
+    assert_eq!((of_case.text.as_str(), of_case.refused), ("refused 3 0\n", true));
+    let open =
+        CaseBuilder::new(&plan, Frame { scope: 1, segment: 2 }, persons(&[0, 1])).expect("a case");
+    let open = list(plan.bytes(), open.finish().expect("a case").bytes());
+    assert_eq!(open.text, "person kind role block\n0 5 0 -\n1 5 0 -\nunits 0\n");
+}
+
+/// Everybody has the longest row: 64 persons in one block.
+#[test]
+fn the_longest_rows() {
+    let mut plan = PlanBuilder::new(7);
+    let always = plan.literal(true).expect("a node");
+    plan.base_chain(Citation(1)).expect("a citation");
+    for left in 0..63 {
+        plan.edge(Edge::base(left, left + 1, always, Citation(5))).expect("an edge");
+    }
+    let plan = plan.finish().expect("a plan");
+    let everybody: Vec<u8> = (0..64).collect();
+    let listing = list(plan.bytes(), &complete(&plan, &everybody));
+    assert!(listing.text.len() <= TEXT_LENGTH && listing.text.ends_with("62,63\nunits 1\n"));
+}
+
+/// An edge joins 0 and 1, a relation that 1's status uses joins 1 and 60, who is not on the roster, a fact that two statuses use joins 2 and 3, an
+/// unresolved decision joins a cut's member with an edge's ends; 9 stands alone, and so does whoever is named by what no rule uses.
+#[test]
+fn circles() {
+    let mut plan = PlanBuilder::new(1);
+    let always = plan.literal(true).expect("a node");
+    let lives = plan.relation(4, &[1, 60]).expect("a fact");
+    plan.relation(4, &[9, 61]).expect("a fact");
+    let wish = plan.boolean().expect("a fact");
+    let (live, wished) = (plan.holds(lives).expect("a node"), plan.holds(wish).expect("a node"));
+    plan.edge(Edge::base(0, 1, always, Citation(1))).expect("an edge");
+    let edge = plan.edge(Edge::combination(4, 5, always, Citation(1))).expect("an edge");
+    let cut = Cut::new(persons(&[4, 6]), always, Citation(2)).deciding(edge, Decision::Unresolved);
+    plan.cut(cut).expect("a cut");
+    plan.status(Status::new(1, live, Citation(0))).expect("a status");
+    plan.status(Status::new(2, wished, Citation(0))).expect("a status");
+    plan.status(Status::new(3, wished, Citation(0))).expect("a status");
+    let plan = plan.finish().expect("a plan");
+    let mut case = complete(&plan, &[0, 1, 2, 3, 4, 5, 6, 9]);
+    let of = |person: u8, case: &[u8]| circle(plan.bytes(), case, person);
+    let wanted: [&[u8]; 5] = [&[0, 1, 60], &[2, 3], &[4, 5, 6], &[9], &[61]];
+    for persons in wanted {
+        let wanted = Some(Persons::of(persons).expect("persons"));
+        assert!(persons.iter().all(|&person| of(person, &case) == wanted), "{persons:?}");
+    }
+    assert!((64..=255).all(|person| of(person, &case).is_none()));
+    assert_eq!(circle(&plan.bytes()[..9], &case, 0), None);
+    assert_eq!(of(0, &case[..9]), None);
+    // Person 0 off the roster: refusal 9, and the circle that there was.
+    case[5] -= 1;
+    let refusal = answer(plan.bytes(), &case).expect_err("off the roster");
+    assert_eq!((refusal.reason, of(1, &case)), (Reason::Heading, Some(persons(&[0, 1, 60]))));
 }

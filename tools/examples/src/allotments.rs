@@ -1,17 +1,20 @@
 //! An allotment association: a chain, two cuts that collide, papers that contradict each other.
 
-use lukhveri::{BuildError, Case, CaseBuilder, Cut, Edge, Persons, Plan, PlanBuilder, Status};
+use lukhveri::{
+    BuildError, Case, CaseBuilder, Citation, Cut, Edge, Frame, Paper, Persons, Plan, PlanBuilder,
+    Status,
+};
 
 use crate::example::{Example, Words};
 
-const GARDEN: u8 = 1;
-const PLOT: u8 = 2;
-const LEFT: u8 = 3;
-const LIST: u8 = 1;
-const LETTER: u8 = 4;
-const NOTICE: u8 = 5;
-const FIRST_COPY: u8 = 6;
-const SECOND_COPY: u8 = 7;
+const GARDEN: Citation = Citation(1);
+const PLOT: Citation = Citation(2);
+const LEFT: Citation = Citation(3);
+const LIST: Paper = Paper(1);
+const LETTER: Paper = Paper(4);
+const NOTICE: Paper = Paper(5);
+const FIRST_COPY: Paper = Paper(6);
+const SECOND_COPY: Paper = Paper(7);
 
 fn plan() -> Result<Plan, BuildError> {
     let mut plan = PlanBuilder::new(1);
@@ -32,7 +35,11 @@ fn plan() -> Result<Plan, BuildError> {
 }
 
 fn case(plan: &Plan) -> Result<Case, BuildError> {
-    let mut case = CaseBuilder::new(plan, 1, 1, Persons::of(&[0, 1, 2, 3, 4, 5, 6, 7])?)?;
+    let mut case = CaseBuilder::new(
+        plan,
+        Frame { scope: 1, segment: 1 },
+        Persons::of(&[0, 1, 2, 3, 4, 5, 6, 7])?,
+    )?;
     case.roster_complete(LIST)?;
     case.most_worlds(64)?;
     if let [Some(irma_left), Some(paata_stays)] = [plan.boolean(0), plan.boolean(1)] {
@@ -72,27 +79,27 @@ pub fn example() -> Result<Example, BuildError> {
             facts: &[(0, "Irma has left the association"), (1, "Paata stays in the association")],
             citations: &[
                 (
-                    GARDEN,
+                    GARDEN.0,
                     "§1 common gardens",
                     "Those who keep a garden together are counted together.",
                 ),
                 (
-                    PLOT,
+                    PLOT.0,
                     "§2 own plots",
                     "Those who have taken a plot of their own are counted apart.",
                 ),
                 (
-                    LEFT,
+                    LEFT.0,
                     "§3 those who left",
                     "Whoever has left is excluded from relief until the end of the season.",
                 ),
             ],
             evidence: &[
-                (LIST, "the association's list, signed as complete"),
-                (LETTER, "Irma's letter: she stays"),
-                (NOTICE, "the board's note: Irma has left"),
-                (FIRST_COPY, "Paata's form"),
-                (SECOND_COPY, "Paata's second form"),
+                (LIST.0, "the association's list, signed as complete"),
+                (LETTER.0, "Irma's letter: she stays"),
+                (NOTICE.0, "the board's note: Irma has left"),
+                (FIRST_COPY.0, "Paata's form"),
+                (SECOND_COPY.0, "Paata's second form"),
             ],
             rules: &[],
             actors: &[],

@@ -1,23 +1,23 @@
 //! A sports club: a guest who is attached, visitors who are barred, staff who are excluded.
 
 use lukhveri::{
-    Attachment, Bar, BuildError, Case, CaseBuilder, Edge, Election, Persons, Plan, PlanBuilder,
-    Policy, Status,
+    Actor, Attachment, Bar, BuildError, Case, CaseBuilder, Citation, Edge, Election, Frame, Paper,
+    Persons, Plan, PlanBuilder, Policy, Status,
 };
 
 use crate::example::{Example, Words};
 
-const SPOUSES: u8 = 1;
-const CHILD: u8 = 2;
-const GUEST: u8 = 3;
-const HOST_SIGNS: u8 = 4;
-const VISITOR: u8 = 5;
-const STAFF: u8 = 6;
-const LIST: u8 = 1;
-const AGREEMENT: u8 = 7;
-const PAYROLL: u8 = 8;
-const OTARS_FORM: u8 = 9;
-const HOST: u8 = 1;
+const SPOUSES: Citation = Citation(1);
+const CHILD: Citation = Citation(2);
+const GUEST: Citation = Citation(3);
+const HOST_SIGNS: Citation = Citation(4);
+const VISITOR: Citation = Citation(5);
+const STAFF: Citation = Citation(6);
+const LIST: Paper = Paper(1);
+const AGREEMENT: Paper = Paper(7);
+const PAYROLL: Paper = Paper(8);
+const OTARS_FORM: Paper = Paper(9);
+const HOST: Actor = Actor(1);
 
 fn plan() -> Result<Plan, BuildError> {
     let mut plan = PlanBuilder::new(1);
@@ -42,7 +42,8 @@ fn plan() -> Result<Plan, BuildError> {
 }
 
 fn case(plan: &Plan) -> Result<Case, BuildError> {
-    let mut case = CaseBuilder::new(plan, 1, 1, Persons::of(&[0, 1, 2, 3, 4, 5])?)?;
+    let mut case =
+        CaseBuilder::new(plan, Frame { scope: 1, segment: 1 }, Persons::of(&[0, 1, 2, 3, 4, 5])?)?;
     case.roster_complete(LIST)?;
     case.most_worlds(64)?;
     let facts = [plan.boolean(0), plan.boolean(1), plan.boolean(2)];
@@ -81,33 +82,33 @@ pub fn example() -> Result<Example, BuildError> {
                 (2, "Guram is paid by the club this season"),
             ],
             citations: &[
-                (SPOUSES, "§1 spouses", "Spouses are counted together."),
-                (CHILD, "§2 child and parent", "A child is counted with the parent."),
-                (GUEST, "§3 guest students", "A guest student is counted with the host family."),
+                (SPOUSES.0, "§1 spouses", "Spouses are counted together."),
+                (CHILD.0, "§2 child and parent", "A child is counted with the parent."),
+                (GUEST.0, "§3 guest students", "A guest student is counted with the host family."),
                 (
-                    HOST_SIGNS,
+                    HOST_SIGNS.0,
                     "§4 host agreements",
                     "The host signs the agreement; without it nothing is known.",
                 ),
                 (
-                    VISITOR,
+                    VISITOR.0,
                     "§5 visitors",
                     "A visitor without an address in town gets no relief, unless placed with a host.",
                 ),
                 (
-                    STAFF,
+                    STAFF.0,
                     "§6 staff",
                     "Whoever is paid by the club is counted in the unit, but is excluded from relief.",
                 ),
             ],
             evidence: &[
-                (LIST, "the club's list, signed as complete"),
-                (AGREEMENT, "the host agreement, signed"),
-                (PAYROLL, "the payroll of this season"),
-                (OTARS_FORM, "Otar's form: contract not settled"),
+                (LIST.0, "the club's list, signed as complete"),
+                (AGREEMENT.0, "the host agreement, signed"),
+                (PAYROLL.0, "the payroll of this season"),
+                (OTARS_FORM.0, "Otar's form: contract not settled"),
             ],
             rules: &[],
-            actors: &[(HOST, "the host")],
+            actors: &[(HOST.0, "the host")],
         },
     })
 }

@@ -34,7 +34,7 @@ fn folder(example: &Example) -> [File; 5] {
     ]
 }
 
-/// What explain calls each number. Papers have no name there, so they are remarks.
+/// What each number is called.
 fn names(words: &Words) -> String {
     let mut text = String::new();
     let mut name = |sort: &str, number: u8, name: &str| {
@@ -45,15 +45,17 @@ fn names(words: &Words) -> String {
     words.citations.iter().for_each(|(number, word, _)| name("citation", *number, word));
     words.rules.iter().for_each(|(sort, number, word)| name(sort, *number, word));
     words.actors.iter().for_each(|(number, word)| name("actor", *number, word));
-    words.evidence.iter().for_each(|(number, word)| name("# evidence", *number, word));
+    words.evidence.iter().for_each(|(number, word)| name("evidence", *number, word));
     text
 }
 
 fn readme(example: &Example, printed: &str) -> String {
     let Example { folder, title, story, outcome, words, .. } = example;
     let mut text = format!("# {title}\n\n{story}\n\n{outcome}\n\n```\n{printed}```\n\n");
-    let _ =
-        write!(text, "In sentences: `explain examples/{folder}` (docs/GUIDE.md, section 12).\n\n");
+    let _ = write!(
+        text,
+        "In sentences: `lukhveri explain examples/{folder}` (docs/GUIDE.md, section 12).\n\n"
+    );
     text.push_str("The rule book:\n\n");
     for (number, name, sentence) in words.citations {
         let _ = writeln!(text, "- citation {number}, {name}: {sentence}");

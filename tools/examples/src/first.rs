@@ -1,11 +1,11 @@
 //! Two spouses and a brother: one edge that always holds.
 
-use lukhveri::{BuildError, CaseBuilder, Edge, Persons, PlanBuilder};
+use lukhveri::{BuildError, CaseBuilder, Citation, Edge, Frame, Paper, Persons, PlanBuilder};
 
 use crate::example::{Example, Words};
 
-const SPOUSES: u8 = 1;
-const LIST: u8 = 0;
+const SPOUSES: Citation = Citation(1);
+const LIST: Paper = Paper(0);
 
 pub fn example() -> Result<Example, BuildError> {
     let mut plan = PlanBuilder::new(1);
@@ -13,7 +13,8 @@ pub fn example() -> Result<Example, BuildError> {
     plan.edge(Edge::base(0, 1, always, SPOUSES))?;
     let plan = plan.finish()?;
 
-    let mut case = CaseBuilder::new(&plan, 1, 1, Persons::of(&[0, 1, 2])?)?;
+    let mut case =
+        CaseBuilder::new(&plan, Frame { scope: 1, segment: 1 }, Persons::of(&[0, 1, 2])?)?;
     case.roster_complete(LIST)?;
     case.most_worlds(1)?;
     let case = case.finish()?;
@@ -28,8 +29,8 @@ pub fn example() -> Result<Example, BuildError> {
         words: Words {
             persons: &[(0, "Ana"), (1, "Beka"), (2, "Gio")],
             facts: &[],
-            citations: &[(SPOUSES, "§1 spouses", "Spouses are counted together.")],
-            evidence: &[(LIST, "the office's list, signed as complete")],
+            citations: &[(SPOUSES.0, "§1 spouses", "Spouses are counted together.")],
+            evidence: &[(LIST.0, "the office's list, signed as complete")],
             rules: &[],
             actors: &[],
         },

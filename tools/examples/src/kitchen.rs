@@ -1,21 +1,21 @@
 //! A school kitchen: a cut, a Combination edge across it, and nobody has decided which of the two wins.
 
 use lukhveri::{
-    BuildError, Case, CaseBuilder, Cut, Decision, Edge, Election, Family, Persons, Plan,
-    PlanBuilder, Policy,
+    Actor, BuildError, Case, CaseBuilder, Citation, Cut, Decision, Edge, Election, Family, Frame,
+    Paper, Persons, Plan, PlanBuilder, Policy,
 };
 
 use crate::example::{Example, Words};
 
-const CHILD: u8 = 1;
-const POT: u8 = 2;
-const PENSION: u8 = 3;
-const SILENCE: u8 = 4;
-const GROWN: u8 = 5;
-const LIST: u8 = 1;
-const NANAS_FORM: u8 = 5;
-const PENSIONER: u8 = 1;
-const GROWN_CHILD: u8 = 2;
+const CHILD: Citation = Citation(1);
+const POT: Citation = Citation(2);
+const PENSION: Citation = Citation(3);
+const SILENCE: Citation = Citation(4);
+const GROWN: Citation = Citation(5);
+const LIST: Paper = Paper(1);
+const NANAS_FORM: Paper = Paper(5);
+const PENSIONER: Actor = Actor(1);
+const GROWN_CHILD: Actor = Actor(2);
 const ONE_POT: u8 = 1;
 
 fn plan() -> Result<Plan, BuildError> {
@@ -40,7 +40,8 @@ fn plan() -> Result<Plan, BuildError> {
 }
 
 fn case(plan: &Plan) -> Result<Case, BuildError> {
-    let mut case = CaseBuilder::new(plan, 1, 1, Persons::of(&[0, 1, 2, 3, 4])?)?;
+    let mut case =
+        CaseBuilder::new(plan, Frame { scope: 1, segment: 1 }, Persons::of(&[0, 1, 2, 3, 4])?)?;
     case.roster_complete(LIST)?;
     case.most_worlds(64)?;
     case.family(Family::new(ONE_POT))?;
@@ -72,25 +73,25 @@ pub fn example() -> Result<Example, BuildError> {
             ],
             citations: &[
                 (
-                    CHILD,
+                    CHILD.0,
                     "§1 child and parent",
                     "Parent and child at one address are counted together.",
                 ),
-                (POT, "§2 one pot", "Those who eat from one pot are counted together."),
-                (PENSION, "§3 over 65", "Whoever is over 65 may ask to be counted apart."),
-                (SILENCE, "§4 silence", "Nobody is counted apart who has not asked for it."),
-                (GROWN, "§5 grown children", "A grown child may ask to be counted apart."),
+                (POT.0, "§2 one pot", "Those who eat from one pot are counted together."),
+                (PENSION.0, "§3 over 65", "Whoever is over 65 may ask to be counted apart."),
+                (SILENCE.0, "§4 silence", "Nobody is counted apart who has not asked for it."),
+                (GROWN.0, "§5 grown children", "A grown child may ask to be counted apart."),
             ],
             evidence: &[
-                (LIST, "the school's list, signed as complete"),
-                (NANAS_FORM, "Nana's form, signed"),
+                (LIST.0, "the school's list, signed as complete"),
+                (NANAS_FORM.0, "Nana's form, signed"),
             ],
             rules: &[
                 ("edge", 1, "the one pot"),
                 ("cut", 0, "Nana's wish"),
                 ("decision", 0, "does Nana's wish outweigh the one pot?"),
             ],
-            actors: &[(PENSIONER, "a person over 65"), (GROWN_CHILD, "a grown child")],
+            actors: &[(PENSIONER.0, "a person over 65"), (GROWN_CHILD.0, "a grown child")],
         },
     })
 }

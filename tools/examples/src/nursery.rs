@@ -1,16 +1,18 @@
 //! A nursery: one family's answer is open, another family is decided all the same.
 
-use lukhveri::{BuildError, Case, CaseBuilder, Edge, Family, Persons, Plan, PlanBuilder};
+use lukhveri::{
+    BuildError, Case, CaseBuilder, Citation, Edge, Family, Frame, Paper, Persons, Plan, PlanBuilder,
+};
 
 use crate::example::{Example, Words};
 
-const CHILD: u8 = 1;
-const PARENTS: u8 = 2;
-const FLAT: u8 = 3;
-const LIST: u8 = 1;
-const REGISTER: u8 = 2;
-const FORM: u8 = 3;
-const LETTER: u8 = 4;
+const CHILD: Citation = Citation(1);
+const PARENTS: Citation = Citation(2);
+const FLAT: Citation = Citation(3);
+const LIST: Paper = Paper(1);
+const REGISTER: Paper = Paper(2);
+const FORM: Paper = Paper(3);
+const LETTER: Paper = Paper(4);
 const SHARES_A_FLAT: u8 = 1;
 
 pub fn plan() -> Result<Plan, BuildError> {
@@ -30,7 +32,8 @@ pub fn plan() -> Result<Plan, BuildError> {
 
 /// What Levan says of his address: unknown, or an answer by letter.
 pub fn case(plan: &Plan, levan: Option<bool>) -> Result<Case, BuildError> {
-    let mut case = CaseBuilder::new(plan, 1, 1, Persons::of(&[0, 1, 2, 3, 4, 5])?)?;
+    let mut case =
+        CaseBuilder::new(plan, Frame { scope: 1, segment: 1 }, Persons::of(&[0, 1, 2, 3, 4, 5])?)?;
     case.roster_complete(LIST)?;
     case.most_worlds(64)?;
     case.family(Family::new(SHARES_A_FLAT).complete(REGISTER))?;
@@ -67,26 +70,25 @@ pub fn example() -> Result<Example, BuildError> {
             facts: &[(0, "Levan lives with Nino and Salome"), (1, "Maka and Tamar share a flat")],
             citations: &[
                 (
-                    CHILD,
+                    CHILD.0,
                     "§1 child and parent",
                     "A child is counted with the parent who has custody.",
                 ),
                 (
-                    PARENTS,
+                    PARENTS.0,
                     "§2 parents at one address",
                     "A parent who lives at the child's address is counted with child and other parent.",
                 ),
                 (
-                    FLAT,
+                    FLAT.0,
                     "§3 shared flats",
                     "Adults who share a flat and its costs are counted together.",
                 ),
             ],
             evidence: &[
-                (LIST, "the nursery's list, signed as complete"),
-                (REGISTER, "the register of shared flats, closed in September"),
-                (FORM, "Levan's form: not known yet"),
-                (LETTER, "Levan's letter"),
+                (LIST.0, "the nursery's list, signed as complete"),
+                (REGISTER.0, "the register of shared flats, closed in September"),
+                (FORM.0, "Levan's form: not known yet"),
             ],
             rules: &[],
             actors: &[],

@@ -1,7 +1,8 @@
 //! The bytes of docs/GUIDE.md, and its C. (Its Rust is a documentation test.)
 
 use std::fs;
-use std::path::Path;
+use std::os::unix::fs::symlink;
+use std::path::{Path, PathBuf};
 use std::process::Command;
 
 fn root() -> &'static Path {
@@ -34,26 +35,54 @@ fn block(mark: &str) -> String {
 #[test]
 fn explain_says_so() {
     let mut explain = Command::new(env!("CARGO"));
-    explain.args(["run", "--quiet", "--release", "--bin", "explain", "--manifest-path"]);
-    explain.arg(root().join("hosts/rust/Cargo.toml")).arg(root().join("examples/kitchen"));
+    explain.args(["run", "--quiet", "--release", "--manifest-path"]);
+    explain.arg(root().join("hosts/rust/Cargo.toml"));
+    explain.args(["--", "explain"]).arg(root().join("examples/kitchen"));
     let said = explain.output().expect("explain").stdout;
     assert!(String::from_utf8_lossy(&said).contains(&block("explain kitchen")));
 }
 
+/// A folder of its own for a test.
+fn folder(name: &str) -> PathBuf {
+    let folder = Path::new(env!("CARGO_TARGET_TMPDIR")).join(name);
+    fs::create_dir_all(&folder).expect("a folder");
+    folder
+}
+
+/// The standard output of the commands of a block, run in a folder. What they say otherwise counts as wrong.
+fn run(mark: &str, folder: &Path) -> String {
+    let commands = format!("set -e\n{}", block(mark));
+    let ran = Command::new("sh").args(["-c", &commands]).current_dir(folder).output();
+    let ran = ran.expect("a shell");
+    assert!(ran.status.success(), "{ran:?}");
+    assert_eq!(String::from_utf8_lossy(&ran.stderr), "");
+    String::from_utf8_lossy(&ran.stdout).into_owned()
+}
+
+#[test]
+fn digits_become_files() {
+    let folder = folder("files");
+    for name in ["plan", "case"] {
+        fs::write(folder.join(format!("{name}.txt")), block(&format!("{name} 01"))).expect(name);
+    }
+    run("sh files", &folder);
+    for file in ["plan.bin", "case.bin"] {
+        let made = fs::read(folder.join(file)).expect(file);
+        assert_eq!(made, fs::read(root().join("examples/01").join(file)).expect(file));
+    }
+}
+
+/// The line is made for the root of the repository, whose parts it needs are linked to from a folder.
 #[test]
 fn the_c_program_runs() {
-    let program = block("c");
-    let folder = Path::new(env!("CARGO_TARGET_TMPDIR"));
-    let (source, built) = (folder.join("guide.c"), folder.join("guide"));
-    fs::write(&source, program).expect("a file");
-    let library = root().join("target/staticlib/libexports.a");
-    let mut compiler = Command::new("cc");
-    compiler.args(["-Wall", "-Wextra", "-Werror", "-I"]).arg(root().join("hosts"));
-    compiler.arg(&source).arg(library).arg("-o").arg(&built);
-    assert!(compiler.status().expect("a C compiler").success());
-    let said = Command::new(&built).output().expect("the program").stdout;
-    assert_eq!(
-        String::from_utf8_lossy(&said),
-        "person 0 kind 0\nperson 1 kind 0\nperson 2 kind 0\n"
-    );
+    let folder = folder("c");
+    fs::write(folder.join("guide.c"), block("c")).expect("a file");
+    for part in ["hosts", "target"] {
+        let link = folder.join(part);
+        if fs::symlink_metadata(&link).is_err() {
+            symlink(root().join(part), &link).expect(part);
+        }
+    }
+    let said = run("sh compile", &folder);
+    assert_eq!(said, "person 0 kind 0\nperson 1 kind 0\nperson 2 kind 0\n");
 }

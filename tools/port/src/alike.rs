@@ -43,25 +43,30 @@ impl fmt::Display for Difference {
 }
 
 /// A lent buffer, full of dirt.
-struct Lent {
+pub struct Lent {
     bytes: Vec<u8>,
     before: Vec<u8>,
 }
 
 impl Lent {
-    fn new(length: usize, random: &mut Random) -> Lent {
+    pub fn new(length: usize, random: &mut Random) -> Lent {
         let before: Vec<u8> = (0..length + 2 * MARGIN).map(|_| random.byte(256)).collect();
         let bytes = before.clone();
         Lent { bytes, before }
     }
 
-    fn middle(&mut self) -> &mut [u8] {
+    pub fn middle(&mut self) -> &mut [u8] {
         let end = self.bytes.len() - MARGIN;
         &mut self.bytes[MARGIN..end]
     }
 
+    /// The dirt that it was lent with.
+    pub fn dirt(&self) -> &[u8] {
+        &self.before[MARGIN..self.before.len() - MARGIN]
+    }
+
     /// Whether it holds just these bytes, and the margins what they held.
-    fn holds(&mut self, expected: &[u8]) -> bool {
+    pub fn holds(&mut self, expected: &[u8]) -> bool {
         let margin = |bytes: &[u8]| [&bytes[..MARGIN], &bytes[bytes.len() - MARGIN..]].concat();
         margin(&self.bytes) == margin(&self.before) && self.middle() == expected
     }
@@ -166,7 +171,7 @@ fn lengths(needed: usize, random: &mut Random) -> [usize; 4] {
 }
 
 /// One of them; three in four suffice.
-fn any_length(needed: usize, random: &mut Random) -> usize {
+pub fn any_length(needed: usize, random: &mut Random) -> usize {
     lengths(needed, random)[random.pick(&[0, 1, 2, 2, 2, 3, 3, 3])]
 }
 

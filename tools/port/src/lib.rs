@@ -2,6 +2,7 @@
 
 pub mod alike;
 pub mod clock;
+pub mod listed;
 pub mod settings;
 
 use judge::sides::Side;
@@ -10,7 +11,7 @@ use model::Outcome;
 /// Refusal, record, count, maximum, lines, events, worlds.
 type Told = [u64; 7];
 
-// Each answers the refusal's number, 0 for none, and tells the rest behind its last reference.
+// The first three answer the refusal's number, 0 for none, and tell the rest behind the last reference.
 unsafe extern "C" {
     fn lukhveri_check(plan: *const u8, plan_length: usize, told: *mut Told) -> u8;
 
@@ -38,6 +39,27 @@ unsafe extern "C" {
         events_length: usize,
         told: *mut Told,
     ) -> u8;
+
+    fn lukhveri_list(
+        plan: *const u8,
+        plan_length: usize,
+        case: *const u8,
+        case_length: usize,
+        lines: *mut u8,
+        lines_length: usize,
+        events: *mut u8,
+        events_length: usize,
+        text: *mut u8,
+        text_length: usize,
+    ) -> usize;
+
+    fn lukhveri_circle(
+        plan: *const u8,
+        plan_length: usize,
+        case: *const u8,
+        case_length: usize,
+        person: u8,
+    ) -> u64;
 }
 
 /// What a call tells, over dirt.
@@ -98,6 +120,37 @@ pub fn show(plan: &[u8], case: &[u8], world: u64, lines: &mut [u8], events: &mut
             told,
         )
     })
+}
+
+/// List a case with the proved code: how many bytes of the text stand at the start of its buffer.
+pub fn list(
+    plan: &[u8],
+    case: &[u8],
+    lines: &mut [u8],
+    events: &mut [u8],
+    text: &mut [u8],
+) -> usize {
+    // Five slices, of which three are lent for writing, and of which the Rattle function keeps nothing.
+    unsafe {
+        lukhveri_list(
+            plan.as_ptr(),
+            plan.len(),
+            case.as_ptr(),
+            case.len(),
+            lines.as_mut_ptr(),
+            lines.len(),
+            events.as_mut_ptr(),
+            events.len(),
+            text.as_mut_ptr(),
+            text.len(),
+        )
+    }
+}
+
+/// The circle of a person with the proved code, 0 for none.
+pub fn circle(plan: &[u8], case: &[u8], person: u8) -> u64 {
+    // Two slices, which are only read, and of which the Rattle function keeps nothing.
+    unsafe { lukhveri_circle(plan.as_ptr(), plan.len(), case.as_ptr(), case.len(), person) }
 }
 
 /// The proved code, as one of those that judge compares.

@@ -11,7 +11,7 @@ pub struct Settings {
 
 /// Says what is wrong with the words, and ends.
 pub fn fail(program: &str, what: &str) -> ! {
-    eprintln!("{program}: {what}; {program} --help says more");
+    eprintln!("{program}: {what}; tools/{program} --help says more");
     exit(2)
 }
 
@@ -24,18 +24,12 @@ fn class_of(program: &str, name: &str) -> &'static Class {
     })
 }
 
-/// `--class NAME`, `--rounds N`, `--help`.
-pub fn settings(program: &str, help: &str, words: impl Iterator<Item = String>) -> Settings {
+/// `--class NAME`, `--rounds N`.
+pub fn settings(program: &str, words: impl Iterator<Item = String>) -> Settings {
     let mut words = words;
     let (mut classes, mut rounds) = (Vec::new(), 15);
     while let Some(word) = words.next() {
         match word.as_str() {
-            "--help" => {
-                println!("{help}\nClasses:");
-                ALL.iter()
-                    .for_each(|class| println!("  {:<10} {}", class.name, class.what));
-                exit(0)
-            }
             "--class" => classes.push(class_of(program, &words.next().unwrap_or_default())),
             "--rounds" => match words.next().and_then(|number| number.parse().ok()) {
                 Some(number) if number > 0 => rounds = number,

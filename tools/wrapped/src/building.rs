@@ -2,8 +2,9 @@
 
 use inputs::random::Random;
 use lukhveri::{
-    Attachment, Bar, BooleanId, BuildError, Case, CaseBuilder, Cut, CutId, Decision, Edge, EdgeId,
-    Election, Family, NodeId, Persons, Plan, PlanBuilder, Policy, RelationId, Status,
+    Actor, Attachment, AttachmentId, Bar, BarId, BooleanId, BuildError, Case, CaseBuilder,
+    Citation, Cut, CutId, Decision, Edge, EdgeId, Election, Family, Frame, Node, NodeId, Paper,
+    Persons, Plan, PlanBuilder, Policy, Precedence, RelationId, RuleId, Status, StatusId,
 };
 
 /// What a random maker has got so far, and how often it was turned away.
@@ -19,6 +20,9 @@ pub struct Maker<'a> {
     nodes: Vec<NodeId>,
     edges: Vec<EdgeId>,
     cuts: Vec<CutId>,
+    attachments: Vec<AttachmentId>,
+    bars: Vec<BarId>,
+    statuses: Vec<StatusId>,
     pub turned_away: u64,
 }
 
@@ -36,6 +40,9 @@ impl<'a> Maker<'a> {
             nodes: Vec::new(),
             edges: Vec::new(),
             cuts: Vec::new(),
+            attachments: Vec::new(),
+            bars: Vec::new(),
+            statuses: Vec::new(),
             turned_away: 0,
         }
     }
@@ -56,8 +63,12 @@ impl<'a> Maker<'a> {
         self.below(self.persons)
     }
 
-    fn citation(&mut self) -> u8 {
-        self.below(64)
+    fn citation(&mut self) -> Citation {
+        Citation(self.below(64))
+    }
+
+    fn paper(&mut self) -> Paper {
+        Paper(self.below(64))
     }
 
     fn members(&mut self) -> Persons {
@@ -126,8 +137,8 @@ impl<'a> Maker<'a> {
         let fact = self.random.pick(&self.booleans);
         let policy =
             self.random.pick(&[Policy::Unknown, Policy::DefaultFalse, Policy::DefaultTrue]);
-        let actor = self.random.byte(3);
-        Some(Election { fact, actor, policy, citation: 1 })
+        let actor = Actor(self.random.byte(3));
+        Some(Election { fact, actor, policy, citation: Citation(1) })
     }
 
     fn add_cut(&mut self) -> Option<()> {
@@ -153,24 +164,30 @@ impl<'a> Maker<'a> {
 
     fn add_attachment(&mut self) -> Option<()> {
         let (members, anchor, citation) = (self.members(), self.person(), self.citation());
-        let mut rule = Attachment::new(members, anchor, self.node()?, citation, 1);
-        rule.actor = self.random.byte(256);
+        let mut rule = Attachment::new(members, anchor, self.node()?, citation, Actor(1));
+        rule.actor = Actor(self.random.byte(256));
         rule.election = self.election();
         let added = self.plan.attachment(rule);
-        self.given(added)
+        let added = self.given(added);
+        self.attachments.extend(added);
+        Some(())
     }
 
     fn add_bar(&mut self) -> Option<()> {
         let bar = Bar::new(self.members(), self.node()?, self.citation());
         let added = self.plan.bar(bar);
-        self.given(added)
+        let added = self.given(added);
+        self.bars.extend(added);
+        Some(())
     }
 
     fn add_status(&mut self) -> Option<()> {
         let (person, citation) = (self.person(), self.citation());
         let status = Status::new(person, self.node()?, citation);
         let added = self.plan.status(status);
-        self.given(added)
+        let added = self.given(added);
+        self.statuses.extend(added);
+        Some(())
     }
 
     /// Whatever comes, in any order.
@@ -186,7 +203,7 @@ impl<'a> Maker<'a> {
             _ if self.cuts.is_empty() => {}
             _ => {
                 let (cut, other) = (self.random.pick(&self.cuts), self.random.pick(&self.cuts));
-                let said = self.plan.precede(cut, other);
+                let said = self.plan.precede(Precedence { cut, precedes: other });
                 self.given(said);
             }
         }
@@ -223,21 +240,100 @@ impl<'a> Maker<'a> {
         self.plan.finish()
     }
 
+    /// The plan opened again, with random rules, nodes, decisions and persons changed or taken out.
+    pub fn changed(&mut self, plan: &Plan) -> Result<Plan, BuildError> {
+        self.plan = PlanBuilder::reopen(plan);
+        for _ in 0..self.random.between(1, 12) {
+            self.change();
+        }
+        if self.random.percent(30) {
+            self.plan.remove_unused();
+        }
+        self.decide_all();
+        self.plan.finish()
+    }
+
+    fn change(&mut self) {
+        let done = match self.random.below(8) {
+            0 => self.remove_rule(),
+            1 => self.plan.remove_person(self.random.byte(64)).map(drop),
+            2 => self.replace_node(),
+            3 => self.replace_edge(),
+            4 => self.replace_cut(),
+            5 => self.redecide(),
+            6 => self.remove_node(),
+            _ => {
+                self.add();
+                Ok(())
+            }
+        };
+        self.given(done);
+    }
+
+    fn remove_rule(&mut self) -> Result<(), BuildError> {
+        let edges = self.edges.iter().map(|edge| RuleId::Edge(*edge));
+        let cuts = self.cuts.iter().map(|cut| RuleId::Cut(*cut));
+        let rules = self.attachments.iter().map(|rule| RuleId::Attachment(*rule));
+        let bars = self.bars.iter().map(|bar| RuleId::Bar(*bar));
+        let statuses = self.statuses.iter().map(|status| RuleId::Status(*status));
+        let all: Vec<RuleId> = edges.chain(cuts).chain(rules).chain(bars).chain(statuses).collect();
+        if all.is_empty() { Ok(()) } else { self.plan.remove_rule(self.random.pick(&all)) }
+    }
+
+    fn replace_node(&mut self) -> Result<(), BuildError> {
+        let (node, children) = (self.node(), self.some_nodes(3));
+        let changed =
+            if self.random.percent(50) { Node::And(children) } else { Node::Or(children) };
+        node.map_or(Ok(()), |node| self.plan.replace_node(node, changed))
+    }
+
+    fn remove_node(&mut self) -> Result<(), BuildError> {
+        self.node().map_or(Ok(()), |node| self.plan.remove_node(node))
+    }
+
+    fn replace_edge(&mut self) -> Result<(), BuildError> {
+        let (left, right, citation) = (self.person(), self.person(), self.citation());
+        let Some(node) = self.node().filter(|_| !self.edges.is_empty()) else {
+            return Ok(());
+        };
+        let edge = Edge::combination(left, right, node, citation);
+        self.plan.replace_edge(self.random.pick(&self.edges), edge)
+    }
+
+    fn replace_cut(&mut self) -> Result<(), BuildError> {
+        let (members, citation, election) = (self.members(), self.citation(), self.election());
+        let Some(node) = self.node().filter(|_| !self.cuts.is_empty()) else {
+            return Ok(());
+        };
+        let mut cut = Cut::new(members, node, citation);
+        cut.election = election;
+        self.plan.replace_cut(self.random.pick(&self.cuts), cut)
+    }
+
+    fn redecide(&mut self) -> Result<(), BuildError> {
+        if self.cuts.is_empty() || self.edges.is_empty() {
+            return Ok(());
+        }
+        let (cut, edge) = (self.random.pick(&self.cuts), self.random.pick(&self.edges));
+        let decision = self.decision();
+        self.plan.redecide(cut, edge, decision)
+    }
+
     /// A case of the plan that the builder finished, if its relations had their families.
     pub fn case(&mut self, plan: &Plan) -> Option<Case> {
         let all: Vec<u8> = (0..64).collect();
         let roster = Persons::of(&all).ok()?;
         let few = [1, 1, 1, 1, 2, 3, 255, 0];
         let (scope, segment) = (self.random.pick(&few), self.random.pick(&few));
-        let made = CaseBuilder::new(plan, scope, segment, roster);
+        let made = CaseBuilder::new(plan, Frame { scope, segment }, roster);
         let mut case = self.given(made)?;
-        let evidence = self.citation();
-        let said = case.roster_complete(evidence);
+        let paper = self.paper();
+        let said = case.roster_complete(paper);
         self.given(said);
         for family in 0..4 {
             let scope = self.random.pick(&[scope, scope, 0, 1]);
             let family = Family::new(family).scope(scope);
-            let family = if self.random.percent(50) { family.complete(2) } else { family };
+            let family = if self.random.percent(50) { family.complete(Paper(2)) } else { family };
             if self.random.percent(97) {
                 let said = case.family(family);
                 self.given(said);
@@ -251,17 +347,17 @@ impl<'a> Maker<'a> {
     fn tell(&mut self, case: &mut CaseBuilder) {
         for _ in 0..self.booleans.len() * 2 {
             let (fact, value) = (self.random.pick(&self.booleans), self.random.percent(50));
-            let evidence = self.random.byte(4);
+            let paper = Paper(self.random.byte(4));
             let said = match self.random.below(4) {
-                0 => case.unknown(fact, evidence),
-                _ => case.observe(fact, value, evidence),
+                0 => case.unknown(fact, paper),
+                _ => case.observe(fact, value, paper),
             };
             self.given(said);
         }
         for _ in 0..self.relations.len() {
             let (fact, value) = (self.random.pick(&self.relations), self.random.percent(50));
-            let evidence = self.citation();
-            let said = case.relate(fact, value, evidence);
+            let paper = self.paper();
+            let said = case.relate(fact, value, paper);
             self.given(said);
         }
         if let Some(node) = self.node().filter(|_| self.random.percent(20)) {

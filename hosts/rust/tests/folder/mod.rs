@@ -1,4 +1,5 @@
 //! A temporary folder that goes away with its test.
+#![allow(dead_code)]
 
 use std::path::{Path, PathBuf};
 

@@ -1,9 +1,11 @@
 //! Document 01 with plain masks: a third voice beside the Rust and the port,
 //! the yardstick of speed, and the source of expected refusals.
 
+pub mod circle;
 pub mod expressions;
 pub mod records;
 pub mod report;
 pub mod world;
 
+pub use circle::circles;
 pub use report::{Citing, Outcome, answer, answer_citing, check, show, show_citing};

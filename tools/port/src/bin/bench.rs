@@ -1,4 +1,4 @@
-//! bench: time of an answer by the Rust, by the model and by the proved code, for classes of inputs. `bench --help` has more.
+//! bench: time of an answer by the Rust, by the model and by the proved code, for classes of inputs. `tools/bench --help` has more.
 
 use std::hint::black_box;
 use std::process::{Command, exit};
@@ -12,23 +12,6 @@ use model::report::{EVENT, LINE};
 use port::Port;
 use port::clock::{Clock, median};
 use port::settings::{fail, settings};
-
-const HELP: &str = "tools/bench [--class NAME] [--rounds N]
-
-Times answers of the Rust, of the model of document 01 and of the proved code (the port) on the same inputs, class by class. Before a class is
-timed, all three answer its inputs and every byte is compared. In each round the three take turns; of an input the best round counts, of a class
-the median of its inputs. Times are those that the program had a processor. The Rust is timed from bytes to bytes, its plan compiled anew, and
-in fewer rounds where it takes long.
-
-Columns: inputs of the class; nanoseconds of an answer by each; how often the port's time goes into the Rust's, and the model's into the port's;
-worlds of all inputs over the port's time for them; nanoseconds of the port's check of a plan, and how often the model's goes into that; kilobytes
-that the port copies and clears for an answer, mean of the inputs, counted apart from the times.
-
-  --class NAME   this class alone; may be given again
-  --rounds N     so many rounds, 15 if not given
-
-Compare ratios within one run, not times between runs.
-";
 
 /// The lister's buffers.
 const LENT: (usize, usize) = (64 * LINE, 4096 * EVENT);
@@ -150,7 +133,7 @@ fn row(class: &Class, rounds: u32) {
 }
 
 fn main() {
-    let settings = settings("bench", HELP, std::env::args().skip(1));
+    let settings = settings("bench", std::env::args().skip(1));
     println!("median nanoseconds, best of {} rounds", settings.rounds);
     println!(
         "{:<10} {:>6} {:>13} {:>11} {:>11} {:>9} {:>10} {:>10} {:>9} {:>10} {:>10}",

@@ -10,19 +10,6 @@ use model::report::{EVENT, LINE};
 use port::clock::{Clock, median};
 use port::settings::{fail, settings};
 
-const HELP: &str = "tools/turns OLD.a NEW.a [--class NAME] [--rounds N]
-
-Times answers and checks of two static libraries on the same inputs, in one process, one after the other in each round, the first to begin changing
-from round to round. Before a class is timed, both answer its inputs, and every byte and number is compared. Times are those that the program had a
-processor; of an input the best round counts.
-
-Columns: inputs of the class; the median of the inputs' ratios, new over old, of an answer and of a check; the lowest and the highest ratio of an
-answer; the median nanoseconds of an answer, old and new. Below 1 the new one is faster.
-
-  --class NAME   this class alone; may be given again
-  --rounds N     so many rounds, 15 if not given
-";
-
 /// The lister's buffers.
 const LENT: (usize, usize) = (64 * LINE, 4096 * EVENT);
 
@@ -191,7 +178,7 @@ fn main() {
     let mut words = std::env::args().skip(1).peekable();
     let mut file = || words.next_if(|word| !word.starts_with("--"));
     let files = [file(), file()];
-    let settings = settings("turns", HELP, words);
+    let settings = settings("turns", words);
     let [Some(old), Some(new)] = files else {
         fail("turns", "two libraries are wanted");
     };

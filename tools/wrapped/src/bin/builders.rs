@@ -1,11 +1,12 @@
 //! builders N SEED: N random plans by the builder, each accepted by the check and read back with the same records; a random case over
-//! each by the builder, which is not refused but for its worlds, and answered as the model does.
+//! each by the builder, which is not refused but for its worlds, and answered as the model does. Plan and case that are opened again and
+//! finished are the same bytes; with random things replaced and removed the plan is accepted.
 
 use std::time::Instant;
 
 use inputs::random::Random;
 use inputs::vectors::{Call, Op};
-use lukhveri::Plan;
+use lukhveri::{CaseBuilder, Plan, PlanBuilder};
 use wrapped::building::Maker;
 
 /// What was made.
@@ -23,6 +24,10 @@ fn try_case(maker: &mut Maker, plan: &Plan, tally: &mut Tally) -> Result<(), Str
         return Ok(());
     };
     tally.cases += 1;
+    let reopened = CaseBuilder::reopen(plan, case.bytes()).map_err(|error| error.to_string())?;
+    if reopened.finish().as_ref() != Ok(&case) {
+        return Err(format!("reopened otherwise: {plan:?} {case:?}"));
+    }
     let (plan, case) = (plan.bytes().to_vec(), case.bytes().to_vec());
     let (world, lines_len, events_len) = (0, lukhveri::LINES_LENGTH, lukhveri::EVENTS_LENGTH);
     let call = Call { op: Op::Answer, plan, case, world, lines_len, events_len };
@@ -46,8 +51,14 @@ fn try_one(random: &mut Random, tally: &mut Tally) -> Result<(), String> {
     if counts(&read) != counts(&plan) {
         return Err(format!("read back otherwise: {plan:?}"));
     }
+    let reopened = PlanBuilder::reopen(&read).finish().map_err(|error| error.to_string())?;
+    if reopened.bytes() != plan.bytes() {
+        return Err(format!("reopened otherwise: {plan:?}"));
+    }
     tally.longest = tally.longest.max(plan.bytes().len());
     try_case(&mut maker, &plan, tally)?;
+    let changed = maker.changed(&plan).map_err(|error| format!("not changed: {error}"))?;
+    lukhveri::check(changed.bytes()).map_err(|refusal| format!("{refusal}: {changed:?}"))?;
     tally.turned_away += maker.turned_away;
     Ok(())
 }

@@ -1,0 +1,119 @@
+//! Reads plans, cases and names from files, no further than they can be long.
+
+use std::fmt;
+use std::fs::File;
+use std::io::{ErrorKind, Read};
+use std::path::{Path, PathBuf};
+
+use crate::names::{NameFault, Names};
+
+/// Records of a plan that are not refused one by one take at most 10,564 bytes, and the record behind them is judged by 162 more: what follows
+/// changes neither an answer nor what is said of a refusal.
+pub const PLAN_LENGTH: usize = 10_564 + 162;
+
+/// The same of a case: 3,792 bytes and 37.
+pub const CASE_LENGTH: usize = 3_792 + 37;
+
+/// Bytes that a file of names may have.
+pub const NAMES_LENGTH: usize = 1 << 20;
+
+/// Why a file was not read.
+#[derive(Clone, Debug, PartialEq, Eq)]
+pub enum Fault {
+    Missing,
+    Folder,
+    /// A device, a pipe or a socket.
+    NotAFile,
+    /// What the operating system says.
+    Unreadable(String),
+    TooLong {
+        most: usize,
+    },
+    /// This line is no UTF-8 text.
+    NoText {
+        line: usize,
+    },
+    Name(NameFault),
+}
+
+/// A file that was not read, and why.
+#[derive(Clone, Debug, PartialEq, Eq)]
+pub struct FileFault {
+    pub path: PathBuf,
+    pub fault: Fault,
+}
+
+impl fmt::Display for Fault {
+    fn fmt(&self, to: &mut fmt::Formatter) -> fmt::Result {
+        match self {
+            Fault::Missing => write!(to, "there is no such file"),
+            Fault::Folder => write!(to, "this is a folder, not a file"),
+            Fault::NotAFile => write!(to, "this is a device, a pipe or a socket, not a file"),
+            Fault::Unreadable(why) => write!(to, "it cannot be read: {why}"),
+            Fault::TooLong { most } => write!(to, "it is longer than {most} bytes"),
+            Fault::NoText { line } => write!(to, "line {line} is no UTF-8 text"),
+            Fault::Name(fault) => write!(to, "{fault}"),
+        }
+    }
+}
+
+impl fmt::Display for FileFault {
+    fn fmt(&self, to: &mut fmt::Formatter) -> fmt::Result {
+        write!(to, "{}: {}", self.path.display(), self.fault)
+    }
+}
+
+impl std::error::Error for FileFault {}
+
+/// The bytes of a plan, as many as matter.
+pub fn read_plan(path: &Path) -> Result<Vec<u8>, FileFault> {
+    read(path, PLAN_LENGTH)
+}
+
+/// The bytes of a case, as many as matter.
+pub fn read_case(path: &Path) -> Result<Vec<u8>, FileFault> {
+    read(path, CASE_LENGTH)
+}
+
+/// The names of a file.
+pub fn read_names(path: &Path) -> Result<Names, FileFault> {
+    let fault = |fault| FileFault { path: path.to_path_buf(), fault };
+    let bytes = read(path, NAMES_LENGTH + 1)?;
+    if bytes.len() > NAMES_LENGTH {
+        return Err(fault(Fault::TooLong { most: NAMES_LENGTH }));
+    }
+    let text = std::str::from_utf8(&bytes).map_err(|error| {
+        let before = bytes.get(..error.valid_up_to()).unwrap_or(&[]);
+        let line = 1 + before.iter().filter(|byte| **byte == b'\n').count();
+        fault(Fault::NoText { line })
+    })?;
+    Names::read(text).map_err(|error| fault(Fault::Name(error)))
+}
+
+/// The names of a file; no names if there is no such file.
+pub fn read_names_if_any(path: &Path) -> Result<Names, FileFault> {
+    match read_names(path) {
+        Err(FileFault { fault: Fault::Missing, .. }) => Ok(Names::default()),
+        read => read,
+    }
+}
+
+/// The first bytes of a file, at most so many. Whether it is a file is asked before it is opened, since opening a pipe may wait for ever.
+pub fn read(path: &Path, most: usize) -> Result<Vec<u8>, FileFault> {
+    let fault = |fault| FileFault { path: path.to_path_buf(), fault };
+    let system = |error: std::io::Error| match error.kind() {
+        ErrorKind::NotFound => fault(Fault::Missing),
+        _ => fault(Fault::Unreadable(error.to_string())),
+    };
+    let kind = path.metadata().map_err(system)?.file_type();
+    if kind.is_dir() {
+        return Err(fault(Fault::Folder));
+    }
+    if !kind.is_file() {
+        return Err(fault(Fault::NotAFile));
+    }
+    let mut bytes = Vec::new();
+    let file = File::open(path).map_err(system)?;
+    file.take(most as u64).read_to_end(&mut bytes).map_err(system)?;
+    Ok(bytes)
+}
