@@ -148,3 +148,65 @@ fn damaged_cases() {
         }
     }
 }
+
+fn bytes(text: &str) -> Vec<u8> {
+    let pairs = text.as_bytes().chunks(2).map(|pair| std::str::from_utf8(pair).expect("digits"));
+    pairs.map(|pair| u8::from_str_radix(pair, 16).expect("a byte")).collect()
+}
+
+/// A folder with a plan and a case of hexadecimal digits.
+fn folder(name: &str, plan: &str, case: &str) -> Folder {
+    let folder = Folder::new(name);
+    folder.write("plan.bin", &bytes(plan));
+    folder.write("case.bin", &bytes(case));
+    folder
+}
+
+/// Persons 0 to 2 are one chain, 3 to 5 another, and 6 is joined to 5: nothing connects 6 with the first.
+#[test]
+fn no_stranger_is_named() {
+    let plan = "010101030101040f00010001040f01020001040f03040001040f04050001042f05060002";
+    let folder = folder("explain-strangers", plan, "017f0101017f00000000000000001000");
+    let said = on("explain", folder.path(), &["--person", "6"]);
+    assert_eq!(said.status, Some(0));
+    assert!(said.out.contains("Person 3, person 4 and person 5 hang together"), "{}", said.out);
+    for stranger in ["erson 0", "erson 1", "erson 2"] {
+        assert!(!said.out.contains(stranger), "{}", said.out);
+    }
+}
+
+/// Fact 0 is asked by an edge inside a pair that is fixed anyway.
+#[test]
+fn it_waits_for_what_decides() {
+    let plan = "01010102000200030101030200030201040f00010001042f00010102042f01020202";
+    let folder = folder("explain-waits", plan, "017f0101010700000000000000001000");
+    let said = on("explain", folder.path(), &[]);
+    assert_eq!(said.out.matches("It waits for fact 1 (not told).").count(), 3, "{}", said.out);
+    let idle = "Open as well, but changing nothing as things stand: fact 0 (not told).";
+    assert_eq!(said.out.matches(idle).count(), 3, "{}", said.out);
+    assert!(!said.out.contains("worlds"), "{}", said.out);
+}
+
+/// Whether Levan lives with Nino and Salome is the affair of these three: Maka, Dato and Tamar read the same, whatever he answers.
+#[test]
+fn a_stranger_answers() {
+    let paragraphs = |folder: &std::path::Path| -> Vec<String> {
+        let all = on("explain", folder, &[]).out;
+        all.split("\n\n").skip(3).map(|text| text.trim_end().to_string()).collect()
+    };
+    let open = paragraphs(&example("nursery"));
+    assert_eq!(open.len(), 3);
+    for value in [0, 1] {
+        let told = Folder::new(&format!("explain-answer-{value}"));
+        told.write("plan.bin", &example_file("nursery", "plan.bin"));
+        told.write("names.txt", &example_file("nursery", "names.txt"));
+        let case = example_file("nursery", "case.bin");
+        let before = case.strip_suffix(&[3, 3, 0, 3]).expect("fact 0 is said to be unknown");
+        told.write("case.bin", &[before, &[3, 5, 0, 1, value, 5]].concat());
+        assert_eq!(paragraphs(told.path()), open);
+        assert_ne!(
+            on("explain", told.path(), &[]).out,
+            on("explain", &example("nursery"), &[]).out
+        );
+    }
+}
