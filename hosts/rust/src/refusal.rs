@@ -246,13 +246,7 @@ impl Refusal {
     pub fn remedy(&self) -> &'static str {
         match self.reason {
             Reason::Malformed => "write this record anew, or make the file again from its source",
-            Reason::PastLimit => match self.at() {
-                Some((_, 1)) => "keep one heading",
-                Some((File::Plan, 5)) => {
-                    "leave out what is not needed, take some of the decisions, or split the roster"
-                }
-                _ => "leave out what is not needed, or split the roster",
-            },
+            Reason::PastLimit => self.too_many_remedy(),
             Reason::Incomplete => match self.place {
                 Some(Place { kind: None, .. }) => "write the file anew: it is empty",
                 _ => "give the record all required fields, and none that exclude each other",
@@ -285,6 +279,16 @@ impl Refusal {
                 "ask for a world below the count of worlds; where there are none, confirm the roster or correct what contradicts the constraints"
             }
             Reason::Other(_) => "use a program that fits the library",
+        }
+    }
+
+    fn too_many_remedy(&self) -> &'static str {
+        match self.at() {
+            Some((_, 1)) => "keep one heading",
+            Some((File::Plan, 5)) => {
+                "leave out what is not needed, take some of the decisions, or split the roster"
+            }
+            _ => "leave out what is not needed, or split the roster",
         }
     }
 }

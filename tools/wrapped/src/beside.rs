@@ -123,19 +123,7 @@ type Key = (bool, usize, Option<(u8, Vec<u8>)>);
 /// Both in one, if there are few enough persons. Heading and chain are the first one's.
 pub fn beside(first: &Input, second: &Input) -> Option<Input> {
     let inputs = [first, second];
-    let (mut next, mut maps) = (0u8, Vec::new());
-    for input in inputs {
-        let named = persons(input);
-        let mut map = vec![0; 64];
-        for person in (0..64).filter(|person| named >> person & 1 == 1) {
-            map[person] = next;
-            next += 1;
-        }
-        maps.push(map);
-    }
-    if next > 64 {
-        return None;
-    }
+    let maps = renumbered(inputs)?;
     let keys: Vec<Vec<Key>> = inputs
         .iter()
         .zip(&maps)
@@ -162,6 +150,21 @@ pub fn beside(first: &Input, second: &Input) -> Option<Input> {
         into.add_case(&input.case, &mut whole.case);
     }
     Some(whole)
+}
+
+/// For each of the two, the numbers that its persons get; none if they are more than 64 together.
+fn renumbered(inputs: [&Input; 2]) -> Option<Vec<Vec<u8>>> {
+    let (mut next, mut maps) = (0u8, Vec::new());
+    for input in inputs {
+        let named = persons(input);
+        let mut map = vec![0; 64];
+        for person in (0..64).filter(|person| named >> person & 1 == 1) {
+            map[person] = next;
+            next += 1;
+        }
+        maps.push(map);
+    }
+    (next <= 64).then_some(maps)
 }
 
 fn keys(which: usize, input: &Input, map: &[u8]) -> Vec<Key> {

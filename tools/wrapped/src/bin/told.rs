@@ -125,32 +125,35 @@ fn case(random: &mut Random, done: &mut u64) -> Result<(), String> {
     let worlds = shown(&plan, &case, answer.worlds);
     let whole =
         Whole { input: &input, worlds: &worlds, values: all_values(&plan, &case, &answer)? };
-    let names = Default::default();
     for near in Near::all(&plan, &case).map_err(|error| error.to_string())? {
-        for line in near.lines() {
-            let found = near.outcome(line.person).ok_or("no outcome")?;
-            if found.possible.iter().copied().collect::<BTreeSet<View>>()
-                != possible(&worlds, line.person)
-            {
-                return Err(format!("person {}: other things are possible", line.person));
-            }
-            whole.outcome(line, &found)?;
-            if matches!(line.kind, LineKind::Overlap | LineKind::Discretion) {
-                let marks = near.marks(line.person, line.kind);
-                whole.marks(line.person, line.kind, &marks)?;
-                if marks.is_empty() {
-                    return Err(format!("person {}: nothing marks the person", line.person));
-                }
-            }
-            let paragraph = words::paragraph(&near, &names, line.person).ok_or("no paragraph")?;
-            for text in &paragraph.sentences {
-                sentence(text, &answer)?;
-                stopped(text, &input.plan, &answer)?;
-                claims::sentence(&input, &worlds, line.person, text)?;
-                if text.contains("but nothing") {
-                    return Err(format!("without a reason: {text}"));
-                }
-            }
+        near.lines().iter().try_for_each(|line| person(&whole, &answer, &near, line))?;
+    }
+    Ok(())
+}
+
+/// All that is said of a person.
+fn person(whole: &Whole, answer: &Answer, near: &Near, line: &Line) -> Result<(), String> {
+    let found = near.outcome(line.person).ok_or("no outcome")?;
+    let possible = possible(whole.worlds, line.person);
+    if found.possible.iter().copied().collect::<BTreeSet<View>>() != possible {
+        return Err(format!("person {}: other things are possible", line.person));
+    }
+    whole.outcome(line, &found)?;
+    if matches!(line.kind, LineKind::Overlap | LineKind::Discretion) {
+        let marks = near.marks(line.person, line.kind);
+        whole.marks(line.person, line.kind, &marks)?;
+        if marks.is_empty() {
+            return Err(format!("person {}: nothing marks the person", line.person));
+        }
+    }
+    let names = Default::default();
+    let paragraph = words::paragraph(near, &names, line.person).ok_or("no paragraph")?;
+    for text in &paragraph.sentences {
+        sentence(text, answer)?;
+        stopped(text, &whole.input.plan, answer)?;
+        claims::sentence(whole.input, whole.worlds, line.person, text)?;
+        if text.contains("but nothing") {
+            return Err(format!("without a reason: {text}"));
         }
     }
     Ok(())
