@@ -1,8 +1,8 @@
 //! All that may be said to one family: plan and case as far as they belong to one circle.
 //!
 //! In the plan of a [`Near`] the facts that do not touch the circle are false and the decisions of others are settled; its case says nothing
-//! of them. Plan, heading and constraints are kept, so a line of the circle is the line of the whole case, which demand 3 promises; and
-//! whatever is made of a `Near` alone cannot show what a case says of strangers.
+//! of them. Rules, heading and constraints are kept. Whatever is made of a `Near` alone cannot show what a case says of strangers. Its lines are
+//! those of the whole case, as demand 3 leads one to expect; they are compared, and there is no `Near` where they differ.
 
 mod carried;
 mod choices;
