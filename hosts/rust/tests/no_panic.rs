@@ -1,9 +1,11 @@
 //! No input makes anything panic: random bytes, and good bytes that were damaged.
 
 use lukhveri::names::Names;
+use lukhveri::near::{NearError, values};
+use lukhveri::words;
 use lukhveri::{
     Buffers, CaseBuilder, CaseRecords, Citation, Cut, Decision, Edge, Event, Family, Frame, Line,
-    Paper, Persons, Plan, PlanBuilder, Reason, Refusal, answer_into, check, circle, list,
+    Paper, Persons, Plan, PlanBuilder, Reason, Refusal, answer, answer_into, check, circle, list,
     show_into,
 };
 
@@ -101,11 +103,26 @@ fn accepted(plan: &Plan, case: &[u8], random: &mut Random) {
         Ok(reopened) => assert!(reopened.finish().is_ok()),
         Err(error) => assert!(error.to_string().len() > 5),
     }
+    told(plan, case);
     let person = random.byte();
     assert_eq!(builder.remove_person(person).is_ok(), person < 64);
     builder.remove_unused();
     let left = builder.finish().expect("with less in it, too");
     assert_eq!(check(left.bytes()), Ok(()));
+}
+
+/// A paragraph for each line of an answer, or the refusal; the values of worlds, whatever the case says.
+fn told(plan: &Plan, case: &[u8]) {
+    match (words::explain(plan.bytes(), case, &Names::default()), answer(plan.bytes(), case)) {
+        (Ok(paragraphs), Ok(answer)) => {
+            assert!(paragraphs.iter().map(|told| told.line).eq(answer.lines));
+        }
+        (Err(NearError::Refused(no)), Err(refusal)) => assert_eq!(no, refusal),
+        (told, _) => panic!("{told:?}"),
+    }
+    if let Some(records) = CaseRecords::read(case) {
+        values(plan, &records, 3);
+    }
 }
 
 fn all_calls(plan: &[u8], case: &[u8], random: &mut Random, buffers: &mut Buffers) {
