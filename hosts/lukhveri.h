@@ -4,12 +4,13 @@
  * target/staticlib/libexports.a, which `rt staticlib exports` makes (x86-64, C calling convention; of the C library it needs memcpy and memset).
  *
  * Rules of use
- *   - Any bytes may be given as plan and case, and buffers of any length and content may be lent: nothing is asked of the caller but that each
- *     pointer reaches as many bytes as its length says. A pointer is never null, also where its length is 0.
- *   - Buffers that are written (lines, events, text, told) overlap no other buffer of the call. Plan and case are only read.
+ *   - Any bytes may be given as plan and case, any numbers as amounts, and buffers of any length and content may be lent: nothing is asked of the
+ *     caller but that each pointer reaches as many bytes, or amounts, as its length says. A pointer is never null, also where its length is 0.
+ *   - Buffers that are written (lines, events, text, told, and the units of lukhveri_pool) overlap no other buffer of the call. Plan, case and
+ *     amounts are only read.
  *   - Nothing is allocated and nothing is kept between calls: no state, no pointer. Calls from several threads are independent.
- *   - A function that takes told returns the refusal's number, 0 for none, which is also told[LUKHVERI_TOLD_REFUSAL]; all seven numbers of told
- *     are written. The other two, lukhveri_list and lukhveri_circle, say themselves what they return.
+ *   - A function that takes told returns the refusal's number, 0 for none, which is also told[LUKHVERI_TOLD_REFUSAL]; all numbers of told are
+ *     written. The other two, lukhveri_list and lukhveri_circle, say themselves what they return.
  *   - After a refusal the buffers of lines and events are zero from end to end. After a result the lines and events stand at their start, one
  *     after another, and every byte past them is zero.
  *   - A call works on the stack of its thread, which has to be large enough: see LUKHVERI_STACK.
@@ -89,6 +90,7 @@ extern "C" {
 #define LUKHVERI_LINES_DO_NOT_FIT 12    /* 29 bytes for each person of the roster */
 #define LUKHVERI_EVENTS_DO_NOT_FIT 13   /* 12 bytes for each event */
 #define LUKHVERI_NO_SUCH_WORLD 14       /* also where the roster is not complete or no world is admissible */
+#define LUKHVERI_AMOUNTS_DO_NOT_FIT 15  /* the list of amounts is not as long as the roster */
 
 /* The seven numbers that a call tells. Count and maximum are those of refusal 11, else 0; the last three are 0 after a refusal. */
 #define LUKHVERI_TOLD 7
@@ -99,6 +101,14 @@ extern "C" {
 #define LUKHVERI_TOLD_LINES 4
 #define LUKHVERI_TOLD_EVENTS 5
 #define LUKHVERI_TOLD_WORLDS 6 /* admissible worlds of the case */
+
+/* The nine numbers that lukhveri_pool tells: those seven, and two more, which are 0 after a refusal. */
+#define LUKHVERI_POOL_TOLD 9
+#define LUKHVERI_TOLD_UNITS 7
+#define LUKHVERI_TOLD_UNPLACED 8 /* cents */
+
+/* Entries of each array of units. Nobody is in two units, so that there are no more. */
+#define LUKHVERI_UNITS 64
 
 /* The most worlds that a case's heading can allow. */
 #define LUKHVERI_WORLDS 4096
@@ -131,6 +141,17 @@ uint8_t lukhveri_answer(const uint8_t *plan, size_t plan_length, const uint8_t *
 /* Shows the world of that number, counted from 0 among the admissible ones. Its lines have open fields of zero; events are its own. */
 uint8_t lukhveri_show(const uint8_t *plan, size_t plan_length, const uint8_t *case_bytes, size_t case_length, uint64_t world,
                       uint8_t *lines, size_t lines_length, uint8_t *events, size_t events_length, uint64_t told[LUKHVERI_TOLD]);
+
+/* Answers a case and pools amounts by unit: cents, one amount for each person of the roster, in rising order. A unit's pool is the sum over its
+ * persons of kind LUKHVERI_DECIDED whose role is not LUKHVERI_EXCLUDED; told[LUKHVERI_TOLD_UNPLACED] is the sum over everyone else, and all
+ * together is the sum of the list. Unit i, in order of the units' lowest persons, has the mask blocks[i] and the pool pools[i]; open[i] is 1 if
+ * somebody in it has kind LUKHVERI_ROLE_OPEN, whose amount is unplaced, so that the pool is not final, else 0. Entries past the count of units
+ * are 0. Lines and events are those of lukhveri_answer, and so are the refusals; after them comes LUKHVERI_AMOUNTS_DO_NOT_FIT. After a refusal
+ * the three arrays are 0. */
+uint8_t lukhveri_pool(const uint8_t *plan, size_t plan_length, const uint8_t *case_bytes, size_t case_length, const uint32_t *amounts,
+                      size_t amount_count, uint8_t *lines, size_t lines_length, uint8_t *events, size_t events_length,
+                      uint64_t blocks[LUKHVERI_UNITS], uint64_t pools[LUKHVERI_UNITS], uint8_t open[LUKHVERI_UNITS],
+                      uint64_t told[LUKHVERI_POOL_TOLD]);
 
 /* Writes what the lister prints of a plan and a case to the start of text, in ASCII, without a zero at its end, and returns how many bytes it
  * wrote: a heading, a row for each line and the count of units; or a single row, which begins with "refused", with the refusal's number and

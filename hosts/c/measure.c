@@ -1,5 +1,5 @@
-/* measure: how long an answer with many events of kind 9 takes, and how much stack the calls use that answer it, list it and find a circle, for
- * what lukhveri.h says of time and stack.
+/* measure: how long an answer with many events of kind 9 takes, and how much stack the calls use that answer it, list it, pool amounts and find a
+ * circle, for what lukhveri.h says of time and stack.
  *
  * The plan has stars of Base edges: two arms that are always there, twelve that come and go with twelve open facts. So there are 4,096 worlds, in each
  * of which each star is another component that is left to discretion. */
@@ -16,7 +16,9 @@ enum { FACTS = 12, STAR = FACTS + 3, MOST_STARS = 4, MOST_EVENTS = MOST_STARS * 
 
 static uint8_t plan[4096], roster_case[16], lines[LUKHVERI_LINES_LENGTH], events[MOST_EVENTS * LUKHVERI_EVENT], text[LUKHVERI_TEXT_LENGTH];
 static size_t plan_length;
-static uint64_t told[LUKHVERI_TOLD];
+static uint64_t told[LUKHVERI_TOLD], pool_told[LUKHVERI_POOL_TOLD], blocks[LUKHVERI_UNITS], pools[LUKHVERI_UNITS];
+static uint32_t amounts[LUKHVERI_PERSONS];
+static uint8_t open[LUKHVERI_UNITS];
 static size_t listed;
 static uint64_t circle;
 static double best;
@@ -71,6 +73,8 @@ static void *call(void *nothing) {
         if (taken < best) best = taken;
     }
     listed = lukhveri_list(plan, plan_length, roster_case, sizeof roster_case, lines, sizeof lines, events, sizeof events, text, sizeof text);
+    lukhveri_pool(plan, plan_length, roster_case, sizeof roster_case, amounts, told[LUKHVERI_TOLD_LINES], lines, sizeof lines, events,
+                  sizeof events, blocks, pools, open, pool_told);
     circle = lukhveri_circle(plan, plan_length, roster_case, sizeof roster_case, 0);
     return nothing;
 }
@@ -88,7 +92,7 @@ static int measure(uint8_t stars, uint8_t *stack) {
     while (untouched < STACK && stack[untouched] == PAINT) untouched++;
     printf("%6d %8d %8d %10.2f %8d\n", (int)told[LUKHVERI_TOLD_REFUSAL], (int)told[LUKHVERI_TOLD_WORLDS], (int)told[LUKHVERI_TOLD_EVENTS],
            best * 1e3, (int)(top - (uintptr_t)(stack + untouched)));
-    return told[LUKHVERI_TOLD_REFUSAL] == 0 && listed > 0 && circle != 0;
+    return told[LUKHVERI_TOLD_REFUSAL] == 0 && pool_told[LUKHVERI_TOLD_REFUSAL] == 0 && listed > 0 && circle != 0;
 }
 
 int main(void) {

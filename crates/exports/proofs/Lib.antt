@@ -1,2 +1,3 @@
 pub mod HandLaws
+pub mod PoolLaws
 pub mod CircleLaws

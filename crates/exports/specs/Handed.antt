@@ -1,7 +1,11 @@
 -- What an operation hands to a host: a result, document 01's numbers in a list, the bytes of both lent buffers.
-use mathlib.Core.List.{List, [], _∷_}
+use mathlib.Core.List.{List, [], _∷_, _++_, map}
 use Prim.Native.Nat.{ℕ}
+use lib.ListN.{length}
+use Rattle.sets.specs.paper.Sets.{only}
 use Rattle.report.specs.paper.Operations.{Told, told, Outcome}
+use Rattle.billing.specs.paper.Pooling.{PoolOutcome}
+use Rattle.billing.specs.Shown.{padded}
 
 unfoldable pub numbers : Told → List ℕ
 numbers t = t .refusal ∷ t .«record» ∷ t .count ∷ t .maximum ∷ t .lines ∷ t .events ∷ t .worlds ∷ []
@@ -15,3 +19,24 @@ pub record Handed : Type 0 where
 
 abbrev pub handed : Outcome → Handed
 handed o = record { result = told (o .answer) .refusal; told = numbers (told (o .answer)); lines = o .lines; events = o .events }
+
+-- behind the numbers the count of units and the unplaced sum; beside the buffers, of each unit its block, its pool and 1 where it is marked, else 0
+pub record HandedPools : Type 0 where
+  pub result : ℕ
+  pub told : List ℕ
+  pub lines : List ℕ
+  pub events : List ℕ
+  pub blocks : List ℕ
+  pub pools : List ℕ
+  pub marks : List ℕ
+
+abbrev pub handedPools : PoolOutcome → HandedPools
+handedPools p = record {
+  result = told (p .outcome .answer) .refusal;
+  told = numbers (told (p .outcome .answer)) ++ (length (p .units) ∷ p .unplaced ∷ []);
+  lines = p .outcome .lines;
+  events = p .outcome .events;
+  blocks = padded 0 (map (λ u. u .block) (p .units));
+  pools = padded 0 (map (λ u. u .cents) (p .units));
+  marks = padded 0 (map (λ u. only (u .marked) 1) (p .units));
+}

@@ -1,9 +1,13 @@
-// What a host links: the operations, the lister's work and a person's circle, under C names.
+// What a host links: the operations, pools, the lister's work and a person's circle, under C names.
 mod circle;
+mod pools;
 mod tell;
 
 use circle::circle_in;
 use listing::list::list;
+use pooling::pool;
+use pools::mark_bytes;
+use pools::tell_pools;
 use report::operations::answer;
 use report::operations::check;
 use report::operations::show;
@@ -12,7 +16,8 @@ ghost use mathlib.Core.Path.{_≡_};
 ghost use lib.ListN.{length};
 ghost use Rattle.report.specs.paper.Operations.{told as toldOf, check as checkOf, answer as answerOf, show as showOf};
 ghost use Rattle.listing.specs.Shown.{Listed};
-ghost use Rattle.exports.specs.Handed.{numbers, handed};
+ghost use Rattle.billing.specs.paper.Pooling.{pool as poolOver};
+ghost use Rattle.exports.specs.Handed.{numbers, handed, handedPools};
 ghost use Rattle.exports.specs.Circled.{circleIn};
 
 // Check a plan: the refusal's number, 0 for none. The seven numbers of document 01 go behind the reference.
@@ -53,6 +58,34 @@ pub extern "C" fn lukhveri_show(
 {
     let answer = show(plan, case, world, lines, events);
     tell(answer, told)
+}
+
+// Pool amounts, in cents, one for each roster person in rising order. Lines and events are those of the answer; each array has an entry a unit, then zeros,
+// and a mark is 1 or 0. Behind the seven numbers stand the count of units and the unplaced sum.
+#[no_mangle]
+pub extern "C" fn lukhveri_pool(
+    plan: &[u8],
+    case: &[u8],
+    amounts: &[u32],
+    lines: &mut [u8],
+    events: &mut [u8],
+    blocks: &mut [u64; 64],
+    pools: &mut [u64; 64],
+    marks: &mut [u8; 64],
+    told: &mut [u64; 9],
+) -> u8
+    ensures { λ r. ⌜ record { result = r; told = now (told .exit); lines = now (lines .exit); events = now (events .exit); blocks = now (blocks .exit); pools = now (pools .exit); marks = now (marks .exit) } ≡ handedPools (poolOver (now (plan .entry)) (now (case .entry)) (now (amounts .entry)) (length (now (lines .entry))) (length (now (events .entry)))) ⌝ }
+{
+    let found = pool(plan, case, amounts, lines, events);
+    let answer = found.answer;
+    let units = found.pools;
+    let masks = units.blocks;
+    let cents = units.cents;
+    let flags = units.marks;
+    *blocks = masks;
+    *pools = cents;
+    *marks = mark_bytes(flags);
+    tell_pools(answer, units.count, units.unplaced, told)
 }
 
 // What the lister prints of a plan and a case, at the start of `text`: its length. Lines and events are those of the answer.

@@ -6,6 +6,5 @@ pub mod PageLaws
 pub mod DecimalLaws
 pub mod Short
 pub mod PersonLaws
-pub mod UnitLaws
 pub mod RowLaws
 pub mod ListedLaws

@@ -1,21 +1,15 @@
--- How many lines an answer has, and what is listed of it.
+-- What is listed of an answer.
 use mathlib.Core.Path.{_≡_, refl, sym, ap, _∙_, subst}
-use mathlib.Core.Bool.{Bool, true, false, cond}
-use mathlib.Core.List.{List, [], _∷_, map, flatMap}
-use Prim.Native.Nat.{ℕ, zero, suc, _*_, _-_, _/_, _%_, _≤_}
+use mathlib.Core.List.{List}
+use Prim.Native.Nat.{ℕ, zero, suc, _*_, _≤_}
 use native.Mathlib.Omega.{arith}
-use lib.ListN.{length, length-append, length-map, replicate}
+use lib.ListN.{length}
 use lib.Seq.{length-take-le}
-use lib.Dec.{ltb}
-use Rattle.sets.specs.paper.Sets.{members, membersFrom, when}
-use Rattle.report.specs.paper.Line.{Line, lineBytes, bareLine, lineLength}
+use Rattle.report.specs.paper.Line.{lineLength}
 use Rattle.report.specs.paper.LineAt.{linesFrom}
-use Rattle.report.specs.paper.EventList.{eventLength}
 use Rattle.report.specs.declared.Answer.{Answer}
-use Rattle.report.specs.declared.Answer.the-variants.{Accepted, Answered, Refused, TooManyWorlds}
-use Rattle.report.specs.paper.Operations.{told, Opened, stopped, incomplete, ready, opened, Outcome, filled, refusal, written, linesOver, answerReady, answerOpened, answer}
-use Rattle.report.proofs.LinesAt.{run, line-length}
-use Rattle.report.proofs.OpenedLaws.{OnOpened, opened-law}
+use Rattle.report.specs.paper.Operations.{told, Outcome, answer}
+use Rattle.report.proofs.FewLines.{lines-few}
 use Rattle.listing.specs.Text.{table, refusedRow}
 use Rattle.listing.specs.Page.{Page, puts, begun}
 use Rattle.listing.specs.Listing.{longest, textOf, outcomeText, listing}
@@ -23,72 +17,11 @@ use Rattle.listing.specs.Shown.{TellsAnswer, Listed}
 use Rattle.listing.specs.declared.list.Told.{Told}
 use Rattle.listing.proofs.PageLaws.{puts-begun, begun-inside}
 
--- ---- no more lines than persons, and than the buffer holds
-
-members-few : (k p m : ℕ) → length (membersFrom k p m) ≤ k
-unfolding membersFrom
-members-few zero p m = omega arith
-members-few (suc k) p m = pick (m % 2) (members-few k (suc p) (m / 2))
-  where
-    pick : (d : ℕ) → length (membersFrom k (suc p) (m / 2)) ≤ k → length (when d p (membersFrom k (suc p) (m / 2))) ≤ suc k
-    pick zero h = omega arith
-    pick (suc d) h = omega arith
-
-run-length : (ls : List Line) → length (run ls) ≡ lineLength * length ls
-unfolding flatMap
-run-length [] = refl
-run-length (l ∷ ls) = length-append (lineBytes l) (run ls) ∙ (let a = line-length l in let b = run-length ls in omega arith)
-
-zeros-length : (n : ℕ) → length {A = ℕ} (replicate n 0) ≡ n
-zeros-length zero = refl
-zeros-length (suc n) = ap suc (zeros-length n)
-
--- of an outcome whose buffer of lines is as long as the one lent
-abbrev Few : ℕ → Outcome → Type 0
-Few l o = length (o .lines) ≡ l → (told (o .answer) .lines ≤ 64) × (lineLength * told (o .answer) .lines ≤ l)
-
-written-few : (l e roster : ℕ) (line : ℕ → Line) (es : List (List ℕ)) (n : ℕ) → Few l (written l e (map line (members roster)) es n)
-unfolding written members
-written-few l e roster line es n = pick (ltb e (eventLength * length es))
-  where
-    ls : List Line
-    ls = map line (members roster)
-
-    pick : (b : Bool) → Few l (cond b (refusal l e (Refused 13 0)) (record { answer = Answered (length ls) (length es) n; lines = filled l (map lineBytes ls); events = filled e es }))
-    pick true h = (omega arith, omega arith)
-    pick false h =
-        let a = length-append (run ls) (replicate (l - length (run ls)) 0) in
-        let b = zeros-length (l - length (run ls)) in
-        let c = run-length ls in
-        let d = length-map (members roster) line in
-        let f = members-few 64 0 roster in
-        (omega arith, omega arith)
-
-refused-few : (l e : ℕ) (a : Answer) → (told a .refusal ≡ 0 → ⊥) → Few l (refusal l e a)
-refused-few l e Accepted n h = absurd (n refl)
-refused-few l e (Answered x y z) n h = absurd (n refl)
-refused-few l e (Refused x y) n h = (omega arith, omega arith)
-refused-few l e (TooManyWorlds x y) n h = (omega arith, omega arith)
-
-answered-few : (plan case : List ℕ) (l e : ℕ) → Few l (answer plan case l e)
-unfolding answer answerReady linesOver
-answered-few plan case l e = over (opened plan case l) (opened-law plan case l)
-  where
-    over : (o : Opened) → OnOpened plan case l o → Few l (answerOpened l e o)
-    over (stopped a) h = refused-few l e a h
-    over (incomplete roster) h = written-few l e roster (bareLine 5) [] 0
-    over (ready P C bs) h = written-few l e _ _ _ _
-
--- ---- what is listed
-
 module _ (plan case lines₀ events₀ lines₁ events₁ : List ℕ) (a : Answer)
     (answered : _≡_ {A = Outcome} (record { answer = a; lines = lines₁; events = events₁ }) (answer plan case (length lines₀) (length events₀)))
     (t : Told) (tells : TellsAnswer (told a) t) where
-  pub lines-few : length lines₁ ≡ length lines₀ → (t .lines ≤ 64) × (lineLength * t .lines ≤ length lines₁)
-  lines-few h =
-      let few = answered-few plan case (length lines₀) (length events₀) (ap (λ (o : Outcome). length (o .lines)) (sym answered) ∙ h) in
-      let same = tells .lines ∙ ap (λ (o : Outcome). told (o .answer) .lines) answered in
-      (omega (arith, few .0), omega (arith, few .1))
+  pub told-few : length lines₁ ≡ length lines₀ → (t .lines ≤ 64) × (lineLength * t .lines ≤ length lines₁)
+  told-few h = let few = lines-few plan case (length lines₀) (length events₀) a lines₁ events₁ answered h in (omega (arith, few .0, tells .lines), omega (arith, few .1, tells .lines))
 
   text-is : listing plan case (length lines₀) (length events₀) ≡ textOf (told a) lines₁
   unfolding listing

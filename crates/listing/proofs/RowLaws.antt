@@ -2,20 +2,17 @@
 use mathlib.Core.Path.{_≡_, sym, ap, ap₂, _∙_}
 use mathlib.Core.List.{List}
 use Prim.Native.Nat.{ℕ, _+_, _-_, _≤_, _<_}
-use native.Mathlib.Omega.{arith}
 use lib.ListN.{length}
-use lib.Seq.{length-take-le}
 use Rattle.sets.specs.paper.Sets.{members}
 use Rattle.report.specs.paper.Line.{Line}
 use Rattle.report.specs.paper.LineAt.{lineAt, decoded, linesFrom}
 use Rattle.report.specs.paper.Units.{units}
 use Rattle.listing.specs.Text.{feed, space, decimal, persons, cell, row, rowOf, rows, header, unitsWord, lastRow, table, refusedWord, refusedRow}
 use Rattle.listing.specs.Page.{Page, putByte, puts}
-use Rattle.listing.specs.Shown.{Shows, IsUnits}
-use Rattle.listing.specs.declared.fields.Fields.{Fields}
-use Rattle.listing.specs.declared.units.Units.{Units}
+use Rattle.billing.specs.Shown.{Shows}
+use Rattle.billing.specs.declared.fields.Fields.{Fields}
 use Rattle.listing.proofs.PageLaws.{puts-append, put-last, puts-then}
-use Rattle.listing.proofs.UnitLaws.{lines-next, lines-none}
+use Rattle.billing.proofs.UnitLaws.{lines-next, lines-none}
 
 pub cell-put : (p q r : Page) (m n : ℕ) → m ≡ n → q ≡ puts p (decimal m) → r ≡ putByte q space → r ≡ puts p (cell n)
 unfolding cell
@@ -32,9 +29,6 @@ last-put p a b c n us i e f g = puts-then p a c unitsWord _ e (put-last a b c (d
 pub table-put : (p a b c : Page) (ls : List Line) → a ≡ puts p header → b ≡ puts a (rows ls) → c ≡ puts b (lastRow (units ls)) → c ≡ puts p (table ls)
 unfolding table
 table-put p a b c ls e f g = puts-then p a c header _ e (puts-then a b c (rows ls) _ f g)
-
-pub units-count : (us : List ℕ) (r : Units) → IsUnits us r → r .count ≡ length us
-units-count us r h = sym (length-take-le (r .count) (r .blocks) (let l = h .long in let f = h .few in omega arith)) ∙ ap length (h .blocks)
 
 -- the fields of a row one after another
 pub row-put : (p a b c d e : Page) (person kind role block : ℕ) → a ≡ puts p (cell person) → b ≡ puts a (cell kind) → c ≡ puts b (cell role)

@@ -1,5 +1,5 @@
 -- No text of the lister is longer than `longest`, whatever numbers of their width it shows.
-use mathlib.Core.Path.{_≡_, refl, sym, ap, _∙_, subst}
+use mathlib.Core.Path.{sym, _∙_, subst}
 use mathlib.Core.Bool.{Bool, true, false, _||_, cond}
 use mathlib.Core.List.{List, [], _∷_, _++_}
 use Prim.Native.Nat.{ℕ, zero, suc, _+_, _*_, _/_, _%_, _^_, _≤_, _<_}
@@ -12,6 +12,7 @@ use Rattle.sets.specs.paper.Sets.{members, membersFrom, when, anyOf}
 use Rattle.report.specs.paper.Line.{Line, lineLength}
 use Rattle.report.specs.paper.LineAt.{lineAt, decoded, linesFrom}
 use Rattle.report.specs.paper.Units.{joinUnit, unitsWith, units}
+use Rattle.billing.proofs.LinePlaces.{lines-count}
 use Rattle.listing.specs.Text.{decimal, further, persons, cell, row, rowOf, rows, lastRow, table, refusedRow}
 use Rattle.listing.specs.Listing.{longest}
 use Rattle.listing.proofs.DecimalLaws.{digits-more, two-digits, three-digits}
@@ -89,17 +90,12 @@ unfolding unitsWith
 units-few us [] = omega arith
 units-few us (l ∷ ls) = let j = join-few us (l .block) in let r = units-few (joinUnit us (l .block)) ls in omega arith
 
-lines-count : (s : List ℕ) (n k : ℕ) → length (linesFrom s k n) ≡ n
-unfolding linesFrom
-lines-count s zero k = refl
-lines-count s (suc n) k = ap suc (lines-count s n (suc k))
-
 pub table-short : (s : List ℕ) → ((i : ℕ) → getD s i 0 < 256) → (n : ℕ) → n ≤ 64 → length (table (linesFrom s 0 n)) ≤ longest
 unfolding table lastRow units
 table-short s h n l =
     let r = rows-short s h n 0 in
     let u = units-few [] (linesFrom s 0 n) in
-    let c = lines-count s n 0 in
+    let c = lines-count s 0 n in
     let d = two-digits (length (unitsWith [] (linesFrom s 0 n))) (omega arith) in
     simp length-append (omega arith)
 

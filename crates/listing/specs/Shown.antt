@@ -3,24 +3,10 @@ use mathlib.Core.Path.{_≡_}
 use mathlib.Core.List.{List}
 use Prim.Native.Nat.{ℕ, _≤_}
 use lib.ListN.{length, take}
-use Rattle.report.specs.paper.Line as paper
 use Rattle.report.specs.paper.Operations as operations
 use Rattle.listing.specs.Page.{Page, begun}
 use Rattle.listing.specs.Listing.{longest, listing}
-use Rattle.listing.specs.declared.fields.Fields.{Fields}
-use Rattle.listing.specs.declared.units.Units.{Units}
 use Rattle.listing.specs.declared.list.Told.{Told}
-
-pub record Shows (l : paper.Line) (r : Fields) : Type 0 where
-  pub person : r .person ≡ l .person
-  pub kind : r .kind ≡ l .kind
-  pub role : r .role ≡ l .role
-  pub block : r .block ≡ l .block
-
-pub record IsUnits (us : List ℕ) (r : Units) : Type 0 where
-  pub blocks : take (r .count) (r .blocks) ≡ us
-  pub few : r .count ≤ 64
-  pub long : length (r .blocks) ≡ 64
 
 pub record TellsAnswer (t : operations.Told) (r : Told) : Type 0 where
   pub refusal : r .refusal ≡ t .refusal

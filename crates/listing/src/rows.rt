@@ -1,9 +1,9 @@
 // The rows of the table, and the row of a refusal.
-use crate::fields::Fields;
-use crate::fields::fields_at;
 use crate::page::put;
 use crate::page::put_all;
 use crate::page::put_number;
+use billing::fields::Fields;
+use billing::fields::fields_at;
 use sets::low;
 use sets::numbers::wide;
 use sets::others;

@@ -9,9 +9,13 @@ pub mod LinePrivate
 pub mod Privacy
 pub mod Places
 pub mod Blocks
+pub mod OneKind
 pub mod OpenLines
 pub mod OneRecord
 pub mod Known
 pub mod Sanity
 pub mod Needed
 pub mod Unlisted
+pub mod PooledLines
+pub mod PoolRefusals
+pub mod PooledAnswers

@@ -54,18 +54,23 @@ first-most (v ∷ vs) h = pick (eqb (v .kind) 0) (first-most vs (h .1))
 
 module _ (I : Influence) (p : ℕ) where
   by-range : (stands roles : Bool) (v : View) (k c : ℕ) → SeenRange v → k ≤ 4
-      → (lineBy I p stands roles v k c .kind ≤ 6) × (lineBy I p stands roles v k c .role ≤ 3)
+      → (lineBy I p stands roles v k c .kind ≤ 4) × (lineBy I p stands roles v k c .role ≤ 3)
   by-range true true v k c h l = (zero-le, h .role)
   by-range true false v k c h l = (omega arith, zero-le)
   by-range false roles v k c h l = (pick (eqb k 0), zero-le)
     where
-      pick : (b : Bool) → cond b 1 k ≤ 6
+      pick : (b : Bool) → cond b 1 k ≤ 4
       pick true = omega arith
       pick false = omega arith
+
+  -- with a world no kind is 5 or 6
+  pub some-range : (v : View) (vs : List View) → All SeenRange (v ∷ vs) → (lineOver I p (v ∷ vs) .kind ≤ 4) × (lineOver I p (v ∷ vs) .role ≤ 3)
+  unfolding lineOver
+  some-range v vs h =
+      by-range (not (eqb (v .block) 0) && allOf (λ u. eqb (u .block) (v .block)) vs) (allOf (λ u. eqb (u .role) (v .role)) vs) v (firstKind (v ∷ vs))
+      (unionOf (λ u. u .citations) (v ∷ vs)) (h .0) (first-most (v ∷ vs) h)
 
   pub over-range : (vs : List View) → All SeenRange vs → (lineOver I p vs .kind ≤ 6) × (lineOver I p vs .role ≤ 3)
   unfolding lineOver
   over-range [] h = (omega arith, zero-le)
-  over-range (v ∷ vs) h =
-      by-range (not (eqb (v .block) 0) && allOf (λ u. eqb (u .block) (v .block)) vs) (allOf (λ u. eqb (u .role) (v .role)) vs) v (firstKind (v ∷ vs))
-      (unionOf (λ u. u .citations) (v ∷ vs)) (h .0) (first-most (v ∷ vs) h)
+  over-range (v ∷ vs) h = let r = some-range v vs h in let l = r .0 in (omega (arith, l), r .1)

@@ -25,7 +25,7 @@ use Rattle.promises.proofs.LineBytes.{none, zeros, zeros-block, person-
 use Rattle.promises.proofs.MembersRise.{members-rise}
 use Rattle.promises.specs.Partitioned.{personAt, kindAt, roleAt, blockAt, Apart, Partitioned}
 
-within-le : (a b : ℕ) → Within a b → a ≤ b
+pub within-le : (a b : ℕ) → Within a b → a ≤ b
 unfolding meet
 within-le a b h = subst (λ (x : ℕ). x ≤ b) (sym (antisym a (meet a b) (record { at = λ p e. in-meet a b p e (h .at p e) }) (record { at = λ p e. of-meet a b p e .0 }))) (and-le-r a b)
 

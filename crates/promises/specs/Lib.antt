@@ -3,3 +3,4 @@ pub mod Partitioned
 pub mod OpenNamed
 pub mod KnownBy
 pub mod Weaker
+pub mod Pooled

@@ -1,5 +1,6 @@
-// Runs the vectors of vectors.txt, one a line, and says how many agree: what an operation answers, and what it writes in the buffers lent to it,
-// is compared with what the line expects. A line that is no vector differs.
+// Runs the vectors of vectors.txt and of pools.txt, one a line, and says of each list how many agree: what an operation answers, and what it writes in
+// the buffers lent to it, is compared with what the line expects. A line that is no vector differs.
+mod pooled;
 mod scan;
 mod tally;
 mod trial;
@@ -8,6 +9,8 @@ mod vector;
 use scan::Scan;
 use tally::Tally;
 use trial::agrees;
+use vector::fields;
+use vector::known;
 
 // What has been read of a line, and the counts so far.
 struct Run {
@@ -22,10 +25,14 @@ fn verdict(scan: Scan, store: &[u8], lines: &mut [u8], events: &mut [u8]) -> boo
     if done.broken {
         return false;
     }
-    if done.field != 15 {
+    let vector = done.vector;
+    if !known(vector.op) {
         return false;
     }
-    agrees(done.vector, store, lines, events)
+    if done.field != fields(vector.op) {
+        return false;
+    }
+    agrees(vector, store, lines, events)
 }
 
 fn feed(run: Run, b: u8, store: &mut [u8], lines: &mut [u8], events: &mut [u8]) -> Run {
@@ -83,16 +90,28 @@ fn replay(fd: i32, store: &mut [u8], lines: &mut [u8], events: &mut [u8]) -> Tal
     finish(run, store, lines, events)
 }
 
-fn main() {
-    let fd = os::open_read(b"vectors.txt");
+// A list and the counts of it.
+fn replay_list(file: &[u8], list: &[u8], store: &mut [u8], lines: &mut [u8], events: &mut [u8]) {
+    let fd = os::open_read(file);
     if fd < 0 {
-        os::fail(b"vectors.txt");
+        os::fail(file);
         return;
     }
+    let tally = replay(fd, store, lines, events);
+    libc::close(fd);
+    tally.print(list);
+}
+
+fn main() {
     let mut store = io::large_buffer();
     let mut lines = io::large_buffer();
     let mut events = io::large_buffer();
-    let tally = replay(fd, &mut store, &mut lines, &mut events);
-    libc::close(fd);
-    tally.print();
+    replay_list(b"vectors.txt", b"", &mut store, &mut lines, &mut events);
+    replay_list(
+        b"pools.txt",
+        b"pools: ",
+        &mut store,
+        &mut lines,
+        &mut events,
+    );
 }

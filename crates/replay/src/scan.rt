@@ -1,5 +1,6 @@
-// One vector, byte by byte: fifteen fields parted by one space. The operation is a word, the first two and the last two fields after it are
-// bytes, as lower-case hex or "-", the rest are numbers in base ten. The bytes of all four are kept in one store, one after another.
+// One vector, byte by byte: fifteen fields parted by one space, of an operation that pools three more. The operation is a word, the two fields
+// after it and the four from the fourteenth on are bytes, as lower-case hex or "-", the rest are numbers in base ten. All bytes are kept in one store,
+// one field's after another's.
 use crate::vector::Vector;
 use sets::numbers::to_u64;
 
@@ -56,7 +57,7 @@ impl Scan {
         if self.length == 0 || self.half < 16 {
             return self.fail();
         }
-        if self.field >= 15 {
+        if self.field >= 18 {
             return self.fail();
         }
         let vector = self.kept();
@@ -153,7 +154,7 @@ impl Scan {
     }
 }
 
-// Whether a field of a line is bytes: plan, case, lines, events.
+// Whether a field of a line is bytes: plan, case, lines, events, amounts, pools.
 fn of_bytes(field: u8) -> bool {
-    field == 1 || field == 2 || field == 13 || field == 14
+    field == 1 || field == 2 || (field >= 13 && field <= 16)
 }

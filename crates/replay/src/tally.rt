@@ -42,10 +42,11 @@ impl Tally {
         self
     }
 
-    // The lines that differ, one a row, then the counts.
-    pub fn print(self) {
+    // The lines that differ, one a row, then the counts; each row begins with the list's name.
+    pub fn print(self, list: &[u8]) {
         let first = self.first;
-        print_rows(first);
+        print_rows(list, first);
+        io::write_all(STDOUT_FILENO, list);
         io::print_decimal(STDOUT_FILENO, self.agree);
         io::write_all(STDOUT_FILENO, b" agree, ");
         io::print_decimal(STDOUT_FILENO, self.differ);
@@ -53,18 +54,19 @@ impl Tally {
     }
 }
 
-fn print_row(line: u64) {
+fn print_row(list: &[u8], line: u64) {
     if line > 0 {
+        io::write_all(STDOUT_FILENO, list);
         io::write_all(STDOUT_FILENO, b"line ");
         io::print_decimal(STDOUT_FILENO, line);
         io::write_all(STDOUT_FILENO, b" differs\n");
     }
 }
 
-fn print_rows(lines: [u64; 16]) {
+fn print_rows(list: &[u8], lines: [u64; 16]) {
     let mut i: usize = 0;
     while i < 16 {
-        print_row(lines[i]);
+        print_row(list, lines[i]);
         i += 1;
     }
 }

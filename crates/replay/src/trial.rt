@@ -1,14 +1,22 @@
 // One vector run: its operation on buffers that are lent full of dirt, and what came of it compared with what is expected.
+use crate::pooled::amounts_of;
+use crate::pooled::page_of;
 use crate::vector::ANSWER;
-use crate::vector::CHECK;
 use crate::vector::Outcome;
+use crate::vector::POOL;
 use crate::vector::SHOW;
 use crate::vector::Vector;
 use crate::vector::same;
+use billing::pools::Pools;
+use billing::pools::no_pools;
+use pooling::PoolAnswer;
+use pooling::pool;
 use report::Answer;
 use report::operations::answer;
 use report::operations::check;
 use report::operations::show;
+ghost use Prim.Native.Nat.{_≤_};
+ghost use lib.ListN.{length};
 
 // Bytes that no operation may leave.
 fn soil(out: &mut [u8]) {
@@ -38,11 +46,7 @@ fn holds(out: &[u8], expected: &[u8]) -> bool {
     true
 }
 
-fn known(op: u64) -> bool {
-    op == CHECK || op == ANSWER || op == SHOW
-}
-
-fn operate(
+fn report_on(
     op: u64,
     world: u64,
     plan: &[u8],
@@ -59,31 +63,78 @@ fn operate(
     check(plan)
 }
 
-// Whether the operation, on these buffers, answers the numbers of the line and leaves its bytes in them.
+// What the operation answers, and the pools where it makes some.
+fn operate(
+    op: u64,
+    world: u64,
+    plan: &[u8],
+    case: &[u8],
+    amounts: &[u8],
+    lines: &mut [u8],
+    events: &mut [u8],
+) -> PoolAnswer
+    requires { ⌜ length (now amounts) ≤ 1024 ⌝ }
+{
+    if op == POOL {
+        let list = amounts_of(amounts);
+        let n = amounts.len() / 4;
+        return pool(plan, case, &list[..n], lines, events);
+    }
+    PoolAnswer {
+        answer: report_on(op, world, plan, case, lines, events),
+        pools: no_pools(),
+    }
+}
+
+// Whether these are the pools of the line, and zeros past them.
+fn pooled_so(found: Pools, unplaced: u64, expected: &[u8]) -> bool {
+    if found.unplaced != unplaced {
+        return false;
+    }
+    if expected.len() % 17 != 0 {
+        return false;
+    }
+    if expected.len() / 17 != found.count {
+        return false;
+    }
+    let page = page_of(found);
+    holds(&page, expected)
+}
+
+// Whether the operation, on these buffers, answers the numbers and the pools of the line and leaves its bytes in them.
 fn answers(
     vector: Vector,
     plan: &[u8],
     case: &[u8],
     line_bytes: &[u8],
     event_bytes: &[u8],
+    amounts: &[u8],
+    pools: &[u8],
     lines: &mut [u8],
     events: &mut [u8],
-) -> bool {
+) -> bool
+    requires { ⌜ length (now amounts) ≤ 1024 ⌝ }
+{
     soil(lines);
     soil(events);
-    let found = operate(vector.op, vector.world, plan, case, lines, events);
-    same(Outcome::of(found), vector.expected)
+    let found = operate(vector.op, vector.world, plan, case, amounts, lines, events);
+    let answer = found.answer;
+    same(Outcome::of(answer), vector.expected)
+        && pooled_so(found.pools, vector.unplaced, pools)
         && holds(lines, line_bytes)
         && holds(events, event_bytes)
 }
 
-// The buffers are lent with just the lengths of the line; a line that wants longer ones than there are differs.
+// The buffers are lent with just the lengths of the line; a line that wants longer ones than there are differs, and one with more amounts than there is
+// room for.
 fn lend(
     vector: Vector,
     plan: &[u8],
     case: &[u8],
     line_bytes: &[u8],
     event_bytes: &[u8],
+    amounts: &[u8],
+    pools: &[u8],
     lines: &mut [u8],
     events: &mut [u8],
 ) -> bool {
@@ -95,12 +146,17 @@ fn lend(
     if n > events.len() {
         return false;
     }
+    if amounts.len() > 1024 || amounts.len() % 4 != 0 {
+        return false;
+    }
     answers(
         vector,
         plan,
         case,
         line_bytes,
         event_bytes,
+        amounts,
+        pools,
         &mut lines[0..m],
         &mut events[0..n],
     )
@@ -113,9 +169,8 @@ pub fn agrees(vector: Vector, store: &[u8], lines: &mut [u8], events: &mut [u8])
     let b = ends.case;
     let c = ends.lines;
     let d = ends.events;
-    if !known(vector.op) {
-        return false;
-    }
+    let e = ends.amounts;
+    let f = ends.pools;
     if a > b {
         return false;
     }
@@ -125,7 +180,13 @@ pub fn agrees(vector: Vector, store: &[u8], lines: &mut [u8], events: &mut [u8])
     if c > d {
         return false;
     }
-    if d > store.len() {
+    if d > e {
+        return false;
+    }
+    if e > f {
+        return false;
+    }
+    if f > store.len() {
         return false;
     }
     lend(
@@ -134,6 +195,8 @@ pub fn agrees(vector: Vector, store: &[u8], lines: &mut [u8], events: &mut [u8])
         &store[a..b],
         &store[b..c],
         &store[c..d],
+        &store[d..e],
+        &store[e..f],
         lines,
         events,
     )

@@ -2,11 +2,13 @@
 use report::Answer;
 
 // The words of the operations, their letters as base-256 digits.
-pub const CHECK: u64 = 0x636865636b;
+const CHECK: u64 = 0x636865636b;
 
 pub const ANSWER: u64 = 0x616e73776572;
 
 pub const SHOW: u64 = 0x73686f77;
+
+pub const POOL: u64 = 0x706f6f6c;
 
 // What an operation answers, as the numbers of a line.
 pub struct Outcome {
@@ -25,6 +27,8 @@ pub struct Ends {
     pub case: usize,
     pub lines: usize,
     pub events: usize,
+    pub amounts: usize,
+    pub pools: usize,
 }
 
 pub struct Vector {
@@ -34,6 +38,7 @@ pub struct Vector {
     pub line_room: u64,
     pub event_room: u64,
     pub expected: Outcome,
+    pub unplaced: u64,
     pub ends: Ends,
 }
 
@@ -111,6 +116,18 @@ pub fn same(a: Outcome, b: Outcome) -> bool {
         && a.worlds == b.worlds
 }
 
+pub fn known(op: u64) -> bool {
+    op == CHECK || op == ANSWER || op == SHOW || op == POOL
+}
+
+// How many fields a line with this operation has.
+pub fn fields(op: u64) -> u8 {
+    if op == POOL {
+        return 18;
+    }
+    15
+}
+
 impl Vector {
     pub fn new() -> Vector {
         Vector {
@@ -119,11 +136,14 @@ impl Vector {
             line_room: 0,
             event_room: 0,
             expected: Outcome::new(),
+            unplaced: 0,
             ends: Ends {
                 plan: 0,
                 case: 0,
                 lines: 0,
                 events: 0,
+                amounts: 0,
+                pools: 0,
             },
         }
     }
@@ -134,6 +154,7 @@ impl Vector {
             3 => self.world = n,
             4 => self.line_room = n,
             5 => self.event_room = n,
+            17 => self.unplaced = n,
             _ => {
                 let expected = self.expected;
                 self.expected = expected.set(field, n);
@@ -142,14 +163,20 @@ impl Vector {
         self
     }
 
-    // Where a field of bytes ends.
+    // Where a field of bytes ends. A line that ends with its events has no amounts and no pools.
     pub fn set_end(mut self, field: u8, at: usize) -> Vector {
         let mut ends = self.ends;
         match field {
             1 => ends.plan = at,
             2 => ends.case = at,
             13 => ends.lines = at,
-            _ => ends.events = at,
+            14 => {
+                ends.events = at;
+                ends.amounts = at;
+                ends.pools = at;
+            }
+            15 => ends.amounts = at,
+            _ => ends.pools = at,
         }
         self.ends = ends;
         self

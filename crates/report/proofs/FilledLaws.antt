@@ -22,7 +22,7 @@ unfolding flatMap
 flat-lines f [] = refl
 flat-lines f (x ∷ xs) = ap (λ (l : List ℕ). lineBytes (f x) ++ l) (flat-lines f xs)
 
-lines-length : (ls : List Line) → length (flatMap (λ b. b) (map lineBytes ls)) ≡ lineLength * length ls
+pub lines-length : (ls : List Line) → length (flatMap (λ b. b) (map lineBytes ls)) ≡ lineLength * length ls
 unfolding flatMap
 lines-length [] = refl
 lines-length (l ∷ ls) =

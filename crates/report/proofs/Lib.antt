@@ -1,6 +1,7 @@
 pub mod LinesAt
 pub mod Numbered
 pub mod OpenedLaws
+pub mod FewLines
 pub mod WorldBlocks
 pub mod SameViews
 pub mod Answered

@@ -46,7 +46,7 @@ impl<'a> CaseBuilder<'a> {
     pub fn reopen(plan: &'a Plan, bytes: &[u8]) -> Result<CaseBuilder<'a>, ReopenError> {
         accepted(plan, bytes)?;
         // It never comes: a case that passes its checks can be read.
-        let unreadable = Refusal { reason: Reason::Other(0), place: None, world: None };
+        let unreadable = Refusal::nowhere(Reason::Other(0));
         let records = CaseRecords::read(bytes).ok_or(ReopenError::Refused(unreadable))?;
         let (case, wanted) = (records.relation, plan.records().relation);
         if case != wanted {

@@ -11,7 +11,7 @@ use crate::plan_reader;
 use crate::ranges;
 use crate::read::{File, Reader, Record};
 use crate::records::{Records, Status};
-use crate::refusal::{Place, Reason, Refusal};
+use crate::refusal::{Given, Place, Reason, Refusal};
 
 impl Refusal {
     /// What exactly is wrong, in words, where that can be told from the bytes that were refused. Things go by number and name.
@@ -21,6 +21,7 @@ impl Refusal {
             Reason::LinesDoNotFit => asked.lines(),
             Reason::EventsDoNotFit => asked.events(self.world),
             Reason::NoSuchWorld => asked.worlds(),
+            Reason::AmountsDoNotFit => asked.amounts(self.given?),
             _ => self.place.and_then(|place| asked.record(self.reason, place)),
         }
     }
@@ -41,10 +42,15 @@ impl Asked<'_> {
         }
     }
 
+    /// How many are on the roster.
+    fn persons(&self) -> Option<usize> {
+        let heading = Reader::new(File::Case, self.case).next()?;
+        Some(Persons::from_mask(heading.mask(4)?).count())
+    }
+
     /// Room for the lines is 29 bytes for each person of the roster.
     fn lines(&self) -> Option<String> {
-        let heading = Reader::new(File::Case, self.case).next()?;
-        let persons = Persons::from_mask(heading.mask(4)?).count();
+        let persons = self.persons()?;
         let bytes = persons * LINE;
         Some(format!("{} on the roster: {bytes} bytes would do", counted(persons, "person")))
     }
@@ -77,6 +83,25 @@ impl Asked<'_> {
             0 => "no world fits the constraints".to_string(),
             1 => "the only world is world 0".to_string(),
             _ => format!("the last world is world {}", worlds - 1),
+        })
+    }
+
+    /// How long the list is, and how long it should be. A file is read no further than 64 amounts matter.
+    fn amounts(&self, given: Given) -> Option<String> {
+        let persons = self.persons()?;
+        let roster = number_of(persons, "person");
+        Some(match given {
+            Given::Bytes(bytes) => format!(
+                "the list has {}, no multiple of 4; the roster has {roster}, which makes {}",
+                number_of(bytes, "byte"),
+                number_of(4 * persons, "byte")
+            ),
+            Given::Amounts(amounts) if amounts > limits::PERSONS => {
+                format!("the list has more than {} amounts, the roster {roster}", limits::PERSONS)
+            }
+            Given::Amounts(amounts) => {
+                format!("the list has {}, the roster {roster}", number_of(amounts, "amount"))
+            }
         })
     }
 
@@ -398,7 +423,12 @@ fn count(file: File, bytes: &[u8], kind: u8) -> usize {
 }
 
 fn counted(count: usize, what: &str) -> String {
-    if count == 1 { format!("there is 1 {what}") } else { format!("there are {count} {what}s") }
+    let verb = if count == 1 { "is" } else { "are" };
+    format!("there {verb} {}", number_of(count, what))
+}
+
+fn number_of(count: usize, what: &str) -> String {
+    if count == 1 { format!("1 {what}") } else { format!("{count} {what}s") }
 }
 
 /// The first rule that names somebody off the roster: its kind and number.

@@ -1,10 +1,12 @@
-//! Reads plans, cases and names from files, no further than they can be long.
+//! Reads plans, cases, names and amounts from files, no further than they can be long.
 
 use std::fmt;
 use std::fs::File;
 use std::io::{ErrorKind, Read};
 use std::path::{Path, PathBuf};
 
+use crate::amounts::Amounts;
+use crate::limits;
 use crate::names::{NameFault, Names};
 
 /// Records of a plan that are not refused one by one take at most 10,564 bytes, and the record behind them is judged by 162 more: what follows
@@ -16,6 +18,12 @@ pub const CASE_LENGTH: usize = 3_792 + 37;
 
 /// Bytes that a file of names may have.
 pub const NAMES_LENGTH: usize = 1 << 20;
+
+/// One amount more than there can be persons: what follows changes nothing.
+pub const AMOUNTS_LENGTH: usize = 4 * (limits::PERSONS + 1);
+
+/// Bytes that a table of amounts may have.
+pub const TABLE_LENGTH: usize = 1 << 20;
 
 /// Why a file was not read.
 #[derive(Clone, Debug, PartialEq, Eq)]
@@ -34,6 +42,10 @@ pub enum Fault {
         line: usize,
     },
     Name(NameFault),
+    /// A folder without amounts.
+    NoAmounts,
+    /// A folder with amounts.bin and amounts.csv.
+    TwoAmounts,
 }
 
 /// A file that was not read, and why.
@@ -51,8 +63,18 @@ impl fmt::Display for Fault {
             Fault::NotAFile => write!(to, "this is a device, a pipe or a socket, not a file"),
             Fault::Unreadable(why) => write!(to, "it cannot be read: {why}"),
             Fault::TooLong { most } => write!(to, "it is longer than {most} bytes"),
-            Fault::NoText { line } => write!(to, "line {line} is no UTF-8 text"),
+            Fault::NoText { line } => {
+                write!(to, "line {line} is no UTF-8 text; save the file as UTF-8")
+            }
             Fault::Name(fault) => write!(to, "{fault}"),
+            Fault::NoAmounts => write!(
+                to,
+                "this folder has no amounts; write amounts.csv, with person,cents in its first row and then a row for each person of the roster, or amounts.bin"
+            ),
+            Fault::TwoAmounts => write!(
+                to,
+                "this folder has amounts.bin and amounts.csv, and nothing says which of them counts; take one away"
+            ),
         }
     }
 }
@@ -77,17 +99,36 @@ pub fn read_case(path: &Path) -> Result<Vec<u8>, FileFault> {
 
 /// The names of a file.
 pub fn read_names(path: &Path) -> Result<Names, FileFault> {
+    let text = read_text(path, NAMES_LENGTH)?;
+    let fault = |error| FileFault { path: path.to_path_buf(), fault: Fault::Name(error) };
+    Names::read(&text).map_err(fault)
+}
+
+/// A text that is no longer than so many bytes.
+fn read_text(path: &Path, most: usize) -> Result<String, FileFault> {
     let fault = |fault| FileFault { path: path.to_path_buf(), fault };
-    let bytes = read(path, NAMES_LENGTH + 1)?;
-    if bytes.len() > NAMES_LENGTH {
-        return Err(fault(Fault::TooLong { most: NAMES_LENGTH }));
+    let bytes = read(path, most.saturating_add(1))?;
+    if bytes.len() > most {
+        return Err(fault(Fault::TooLong { most }));
     }
-    let text = std::str::from_utf8(&bytes).map_err(|error| {
-        let before = bytes.get(..error.valid_up_to()).unwrap_or(&[]);
+    String::from_utf8(bytes).map_err(|error| {
+        let valid = error.utf8_error().valid_up_to();
+        let before = error.as_bytes().get(..valid).unwrap_or(&[]);
         let line = 1 + before.iter().filter(|byte| **byte == b'\n').count();
         fault(Fault::NoText { line })
-    })?;
-    Names::read(text).map_err(|error| fault(Fault::Name(error)))
+    })
+}
+
+/// The amounts of a folder: amounts.bin or amounts.csv. Where both are there, nobody says which counts.
+pub fn read_amounts(folder: &Path) -> Result<Amounts, FileFault> {
+    let fault = |fault| FileFault { path: folder.to_path_buf(), fault };
+    let [bytes, table] = ["amounts.bin", "amounts.csv"].map(|name| folder.join(name));
+    match [&bytes, &table].map(|path| path.symlink_metadata().is_ok()) {
+        [true, true] => Err(fault(Fault::TwoAmounts)),
+        [false, false] => Err(fault(Fault::NoAmounts)),
+        [true, false] => read(&bytes, AMOUNTS_LENGTH).map(Amounts::Bytes),
+        [false, true] => read_text(&table, TABLE_LENGTH).map(Amounts::Table),
+    }
 }
 
 /// The names of a file; no names if there is no such file.

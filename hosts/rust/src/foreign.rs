@@ -1,7 +1,24 @@
 //! The functions of the static library, over slices.
 
+use crate::limits::UNITS;
+
 /// Refusal, record, count, maximum, lines, events, worlds.
 pub(crate) type Told = [u64; 7];
+
+/// What a pooling tells beside its lines and events: units, one place for each, zero past their count, and what is unplaced.
+#[derive(Clone, Copy, Debug)]
+pub(crate) struct Sums {
+    pub(crate) blocks: [u64; UNITS],
+    pub(crate) cents: [u64; UNITS],
+    pub(crate) open: [u8; UNITS],
+    pub(crate) count: u64,
+    pub(crate) unplaced: u64,
+}
+
+impl Sums {
+    pub(crate) const NONE: Sums =
+        Sums { blocks: [0; UNITS], cents: [0; UNITS], open: [0; UNITS], count: 0, unplaced: 0 };
+}
 
 unsafe extern "C" {
     fn lukhveri_check(plan: *const u8, plan_length: usize, told: *mut Told) -> u8;
@@ -29,6 +46,23 @@ unsafe extern "C" {
         events: *mut u8,
         events_length: usize,
         told: *mut Told,
+    ) -> u8;
+
+    fn lukhveri_pool(
+        plan: *const u8,
+        plan_length: usize,
+        case: *const u8,
+        case_length: usize,
+        amounts: *const u32,
+        amount_count: usize,
+        lines: *mut u8,
+        lines_length: usize,
+        events: *mut u8,
+        events_length: usize,
+        blocks: *mut [u64; UNITS],
+        pools: *mut [u64; UNITS],
+        open: *mut [u8; UNITS],
+        told: *mut [u64; 9],
     ) -> u8;
 
     fn lukhveri_list(
@@ -103,6 +137,41 @@ pub(crate) fn show(
         )
     };
     told
+}
+
+/// Every number of the sums is written.
+pub(crate) fn pool(
+    plan: &[u8],
+    case: &[u8],
+    amounts: &[u32],
+    lines: &mut [u8],
+    events: &mut [u8],
+    sums: &mut Sums,
+) -> Told {
+    let mut told = [0; 9];
+    // SAFETY: five slices, three arrays of 64 and nine numbers, none of which it keeps; those that it writes are borrowed mutably, so nothing
+    // overlaps them.
+    unsafe {
+        lukhveri_pool(
+            plan.as_ptr(),
+            plan.len(),
+            case.as_ptr(),
+            case.len(),
+            amounts.as_ptr(),
+            amounts.len(),
+            lines.as_mut_ptr(),
+            lines.len(),
+            events.as_mut_ptr(),
+            events.len(),
+            &mut sums.blocks,
+            &mut sums.cents,
+            &mut sums.open,
+            &mut told,
+        )
+    };
+    let [answered @ .., count, unplaced] = told;
+    (sums.count, sums.unplaced) = (count, unplaced);
+    answered
 }
 
 /// How many bytes of the text stand at the start of its buffer.

@@ -1,8 +1,9 @@
 //! Finds the units of a roster: the people whom a fee scheme counts together, and nobody else.
 //!
-//! A plan holds the scheme's rules, a case holds what is known of a roster's people; the answer is one line for each person. Three operations
-//! do the work, each by the proved code of the static library: [`check`] a plan, [`answer`] a case, [`show`] one world. They take plain bytes,
-//! whatever these are, and give typed lines and events or a [`Refusal`] that says in words what is wrong and where. Nothing panics.
+//! A plan holds the scheme's rules, a case holds what is known of a roster's people; the answer is one line for each person. Four operations
+//! do the work, each by the proved code of the static library: [`check`] a plan, [`answer`] a case, [`show`] one world, [`pool`] amounts by
+//! units. They take plain bytes, whatever these are, and give typed lines and events or a [`Refusal`] that says in words what is wrong and
+//! where. Nothing panics.
 //!
 //! [`PlanBuilder`] and [`CaseBuilder`] make the bytes from named things. They turn away what the operations would refuse, when it is
 //! given, so that a rule editor can say it at once; facts may come in any order. [`Plan::read`] reads a plan's bytes back, and
@@ -75,7 +76,10 @@
 //! A refusal says in words what is wrong ([`Refusal::in_words`], [`Refusal::finding`]) and what would mend it ([`Refusal::remedy`]), with the
 //! names that [`names`] reads from a file of names; [`files`] reads plans and cases no further than they can be long.
 //!
-//! [`answer_into`] and [`show_into`] work in buffers that the caller lends and allocate nothing; [`Buffers`] keeps such buffers for many calls.
+//! [`pool`] gives each unit the sum of its persons' amounts, and says what is unplaced; [`amounts`] reads the list from amounts.bin, or from a
+//! table with a person a row.
+//!
+//! [`answer_into`], [`show_into`] and [`pool_into`] work in buffers that the caller lends and allocate nothing; [`Buffers`] keeps such buffers for many calls.
 //! Calls from several threads are independent. A call takes less than 256 KB of its thread's stack ([`STACK`]).
 
 #![deny(unsafe_code)]
@@ -84,6 +88,7 @@
     deny(clippy::unwrap_used, clippy::expect_used, clippy::panic, clippy::indexing_slicing)
 )]
 
+pub mod amounts;
 mod build_error;
 mod case;
 mod case_builder;
@@ -109,6 +114,7 @@ mod plan_builder;
 mod plan_change;
 mod plan_reader;
 mod plan_removal;
+mod pooling;
 mod ranges;
 mod read;
 mod records;
@@ -142,6 +148,7 @@ pub use persons::{Numbers, Persons};
 pub use plan::Plan;
 pub use plan_builder::PlanBuilder;
 pub use plan_removal::Departure;
+pub use pooling::{Pooled, Pools, Unit, pool, pool_into};
 pub use read::File;
 pub use records::{
     Attachment, Bar, Cut, Decision, Edge, Election, Fact, Node, Policy, Precedence, Records, Status,

@@ -2,6 +2,8 @@
 
 /// Persons are numbered from 0.
 pub const PERSONS: usize = 64;
+/// Nobody is in two units.
+pub const UNITS: usize = PERSONS;
 pub const FACTS: usize = 64;
 pub const NODES: usize = 256;
 pub const EDGES: usize = 64;

@@ -133,6 +133,11 @@ impl Line {
         Numbers::of(self.citations)
     }
 
+    /// Whether the person's amount goes into the pool of the block: decided, and not excluded. Every other amount is unplaced.
+    pub fn is_pooled(&self) -> bool {
+        self.kind == LineKind::Decided && self.role != Role::Excluded
+    }
+
     /// Those with whom the person is counted together.
     pub fn others(&self) -> Persons {
         self.block.without(Persons::of(&[self.person]).unwrap_or(Persons::NOBODY))

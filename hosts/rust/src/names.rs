@@ -3,6 +3,9 @@
 use std::collections::BTreeMap;
 use std::fmt;
 
+use crate::limits;
+use crate::persons::Persons;
+
 /// What can have a name, and its highest number.
 const KINDS: [(&str, u8); 12] = [
     ("person", 63),
@@ -58,6 +61,8 @@ pub struct Entry<'a> {
 #[derive(Clone, Debug, Default)]
 pub struct Names {
     names: BTreeMap<(&'static str, u8), Named>,
+    /// There is a names.txt, but it has a fault.
+    unused: bool,
 }
 
 impl Names {
@@ -72,6 +77,16 @@ impl Names {
         }
         names.tell_apart();
         Ok(names)
+    }
+
+    /// No names, as those of names.txt are not used because of its fault.
+    pub fn unused() -> Names {
+        Names { unused: true, ..Names::default() }
+    }
+
+    /// Whether a names.txt is there that is not used.
+    pub fn are_unused(&self) -> bool {
+        self.unused
     }
 
     fn add(&mut self, said: &str, line: usize) -> Result<(), String> {
@@ -131,6 +146,12 @@ impl Names {
             None => format!("{kind} {number}"),
             Some(name) => format!("{kind} {number} ({name})"),
         }
+    }
+
+    /// Who has that name, as it was given.
+    pub fn called(&self, name: &str) -> Persons {
+        let named = (0..).take(limits::PERSONS).filter(|p| self.find("person", *p) == Some(name));
+        named.fold(Persons::NOBODY, |all, person| all.union(Persons::alone(person)))
     }
 
     pub fn person(&self, number: u8) -> String {

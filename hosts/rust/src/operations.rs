@@ -50,7 +50,7 @@ pub fn show_into<'a>(
     shown.map_err(|refusal| Refusal { world: Some(world), ..refusal })
 }
 
-fn answered<'a>(
+pub(crate) fn answered<'a>(
     told: &Told,
     plan: &[u8],
     case: &[u8],
@@ -137,8 +137,8 @@ impl Answer {
 /// Buffers to be used again and again, which always suffice: for the few cases with more than 4,096 events they lend more.
 #[derive(Clone, Debug)]
 pub struct Buffers {
-    lines: Vec<u8>,
-    events: Vec<u8>,
+    pub(crate) lines: Vec<u8>,
+    pub(crate) events: Vec<u8>,
 }
 
 impl Default for Buffers {
@@ -166,7 +166,7 @@ impl Buffers {
     }
 
     /// Lends room for 4,096 events; if that is too short, for all that there can be.
-    fn ask(&mut self, call: impl Fn(&mut [u8], &mut [u8]) -> Told) -> Told {
+    pub(crate) fn ask(&mut self, mut call: impl FnMut(&mut [u8], &mut [u8]) -> Told) -> Told {
         let length = EVENTS_LENGTH.min(self.events.len());
         let (first, _) = self.events.split_at_mut(length);
         let told = call(&mut self.lines, first);

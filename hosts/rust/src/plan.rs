@@ -33,7 +33,7 @@ impl Plan {
     pub fn read(bytes: &[u8]) -> Result<Plan, Refusal> {
         check(bytes)?;
         // It never comes: an accepted plan can be read.
-        let unreadable = Refusal { reason: Reason::Other(0), place: None, world: None };
+        let unreadable = Refusal::nowhere(Reason::Other(0));
         let (handles, records) = plan_reader::read(bytes).ok_or(unreadable)?;
         let numbers = fact_numbers(&records.facts);
         Ok(Plan { handles, records, numbers, bytes: bytes.to_vec() })

@@ -37,6 +37,8 @@ pub enum Reason {
     EventsDoNotFit,
     /// 14: there is no world of that number.
     NoSuchWorld,
+    /// 15: the list of amounts is not as long as the roster.
+    AmountsDoNotFit,
     /// A number that no operation answers today.
     Other(u8),
 }
@@ -58,6 +60,7 @@ impl Reason {
             12 => Reason::LinesDoNotFit,
             13 => Reason::EventsDoNotFit,
             14 => Reason::NoSuchWorld,
+            15 => Reason::AmountsDoNotFit,
             _ => Reason::Other(number),
         }
     }
@@ -78,6 +81,7 @@ impl Reason {
             Reason::LinesDoNotFit => 12,
             Reason::EventsDoNotFit => 13,
             Reason::NoSuchWorld => 14,
+            Reason::AmountsDoNotFit => 15,
             Reason::Other(number) => number,
         }
     }
@@ -132,6 +136,14 @@ impl fmt::Display for Place {
     }
 }
 
+/// How long a list of amounts is.
+#[derive(Clone, Copy, Debug, PartialEq, Eq, Hash)]
+pub(crate) enum Given {
+    Amounts(usize),
+    /// Bytes of a file, no multiple of 4.
+    Bytes(usize),
+}
+
 /// Why an operation gave no result: the buffers that were lent to it are then all zero.
 #[derive(Clone, Copy, Debug, PartialEq, Eq, Hash)]
 pub struct Refusal {
@@ -140,9 +152,22 @@ pub struct Refusal {
     pub place: Option<Place>,
     /// The world that was to be shown, if one was.
     pub(crate) world: Option<u64>,
+    /// How long the list of amounts is, where it is at fault.
+    pub(crate) given: Option<Given>,
 }
 
 impl Refusal {
+    /// A refusal that names no record.
+    pub(crate) fn nowhere(reason: Reason) -> Refusal {
+        Refusal { reason, place: None, world: None, given: None }
+    }
+
+    /// Where the list of amounts is at fault, with how long it is.
+    pub(crate) fn of_amounts(self, given: Given) -> Refusal {
+        let at_fault = self.reason == Reason::AmountsDoNotFit;
+        Refusal { given: at_fault.then_some(given), ..self }
+    }
+
     /// The refusal that was told, if one was. Refusals 1 to 7 of an accepted plan name a record of the case.
     pub(crate) fn told(told: &Told, plan: &[u8], case: Option<&[u8]>) -> Option<Refusal> {
         let [number, record, count, maximum, ..] = *told;
@@ -154,10 +179,11 @@ impl Refusal {
             Some(case) => Place::find(File::Case, case, record),
             None => Place::find(File::Plan, plan, record),
         };
-        Some(Refusal { reason, place: reason.has_record().then(place), world: None })
+        let place = reason.has_record().then(place);
+        Some(Refusal { place, ..Refusal::nowhere(reason) })
     }
 
-    /// Its number in document 01.
+    /// Its number in documents 01 and 02.
     pub fn number(&self) -> u8 {
         self.reason.number()
     }
@@ -205,6 +231,7 @@ impl Refusal {
             Reason::LinesDoNotFit => "the lines do not fit the buffer: 29 bytes for each person",
             Reason::EventsDoNotFit => "there are more events than the buffer holds, 12 bytes each",
             Reason::NoSuchWorld => "there is no admissible world of that number",
+            Reason::AmountsDoNotFit => "the list of amounts is not as long as the roster",
             Reason::Other(_) => "a refusal that this program does not know",
         }
     }
@@ -277,6 +304,9 @@ impl Refusal {
             Reason::EventsDoNotFit => "lend more for the events; 1,048,608 bytes always suffice",
             Reason::NoSuchWorld => {
                 "ask for a world below the count of worlds; where there are none, confirm the roster or correct what contradicts the constraints"
+            }
+            Reason::AmountsDoNotFit => {
+                "give one amount for each person of the roster, in rising order of the persons' numbers; in amounts.bin each takes 4 bytes"
             }
             Reason::Other(_) => "use a program that fits the library",
         }

@@ -64,9 +64,12 @@ impl Refusal {
         }
     }
 
-    /// Where the reason lists what may be wrong, the finding alone says what is.
+    /// Where the reason lists what may be wrong, or says it without numbers, the finding alone says what is.
     fn finding_says_all(&self) -> bool {
-        use Reason::{Heading, Incomplete, Malformed, NamesNothing, PastLimit};
-        matches!(self.reason, Malformed | PastLimit | Incomplete | NamesNothing | Heading)
+        use Reason::{AmountsDoNotFit, Heading, Incomplete, Malformed, NamesNothing, PastLimit};
+        matches!(
+            self.reason,
+            Malformed | PastLimit | Incomplete | NamesNothing | Heading | AmountsDoNotFit
+        )
     }
 }

@@ -44,7 +44,7 @@ fn the_examples() {
     all.extend(words);
     let said = run(&all);
     assert_eq!(said.status, Some(0));
-    assert_eq!(counts(&said), "5 cases: 5 answered, 0 refused, 0 unreadable; 28 persons");
+    assert_eq!(counts(&said), "6 cases: 6 answered, 0 refused, 0 unreadable; 32 persons");
     assert!(said.out.starts_with(HEADING));
     for row in [
         "examples/01/case.bin,0,Ana,0,1,0 1,,,1,,,\r\n",
@@ -154,7 +154,7 @@ fn folders_without_cases() {
     assert_eq!(said.status, Some(2));
     assert_eq!(said.out.lines().count(), 3, "the folder that has cases is done: {}", said.out);
     let complaints = [
-        "lukhveri: examples: no cases in this folder; it has 01, allotments, club, kitchen and 1 more: try examples/*\n",
+        "lukhveri: examples: no cases in this folder; it has 01, allotments, choir, club and 2 more: try examples/*\n",
         "lukhveri: nowhere: there is no such folder\n",
         "lukhveri: examples/01/plan.bin: this is a file; a folder of cases is wanted\n",
     ];
@@ -219,6 +219,46 @@ fn faulty_names() {
     assert!(!said.out.contains("Anna"));
 }
 
+/// Nor is a name in the table of amounts said to be wrong then.
+#[test]
+fn faulty_names_with_amounts() {
+    let folder = Folder::new("batch-names-amounts");
+    folder.write("plan.bin", &PAIR);
+    folder.write("a.bin", &complete(2));
+    folder.write("names.txt", b"person 0 Anna\nperson x Ben\n");
+    folder.write("amounts.csv", b"person,cents\nAnna,1\n1,2\n");
+    let said = on("batch", folder.path(), &["--rows", "--amounts"]);
+    let why = "amounts.csv: row 2: 'Anna' is no person's number, and names.txt is not used because of its fault; mend names.txt, or write the number (and 1 more fault)";
+    let here = text(folder.path());
+    let row = format!("{here}/a.bin,,,,,,,,\"unreadable: {why}\"\r\n");
+    assert_eq!((said.out, said.status), (row, Some(2)));
+    assert!(said.err.contains("names.txt: line 2: 'x' is no number of a person"), "{}", said.err);
+}
+
+/// A table with faults is told once a folder, by the first of its cases that it does not fit.
+#[test]
+fn faulty_tables_on_the_standard_error() {
+    let folder = Folder::new("batch-faulty-tables");
+    let here = text(folder.path());
+    folder.write("plan.bin", &PAIR);
+    folder.write("amounts.csv", b"person,cents\n0,1\n1,2\n2,4\n");
+    folder.write("a.bin", &complete(3));
+    for number in 0..50 {
+        folder.write(&format!("b{number:02}.bin"), &complete(2));
+    }
+    let what = "row 4: person 2 is not on the roster; take the row away, or correct the person";
+    let line = format!("lukhveri: {here}: amounts.csv for b00.bin: {what}\n");
+    for (times, words) in [(1, vec![here]), (2, vec![here, here])] {
+        let said = run(&[vec!["batch", "--rows", "--amounts"], words].concat());
+        assert_eq!(said.err.matches(&line).count(), times, "{}", said.err);
+        assert_eq!((said.err.lines().count(), said.status), (times + 1, Some(2)));
+        assert_eq!(
+            said.out.matches(&format!("unreadable: amounts.csv: {what}")).count(),
+            times * 50
+        );
+    }
+}
+
 /// A pipe that nobody fills stops nothing.
 #[test]
 fn a_case_that_is_a_pipe() {
@@ -245,7 +285,7 @@ fn federation(name: &str, count: usize) -> (Folder, Vec<String>) {
     for number in 0..count {
         let own = folder.path().join(format!("club {number}"));
         std::fs::create_dir(&own).expect("a folder");
-        let from = EXAMPLES[random.below(5) as usize];
+        let from = EXAMPLES[random.below(EXAMPLES.len() as u64) as usize];
         let file = |file: &str| example_file(from, file);
         std::fs::write(own.join("plan.bin"), file("plan.bin")).expect("a plan");
         std::fs::write(own.join("names.txt"), file("names.txt")).expect("names");
@@ -321,6 +361,158 @@ fn a_reader_who_goes_away() {
     assert_eq!(done.status.code(), Some(2));
     assert!(!String::from_utf8(done.stderr).expect("text").contains("standard output"));
     drop(input);
+}
+
+const POOLS: &str = "case,part,persons,names,cents,open,refusal,record,reason\r\n";
+
+#[test]
+fn pools_of_an_example() {
+    let said = run(&["batch", "--amounts", "examples/choir"]);
+    let wanted = format!(
+        "{POOLS}\
+examples/choir/case.bin,unit,0 1,Nato; Gela,10,yes,,,\r
+examples/choir/case.bin,unit,2,Rezo,0,no,,,\r
+examples/choir/case.bin,unit,3,Soso,1000,no,,,\r
+examples/choir/case.bin,unplaced,0 2,Nato; Rezo,101,,,,\r
+"
+    );
+    assert_eq!((said.out.as_str(), said.status), (wanted.as_str(), Some(0)));
+    assert_eq!(counts(&said), "1 case: 1 answered, 0 refused, 0 unreadable; 4 persons");
+    let rows = run(&["batch", "--amounts", "--rows", "examples/choir"]).out;
+    assert_eq!(Some(rows.as_str()), wanted.strip_prefix(POOLS));
+    assert!(said.err.contains("not taken for cases: README.md, printed.txt\n"), "{}", said.err);
+    let said = run(&["batch", "examples/choir"]);
+    assert!(said.out.starts_with(HEADING) && said.status == Some(0));
+    assert!(said.err.contains("not taken for cases: README.md, amounts.csv, printed.txt\n"));
+}
+
+#[test]
+fn pools_as_json_lines() {
+    let folder = Folder::new("batch-pools-json");
+    folder.write("plan.bin", &PAIR);
+    folder.write("a.bin", &complete(3));
+    folder.write("b.bin", &complete(2));
+    folder.write("c.bin", &[1]);
+    folder.write("names.txt", b"person 1 Anna\n");
+    folder.write("amounts.csv", b"person,cents\n0,1\nAnna,2\n2,4\n");
+    let said = on("batch", folder.path(), &["--amounts", "--json"]);
+    assert_eq!(said.status, Some(2));
+    let rows: Vec<Value> = said.out.split_inclusive('\n').map(json::read).collect();
+    let here = folder.path().display();
+    let first = format!(
+        r#"{{"case":"{here}/a.bin","part":"unit","persons":[0,1],"names":[null,"Anna"],"cents":3,"open":false}}"#
+    );
+    assert_eq!(said.out.lines().next(), Some(first.as_str()));
+    assert_eq!((rows[1].at("cents").number(), rows[1].at("part").text()), (4, "unit"));
+    assert_eq!((rows[2].at("part").text(), rows[2].at("open")), ("unplaced", &Value::Null));
+    assert_eq!((rows[2].at("persons").list().len(), rows[2].at("cents").number()), (0, 0));
+    // The second case has nobody of the number 2; the third is refused before its amounts are looked at.
+    let fault = "unreadable: amounts.csv: row 4: person 2 is not on the roster; take the row away, or correct the person";
+    assert_eq!(rows[3].at("error").text(), fault);
+    assert_eq!(rows[4].at("refusal").at("number").number(), 1);
+    assert_eq!(rows.len(), 5);
+}
+
+/// Folders with amounts, without, with both files, with faults; none stops another.
+#[test]
+fn folders_with_and_without_amounts() {
+    let folder = Folder::new("batch-amounts");
+    let here = text(folder.path());
+    let club = |name: &str, amounts: &[(&str, &[u8])]| {
+        let own = folder.path().join(name);
+        std::fs::create_dir(&own).expect("a folder");
+        let file =
+            |name: &str, bytes: &[u8]| std::fs::write(own.join(name), bytes).expect("a file");
+        file("plan.bin", &PAIR);
+        file("case.bin", &complete(3));
+        amounts.iter().for_each(|(name, bytes)| file(name, bytes));
+        own.to_str().expect("a path").to_string()
+    };
+    let bytes = [1, 0, 0, 0, 2, 0, 0, 0, 0, 1, 0, 0];
+    let folders = [
+        club("a", &[("amounts.bin", &bytes)]),
+        club("b", &[]),
+        club("c", &[("amounts.bin", &bytes), ("amounts.csv", b"person,cents\n")]),
+        club("d", &[("amounts.bin", &bytes[..11])]),
+        club("e", &[("amounts.csv", b"person,cents\n0,x\n1,y\n2,0\n")]),
+        club("f", &[("amounts.csv", b"person,cents\n2,\xff\n")]),
+        club("g", &[("amounts.csv", b"person,cents\n2,256\n0,1\n1,2\n")]),
+        club("h", &[("amounts.bin", &bytes), ("other.bin", &complete(3))]),
+    ];
+    let words: Vec<&str> = ["batch", "--rows", "--amounts"]
+        .into_iter()
+        .chain(folders.iter().map(String::as_str))
+        .collect();
+    let said = run(&words);
+    let pooled = |name: &str| {
+        let case = format!("{here}/{name}/case.bin");
+        format!(
+            "{case},unit,0 1,,3,no,,,\r\n{case},unit,2,,256,no,,,\r\n{case},unplaced,,,0,,,,\r\n"
+        )
+    };
+    let none = "this folder has no amounts; write amounts.csv, with person,cents in its first row and then a row for each person of the roster, or amounts.bin";
+    let two = "this folder has amounts.bin and amounts.csv, and nothing says which of them counts; take one away";
+    let many = "amounts.bin says of no amount whose it is, and there are 2 cases; write amounts.csv, or give each case a folder";
+    let wanted = [
+        pooled("a"),
+        format!("{here}/b/case.bin,,,,,,,,\"unreadable: {none}\"\r\n"),
+        format!("{here}/c/case.bin,,,,,,,,\"unreadable: {two}\"\r\n"),
+        format!(
+            "{here}/d/case.bin,,,,,,15,0,\"the list has 11 bytes, no multiple of 4; the roster has 3 persons, which makes 12 bytes\"\r\n"
+        ),
+        format!(
+            "{here}/e/case.bin,,,,,,,,\"unreadable: amounts.csv: row 2: 'x' is no whole number of cents; write digits alone, from 0 to 4294967295: 1250 for 12.50 (and 1 more fault)\"\r\n"
+        ),
+        format!(
+            "{here}/f/case.bin,,,,,,,,unreadable: amounts.csv: line 2 is no UTF-8 text; save the file as UTF-8\r\n"
+        ),
+        pooled("g"),
+        format!("{here}/h/case.bin,,,,,,,,\"unreadable: {many}\"\r\n"),
+        format!("{here}/h/other.bin,,,,,,,,\"unreadable: {many}\"\r\n"),
+    ];
+    assert_eq!(said.out.replace("\r\n", "\n"), wanted.concat().replace("\r\n", "\n"));
+    assert_eq!(said.status, Some(2));
+    assert_eq!(counts(&said), "9 cases: 2 answered, 1 refused, 6 unreadable; 6 persons");
+    for complaint in
+        [format!("{here}/b: {none}"), format!("{here}/c: {two}"), format!("{here}/h: {many}")]
+    {
+        assert!(
+            said.err.contains(&format!("lukhveri: {complaint}\n")),
+            "{complaint}: {}",
+            said.err
+        );
+    }
+    assert_eq!(run(&["batch", "--amounts", &folders[0], &folders[6]]).status, Some(0));
+    assert_eq!(run(&["batch", "--amounts", &folders[0], &folders[3]]).status, Some(1));
+    // Amounts are no case, with or without --amounts.
+    let said = run(&["batch", "--rows", &folders[2]]);
+    let answered = "1 case: 1 answered, 0 refused, 0 unreadable; 3 persons";
+    assert_eq!((counts(&said), said.status), (answered, Some(0)));
+    assert!(said.err.contains("not taken for cases: amounts.bin, amounts.csv\n"), "{}", said.err);
+}
+
+/// One table serves many cases over one plan, in order, however the work is split.
+#[test]
+fn pools_of_many_cases() {
+    let folder = Folder::new("batch-pools");
+    let here = text(folder.path());
+    folder.write("plan.bin", &PAIR);
+    folder
+        .write("amounts.csv", b"person,cents\r\n2,4294967295\r\n1,4294967295\r\n0,4294967295\r\n");
+    let mut wanted = POOLS.to_string();
+    for number in 0..500 {
+        let case = format!("{number:03}.bin");
+        folder.write(&case, &complete(3));
+        wanted += &format!(
+            "{here}/{case},unit,0 1,,8589934590,no,,,\r\n{here}/{case},unit,2,,4294967295,no,,,\r\n{here}/{case},unplaced,,,0,,,,\r\n"
+        );
+    }
+    let said = on("batch", folder.path(), &["--amounts"]);
+    assert!(said.out == wanted);
+    assert_eq!(said.status, Some(0));
+    let plan = folder.path().join("plan.bin");
+    let said = on("batch", folder.path(), &["--amounts", "--plan", text(&plan)]);
+    assert!(said.out == wanted);
 }
 
 #[test]

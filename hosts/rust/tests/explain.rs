@@ -113,7 +113,10 @@ fn faulty_names() {
         on("explain", folder.path(), &[]).is_trouble(part);
     };
     says(b"person 0 Anna\nperson x Ben\n", "names.txt: line 2: 'x' is no number of a person");
-    says(b"person 0 Anna\n\nperson 1 \xff\n", "names.txt: line 3 is no UTF-8 text");
+    says(
+        b"person 0 Anna\n\nperson 1 \xff\n",
+        "names.txt: line 3 is no UTF-8 text; save the file as UTF-8",
+    );
     says(&b"#\n".repeat(1 << 20), "names.txt: it is longer than 1048576 bytes");
     std::fs::remove_file(folder.path().join("names.txt")).expect("no names");
     assert_eq!(on("explain", folder.path(), &[]).status, Some(0));

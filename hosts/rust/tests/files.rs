@@ -5,7 +5,8 @@ mod folder;
 use std::path::Path;
 
 use folder::Folder;
-use lukhveri::files::{self, CASE_LENGTH, Fault, NAMES_LENGTH, PLAN_LENGTH};
+use lukhveri::amounts::Amounts;
+use lukhveri::files::{self, AMOUNTS_LENGTH, CASE_LENGTH, Fault, NAMES_LENGTH, PLAN_LENGTH};
 use lukhveri::names::Names;
 
 fn says(result: Result<Vec<u8>, files::FileFault>) -> String {
@@ -86,6 +87,33 @@ fn longest_case() -> Vec<u8> {
     (0..256).for_each(|_| case.extend([4, 7, 1, 1, 0]));
     (0..16).for_each(|_| case.extend([5, 1, 0]));
     case
+}
+
+#[test]
+fn amounts_of_a_folder() {
+    let folder = Folder::new("amounts");
+    let says = || files::read_amounts(folder.path()).expect_err("a fault").to_string();
+    let none =
+        format!("{}: this folder has no amounts; write amounts.csv, ", folder.path().display());
+    assert!(says().starts_with(&none), "{}", says());
+    folder.write("amounts.csv", b"person,cents\n0,1\n");
+    let text = "person,cents\n0,1\n".to_string();
+    assert_eq!(files::read_amounts(folder.path()), Ok(Amounts::Table(text)));
+    folder.write("amounts.bin", &[1, 0, 0, 0]);
+    assert!(says().ends_with("nothing says which of them counts; take one away"), "{}", says());
+    std::fs::remove_file(folder.path().join("amounts.csv")).expect("a file");
+    assert_eq!(files::read_amounts(folder.path()), Ok(Amounts::Bytes(vec![1, 0, 0, 0])));
+    let path = folder.path().join("amounts.bin");
+    std::fs::File::create(&path).and_then(|file| file.set_len(1 << 40)).expect("a long file");
+    assert_eq!(files::read_amounts(folder.path()), Ok(Amounts::Bytes(vec![0; AMOUNTS_LENGTH])));
+    std::fs::rename(&path, folder.path().join("amounts.csv")).expect("a file");
+    assert!(says().ends_with("amounts.csv: it is longer than 1048576 bytes"), "{}", says());
+    folder.write("amounts.csv", b"person,cents\n\xff,1\n");
+    assert!(
+        says().ends_with("amounts.csv: line 2 is no UTF-8 text; save the file as UTF-8"),
+        "{}",
+        says()
+    );
 }
 
 #[test]

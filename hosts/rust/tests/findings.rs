@@ -1,7 +1,8 @@
 //! What a refusal says beyond its number, with names.
 
+use lukhveri::amounts::{Amounts, AmountsError};
 use lukhveri::names::Names;
-use lukhveri::{Reason, answer, answer_into, check, show_into};
+use lukhveri::{Reason, answer, answer_into, check, pool, show_into};
 
 const NAMES: &str = "person 0 Ana\nperson 1 Beka\nperson 2 Gio\nfact 0 shares a kitchen\nfact 1 one flat\nedge 0 the kitchen\n\
     cut 0 the wish\nbar 0 visitors\nfamily 4 flats\n";
@@ -148,6 +149,38 @@ fn buffers_say_how_many_bytes_would_do() {
     let mut exact = (vec![0; 87], vec![0; 24]);
     assert!(answer_into(&plan, &case, &mut exact.0, &mut exact.1).is_ok());
     assert!(show_into(&plan, &case, 1, &mut exact.0, &mut [0; 12]).is_ok());
+}
+
+/// The list and the roster, with as many as each has.
+#[test]
+fn amounts_say_how_many_there_are() {
+    let (plan, case) = (bytes("010100"), bytes("017f000101 0700000000000000 00 0010"));
+    let says = |refusal: lukhveri::Refusal| {
+        assert_eq!((refusal.number(), refusal.record()), (15, 0));
+        let said = refusal.in_words(&plan, &case, &names());
+        assert_eq!(
+            refusal.finding(&plan, &case, &names()).as_deref(),
+            said.strip_prefix("refused 15: ")
+        );
+        said
+    };
+    let of_list = |count: usize| says(pool(&plan, &case, &vec![1; count]).expect_err("15"));
+    assert_eq!(of_list(0), "refused 15: the list has 0 amounts, the roster 3 persons");
+    assert_eq!(of_list(1), "refused 15: the list has 1 amount, the roster 3 persons");
+    assert_eq!(of_list(4), "refused 15: the list has 4 amounts, the roster 3 persons");
+    assert_eq!(of_list(65), "refused 15: the list has more than 64 amounts, the roster 3 persons");
+    let of_file = |length: usize| match Amounts::Bytes(vec![0; length]).list(&plan, &case, &names())
+    {
+        Err(AmountsError::Refused(refusal)) => says(refusal),
+        other => panic!("{other:?}"),
+    };
+    let wanted =
+        "the list has 13 bytes, no multiple of 4; the roster has 3 persons, which makes 12 bytes";
+    assert_eq!(of_file(13), format!("refused 15: {wanted}"));
+    assert!(of_file(1).starts_with("refused 15: the list has 1 byte, no multiple of 4; "));
+    let refusal = pool(&plan, &case, &[]).expect_err("15");
+    assert_eq!(refusal.to_string(), "refused 15: the list of amounts is not as long as the roster");
+    assert!(refusal.remedy().starts_with("give one amount for each person of the roster, "));
 }
 
 /// What the remedies promise of lengths.

@@ -23,6 +23,7 @@ fn sizes_kinds_and_roles() {
     is("LINE", LINE);
     is("EVENT", EVENT);
     is("PERSONS", limits::PERSONS);
+    is("UNITS", limits::UNITS);
     is("WORLDS", usize::from(limits::WORLDS));
     is("TEXT_LENGTH", TEXT_LENGTH);
     is("DECIDED", usize::from(LineKind::Decided.number()));
@@ -36,6 +37,19 @@ fn sizes_kinds_and_roles() {
     is("MEMBER", usize::from(Role::Member.number()));
     is("EXCLUDED", usize::from(Role::Excluded.number()));
     is("BARRED", usize::from(Role::Barred.number()));
+}
+
+/// The numbers that a call tells stand one behind another; pooling tells two more.
+#[test]
+fn what_a_call_tells() {
+    let header = constants();
+    let answer = ["REFUSAL", "RECORD", "COUNT", "MAXIMUM", "LINES", "EVENTS", "WORLDS"];
+    let pool = [&answer[..], &["UNITS", "UNPLACED"]].concat();
+    for (place, name) in pool.iter().enumerate() {
+        assert_eq!(header.get(&format!("TOLD_{name}")), Some(&place), "{name}");
+    }
+    assert_eq!(header.get("TOLD"), Some(&answer.len()));
+    assert_eq!(header.get("POOL_TOLD"), Some(&pool.len()));
 }
 
 #[test]
@@ -58,6 +72,7 @@ fn refusals() {
     is("LINES_DO_NOT_FIT", Reason::LinesDoNotFit);
     is("EVENTS_DO_NOT_FIT", Reason::EventsDoNotFit);
     is("NO_SUCH_WORLD", Reason::NoSuchWorld);
+    is("AMOUNTS_DO_NOT_FIT", Reason::AmountsDoNotFit);
 }
 
 #[test]

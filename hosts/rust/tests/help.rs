@@ -7,7 +7,7 @@ use std::process::{Command, Stdio};
 
 use program::{program, root, run};
 
-const COMMANDS: [&str; 6] = ["check", "list", "explain", "show", "circle", "batch"];
+const COMMANDS: [&str; 7] = ["check", "list", "explain", "show", "circle", "pool", "batch"];
 
 /// The help of the program and of each command.
 fn all_helps() -> Vec<String> {
@@ -42,6 +42,16 @@ fn help_is_there_in_every_way() {
 fn help_fits_a_terminal() {
     for line in all_helps().iter().flat_map(|text| text.lines()) {
         assert!(line.len() <= 80 && line.is_ascii() && !line.ends_with(' '), "{line}");
+    }
+}
+
+/// A table for several cases is pooled for each: who sums up the whole column is warned in both places.
+#[test]
+fn sums_are_per_case() {
+    let readme = std::fs::read_to_string(root().join("hosts/README.md")).expect("a file");
+    for text in [help(&["help", "batch"]), readme] {
+        let text = text.split_whitespace().collect::<Vec<_>>().join(" ");
+        assert!(text.contains("With one amounts.csv for several cases each case pools the whole table anew, so a column sum over several cases of one folder counts the same amounts again; sums are per case."));
     }
 }
 
@@ -106,7 +116,7 @@ fn the_man_page_is_made_of_the_help_texts() {
 #[test]
 fn wrong_words_are_said_in_one_line() {
     let empty: [&str; 0] = [];
-    run(&empty).is_trouble("a command is wanted: check, list, explain, show, circle, batch");
+    run(&empty).is_trouble("a command is wanted: check, list, explain, show, circle, pool, batch");
     run(&["chek"]).is_trouble("there is no command 'chek', only check,");
     run(&["--chek"]).is_trouble("there is no option --chek (lukhveri --help helps)");
     run(&["help", "chek"]).is_trouble("there is no command 'chek'");
@@ -118,7 +128,7 @@ fn wrong_words_are_said_in_one_line() {
         run(&[command, "a", "--json=1"]).is_trouble(&format!("--json takes no value {helps}"));
     }
     run(&["list", ""]).is_trouble("list: an empty word is given (lukhveri list --help helps)");
-    for command in ["check", "list", "explain"] {
+    for command in ["check", "list", "explain", "pool"] {
         run(&[command, "a", "b"]).is_trouble("'b' is a word too many");
     }
     for command in ["show", "circle"] {
@@ -131,7 +141,7 @@ fn wrong_words_are_said_in_one_line() {
 }
 
 /// Each command, with words that make it print something.
-const PRINTING: [&[&str]; 8] = [
+const PRINTING: [&[&str]; 10] = [
     &["--help"],
     &["--version"],
     &["check", "examples/kitchen/plan.bin"],
@@ -139,7 +149,9 @@ const PRINTING: [&[&str]; 8] = [
     &["explain", "examples/kitchen"],
     &["show", "examples/kitchen", "0"],
     &["circle", "examples/kitchen", "0"],
+    &["pool", "examples/choir"],
     &["batch", "examples/01"],
+    &["batch", "--amounts", "examples/choir"],
 ];
 
 #[test]

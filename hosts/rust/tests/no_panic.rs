@@ -1,12 +1,13 @@
 //! No input makes anything panic: random bytes, and good bytes that were damaged.
 
+use lukhveri::amounts::{Amounts, AmountsError};
 use lukhveri::names::Names;
 use lukhveri::near::{NearError, values};
 use lukhveri::words;
 use lukhveri::{
     Buffers, CaseBuilder, CaseRecords, Citation, Cut, Decision, Edge, Event, Family, Frame, Line,
     Paper, Persons, Plan, PlanBuilder, Reason, Refusal, answer, answer_into, check, circle, list,
-    show_into,
+    pool_into, show_into,
 };
 
 /// A small source of numbers.
@@ -68,7 +69,7 @@ fn good() -> (Vec<u8>, Vec<u8>) {
 
 /// Everything that can be said of a refusal.
 fn say(refusal: &Refusal, plan: &[u8], case: &[u8]) {
-    assert!((1..=14).contains(&refusal.number()));
+    assert!((1..=15).contains(&refusal.number()));
     let exact = [
         Reason::Malformed,
         Reason::PastLimit,
@@ -81,6 +82,7 @@ fn say(refusal: &Refusal, plan: &[u8], case: &[u8]) {
         Reason::LinesDoNotFit,
         Reason::EventsDoNotFit,
         Reason::NoSuchWorld,
+        Reason::AmountsDoNotFit,
     ];
     let names = Names::read("fact 0 one\nperson 0 Ana\nedge 0 bond\ncut 0 wish").expect("names");
     let finding = refusal.finding(plan, case, &names);
@@ -125,6 +127,41 @@ fn told(plan: &Plan, case: &[u8]) {
     }
 }
 
+/// Lists of a length that mostly fits, of lengths that do not, and from files of any bytes.
+fn pooled(plan: &[u8], case: &[u8], random: &mut Random, buffers: &mut Buffers) {
+    let roster = CaseRecords::read(case).unwrap_or_default().roster.count();
+    let count = if random.below(4) == 0 { random.below(70) } else { roster };
+    let amounts: Vec<u32> = (0..count).map(|_| random.next() as u32).collect();
+    match (buffers.pool(plan, case, &amounts).map(|pooled| pooled.to_pools()), answer(plan, case)) {
+        (Err(refusal), Err(wanted)) => assert_eq!(refusal, wanted),
+        (Err(refusal), Ok(answer)) => {
+            say(&refusal, plan, case);
+            assert!(
+                refusal.reason == Reason::AmountsDoNotFit && amounts.len() != answer.lines.len()
+            );
+        }
+        (Ok(pools), answer) => {
+            let sum: u64 = amounts.iter().map(|amount| u64::from(*amount)).sum();
+            assert_eq!((pools.sum(), pools.answer.lines.len()), (sum, amounts.len()));
+            assert_eq!(
+                (Ok(&pools.answer), pools.answer.units().len()),
+                (answer.as_ref(), pools.units.len())
+            );
+            assert!(words::pools(&pools, &amounts, &Names::default()).concat().len() >= 4);
+        }
+    }
+    let (mut lines, mut events) = (random.bytes(200), random.bytes(200));
+    if let Err(refusal) = pool_into(plan, case, &amounts, &mut lines, &mut events) {
+        say(&refusal, plan, case);
+        assert!(lines.iter().chain(&events).all(|byte| *byte == 0));
+    }
+    if let Err(AmountsError::Refused(refusal)) =
+        Amounts::Bytes(random.bytes(20)).list(plan, case, &Names::default())
+    {
+        say(&refusal, plan, case);
+    }
+}
+
 fn all_calls(plan: &[u8], case: &[u8], random: &mut Random, buffers: &mut Buffers) {
     let checked = check(plan);
     let read = Plan::read(plan);
@@ -136,6 +173,7 @@ fn all_calls(plan: &[u8], case: &[u8], random: &mut Random, buffers: &mut Buffer
     let answered = buffers.answer(plan, case).map(|answered| drop(answered.to_answer()));
     assert_eq!(list(plan, case).refused, answered.is_err());
     answered.unwrap_or_else(|no| say(&no, plan, case));
+    pooled(plan, case, random, buffers);
     let person = random.byte();
     assert!(circle(plan, case, person).is_none_or(|circle| circle.holds(person)));
     let (mut lines, mut events) = (random.bytes(200), random.bytes(200));
@@ -191,6 +229,32 @@ fn names_of_any_text() {
         match Names::read(&text) {
             Ok(names) => drop(names.warnings(&plan, case.as_ref())),
             Err(fault) => assert!(fault.to_string().starts_with("line ")),
+        }
+    }
+}
+
+/// Tables are read from any text: a list for the whole roster, or faults.
+#[test]
+fn tables_of_any_text() {
+    let (random, (plan, case)) = (&mut Random(5), good());
+    let names = Names::read("person 0 Ana\nperson 1 Ana\nperson 2 Eva, the first").expect("names");
+    let words = ["person,cents\n", "0,", "1,5\r\n", "2,7\n", "Ana", "\"", ",", "\r", "\n", " "];
+    for _ in 0..100_000 {
+        let mut text = String::from(words[random.below(2)]);
+        for _ in 0..random.below(12) {
+            match random.below(6) {
+                0 => text.push_str(&random.next().to_string()),
+                1 => text.extend(char::from_u32(random.next() as u32 % 0x2_ffff)),
+                _ => text.push_str(words[random.below(words.len())]),
+            }
+        }
+        match Amounts::Table(text).list(&plan, &case, &names) {
+            Ok(amounts) => assert_eq!(amounts.len(), 3),
+            Err(AmountsError::Refused(refusal)) => panic!("{refusal}"),
+            Err(AmountsError::Table(faults)) => {
+                assert!(faults.iter().all(|fault| fault.to_string().contains("; ")));
+                assert!(!faults.is_empty());
+            }
         }
     }
 }

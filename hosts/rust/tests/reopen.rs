@@ -7,7 +7,7 @@ use lukhveri::{
 };
 
 const FRAME: Frame = Frame { scope: 1, segment: 1 };
-const EXAMPLES: [&str; 5] = ["01", "nursery", "kitchen", "club", "allotments"];
+const EXAMPLES: [&str; 6] = ["01", "nursery", "kitchen", "club", "allotments", "choir"];
 
 fn persons(numbers: &[u8]) -> Persons {
     Persons::of(numbers).expect("persons")

@@ -65,6 +65,7 @@ pub fn example() -> Result<Example, BuildError> {
             further world.",
         plan,
         case,
+        amounts: &[],
         words: Words {
             persons: &[
                 (0, "Rusa"),

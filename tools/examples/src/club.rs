@@ -67,6 +67,7 @@ pub fn example() -> Result<Example, BuildError> {
             barred. Guram is excluded, but stays in the unit with Lia. Otar's unit is certain and his role is open (kind 2).",
         plan,
         case,
+        amounts: &[],
         words: Words {
             persons: &[
                 (0, "Marta"),

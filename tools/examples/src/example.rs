@@ -15,6 +15,8 @@ pub struct Example {
     pub outcome: &'static str,
     pub plan: Plan,
     pub case: Case,
+    /// Cents by person; nothing where no amounts are pooled.
+    pub amounts: &'static [(u8, u32)],
     pub words: Words,
 }
 

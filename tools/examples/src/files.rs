@@ -21,17 +21,29 @@ pub fn files() -> Result<Vec<File>, String> {
     Ok(files)
 }
 
-fn folder(example: &Example) -> [File; 5] {
+fn folder(example: &Example) -> Vec<File> {
     let (plan, case) = (example.plan.bytes(), example.case.bytes());
     let printed = printed(&lukhveri::answer(plan, case));
     let at = |name: &str| format!("examples/{}/{name}", example.folder);
-    [
+    let mut files = vec![
         (at("plan.bin"), plan.to_vec()),
         (at("case.bin"), case.to_vec()),
         (at("README.md"), readme(example, &printed).into_bytes()),
         (at("names.txt"), names(&example.words).into_bytes()),
         (at("printed.txt"), printed.into_bytes()),
-    ]
+    ];
+    if !example.amounts.is_empty() {
+        files.push((at("amounts.csv"), amounts(example).into_bytes()));
+    }
+    files
+}
+
+/// A person a row, by name, as RFC 4180 has it.
+fn amounts(example: &Example) -> String {
+    let row =
+        |(person, cents): &(u8, u32)| format!("{},{cents}\r\n", example.words.person(*person));
+    let rows: String = example.amounts.iter().map(row).collect();
+    format!("person,cents\r\n{rows}")
 }
 
 /// What each number is called.
@@ -56,6 +68,12 @@ fn readme(example: &Example, printed: &str) -> String {
         text,
         "In sentences: `lukhveri explain examples/{folder}` (docs/GUIDE.md, section 12).\n\n"
     );
+    if !example.amounts.is_empty() {
+        let _ = write!(
+            text,
+            "The amounts of amounts.csv pooled by unit: `lukhveri pool examples/{folder}`.\n\n"
+        );
+    }
     text.push_str("The rule book:\n\n");
     for (number, name, sentence) in words.citations {
         let _ = writeln!(text, "- citation {number}, {name}: {sentence}");

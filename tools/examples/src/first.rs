@@ -26,6 +26,7 @@ pub fn example() -> Result<Example, BuildError> {
         outcome: "Ana and Beka are a unit, Gio is one of his own. Nothing is open.",
         plan,
         case,
+        amounts: &[],
         words: Words {
             persons: &[(0, "Ana"), (1, "Beka"), (2, "Gio")],
             facts: &[],

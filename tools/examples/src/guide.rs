@@ -1,6 +1,8 @@
 //! The blocks of docs/GUIDE.md that hold bytes, and whether the proved code agrees with them.
 
-use lukhveri::{Answer, Event, Line, Refusal};
+use std::fmt::Write;
+
+use lukhveri::{Answer, Event, Line, Pools, Refusal};
 
 use crate::example::Example;
 use crate::printed::printed;
@@ -12,11 +14,12 @@ struct Block<'a> {
     at: usize,
 }
 
-/// Plan and case as the last blocks of that mark gave them.
+/// Plan, case and amounts as the last blocks of that mark gave them.
 #[derive(Default)]
 struct Told {
     plan: Vec<u8>,
     case: Vec<u8>,
+    amounts: Vec<u32>,
 }
 
 /// How many blocks agree, or where the first one does not.
@@ -43,6 +46,14 @@ impl Told {
             ("case", name) => {
                 self.case = block.bytes()?;
                 return same(&self.case, name, |example| example.case.bytes());
+            }
+            ("amounts", _) => {
+                self.amounts = block.numbers()?;
+                return Ok(false);
+            }
+            ("pools", _) => {
+                let pools = lukhveri::pool(&self.plan, &self.case, &self.amounts);
+                pools.map(|pools| pooled(&pools)) == Ok(block.text())
             }
             ("example", whose) => line_of(whose)? == block.bytes()?,
             ("lines", _) => lines(answer(self)) == Ok(block.bytes()?),
@@ -92,7 +103,27 @@ fn events(answer: Result<Answer, Refusal>) -> Result<Vec<u8>, Refusal> {
     answer.map(|answer| answer.events.iter().flat_map(Event::bytes).collect())
 }
 
+/// Each unit with its pool and its mark, then what is unplaced.
+fn pooled(pools: &Pools) -> String {
+    let mut text = String::new();
+    for unit in &pools.units {
+        let open = if unit.open { " open" } else { "" };
+        let _ = writeln!(text, "{} {}{open}", unit.persons, unit.cents);
+    }
+    let _ = writeln!(text, "unplaced {}", pools.unplaced);
+    text
+}
+
 impl Block<'_> {
+    /// The number before the remark of each row.
+    fn numbers(&self) -> Result<Vec<u32>, String> {
+        let number = |row: &&str| {
+            let word = row.split("  ").next().unwrap_or("");
+            word.parse().map_err(|_| format!("{word:?} is no number"))
+        };
+        self.rows.iter().map(number).collect()
+    }
+
     /// The bytes before the remark of each row, which two spaces part from it.
     fn bytes(&self) -> Result<Vec<u8>, String> {
         let before = |row: &&str| row.split("  ").next().unwrap_or("").to_string();
@@ -115,7 +146,7 @@ fn byte(word: &str) -> Result<u8, String> {
     byte.ok_or_else(|| format!("{word:?} is no byte"))
 }
 
-/// Blocks with a mark; those without one, with a language or of `explain` are no bytes.
+/// Blocks with a mark; those without one, with a language or of a command of the program are no bytes.
 fn blocks(guide: &str) -> Vec<Block<'_>> {
     let mut found: Vec<Block> = Vec::new();
     let mut inside = false;
@@ -130,7 +161,7 @@ fn blocks(guide: &str) -> Vec<Block<'_>> {
             (None, false) => {}
         }
     }
-    let is_bytes = |mark: &str| !matches!(mark, "" | "c" | "rust" | "sh" | "explain");
+    let is_bytes = |mark: &str| !matches!(mark, "" | "c" | "rust" | "sh" | "explain" | "pool");
     found.retain(|block| block.mark.split(' ').next().is_some_and(is_bytes));
     found
 }

@@ -64,6 +64,7 @@ pub fn example() -> Result<Example, BuildError> {
             eat with Eka, nobody needs to take the decision. Irakli and Zura are a unit today: Zura's silence means no (event 8).",
         plan,
         case,
+        amounts: &[],
         words: Words {
             persons: &[(0, "Eka"), (1, "Luka"), (2, "Nana"), (3, "Irakli"), (4, "Zura")],
             facts: &[

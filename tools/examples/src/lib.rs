@@ -1,6 +1,7 @@
 //! The examples: what they are made of, how they are printed and drawn.
 
 pub mod allotments;
+pub mod choir;
 pub mod club;
 pub mod example;
 pub mod files;
@@ -25,6 +26,7 @@ pub fn all() -> Result<Vec<Example>, BuildError> {
         kitchen::example()?,
         club::example()?,
         allotments::example()?,
+        choir::example()?,
     ])
 }
 

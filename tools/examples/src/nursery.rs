@@ -58,6 +58,7 @@ pub fn example() -> Result<Example, BuildError> {
             silence in a complete register means no.",
         plan,
         case,
+        amounts: &[],
         words: Words {
             persons: &[
                 (0, "Nino"),

@@ -155,6 +155,22 @@ fn no_such_world() {
     assert_eq!(number(&bytes("015f01010107000000000000001000"), 0), 14);
 }
 
+#[test]
+fn a_list_of_another_length_than_the_roster() {
+    let (plan, case) = (bytes(FIRST_PLAN), bytes(FIRST_CASE));
+    let ask = |amounts: &[u32], events: usize| {
+        let (mut lines, mut events) = (vec![7; 3 * LINE], vec![7; events]);
+        let refused = lukhveri::pool_into(&plan, &case, amounts, &mut lines, &mut events).err();
+        let number = refused.map_or(0, |refusal| refusal.number());
+        assert!(number == 0 || [lines, events].concat().iter().all(|byte| *byte == 0));
+        number
+    };
+    assert_eq!(ask(&[1, 2, 3], 12), 0);
+    assert_eq!(ask(&[1, 2], 12), 15);
+    assert_eq!(ask(&[1, 2, 3, 4], 12), 15);
+    assert_eq!(ask(&[1, 2], 11), 13);
+}
+
 /// Fact 0 makes the chain 0, 1, 2. Fact 1 names 2 and 5, so a mark on 2 spreads to 5; the line of 5 lists fact 1 alone, but fact 0 changes it.
 #[test]
 fn a_question_that_is_not_listed_can_matter() {

@@ -3,7 +3,7 @@
 use std::fs;
 use std::path::Path;
 
-use lukhveri::{EVENTS_LENGTH, Event, LINES_LENGTH, Line};
+use lukhveri::{EVENTS_LENGTH, Event, LINES_LENGTH, Line, Persons, Unit};
 
 fn root() -> &'static Path {
     Path::new(concat!(env!("CARGO_MANIFEST_DIR"), "/../.."))
@@ -45,6 +45,21 @@ fn the_model_agrees() {
         assert_eq!(lines[..line_bytes.len()], line_bytes, "{}", example.folder);
         assert_eq!(events[..event_bytes.len()], event_bytes, "{}", example.folder);
     }
+}
+
+/// What the story of the choir says of its pools.
+#[test]
+fn the_choir_is_billed() {
+    let choir = examples::choir::example().expect("an example");
+    let amounts: Vec<u32> = choir.amounts.iter().map(|(_, cents)| *cents).collect();
+    let pools = lukhveri::pool(choir.plan.bytes(), choir.case.bytes(), &amounts).expect("pools");
+    let unit = |persons: &[u8], cents, open| Unit {
+        persons: Persons::of(persons).expect("persons"),
+        cents,
+        open,
+    };
+    let wanted = [unit(&[0, 1], 10, true), unit(&[2], 0, false), unit(&[3], 1000, false)];
+    assert_eq!((pools.units.as_slice(), pools.unplaced), (&wanted[..], 101));
 }
 
 /// Maka, Dato and Tamar have a circle without Levan: what he answers does not show in their lines.

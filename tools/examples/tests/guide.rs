@@ -1,4 +1,4 @@
-//! The bytes of docs/GUIDE.md, and its C. (Its Rust is a documentation test.)
+//! The bytes of docs/GUIDE.md, its commands, and its C. (Its Rust is a documentation test.)
 
 use std::fs;
 use std::os::unix::fs::symlink;
@@ -16,13 +16,21 @@ fn guide() -> String {
 #[test]
 fn every_block_of_bytes_agrees() {
     let agreed = examples::guide::agrees(&guide()).unwrap_or_else(|what| panic!("{what}"));
-    assert!(agreed >= 22, "{agreed} blocks were compared");
+    assert!(agreed >= 24, "{agreed} blocks were compared");
 }
 
 #[test]
 fn a_wrong_byte_is_found() {
     let guide = "```plan\n01 01 01\n03 01 01\n```\n```case\n01 7f 01 01 01 07 00 00 00 00 00 00 00 00 01 00\n```\n```printed\nunits 3\n```\n";
     assert!(examples::guide::agrees(guide).is_err());
+}
+
+#[test]
+fn a_wrong_pool_is_found() {
+    let guide = "```plan\n01 01 01\n03 01 01\n```\n```case\n01 7f 01 01 01 03 00 00 00 00 00 00 00 00 01 00\n```\n```amounts\n5\n6\n```\n";
+    let pools = |rows: &str| format!("{guide}```pools\n{rows}unplaced 0\n```\n");
+    assert_eq!(examples::guide::agrees(&pools("0 5\n1 6\n")), Ok(1));
+    assert!(examples::guide::agrees(&pools("0 5\n1 7\n")).is_err());
 }
 
 /// The text of the first block with this mark.
@@ -32,14 +40,27 @@ fn block(mark: &str) -> String {
     rest.split_once("```").expect("its end").0.to_string()
 }
 
+/// What the program prints of an example.
+fn lukhveri(command: &str, example: &str) -> String {
+    let mut program = Command::new(env!("CARGO"));
+    program.args(["run", "--quiet", "--release", "--manifest-path"]);
+    program.arg(root().join("hosts/rust/Cargo.toml"));
+    program.args(["--", command]).arg(root().join("examples").join(example));
+    let said = program.output().expect(command).stdout;
+    String::from_utf8_lossy(&said).into_owned()
+}
+
 #[test]
 fn explain_says_so() {
-    let mut explain = Command::new(env!("CARGO"));
-    explain.args(["run", "--quiet", "--release", "--manifest-path"]);
-    explain.arg(root().join("hosts/rust/Cargo.toml"));
-    explain.args(["--", "explain"]).arg(root().join("examples/kitchen"));
-    let said = explain.output().expect("explain").stdout;
-    assert!(String::from_utf8_lossy(&said).contains(&block("explain kitchen")));
+    assert!(lukhveri("explain", "kitchen").contains(&block("explain kitchen")));
+}
+
+/// All that it prints, to the last byte.
+#[test]
+fn pool_says_so() {
+    assert_eq!(lukhveri("pool", "choir"), block("pool choir"));
+    let table = fs::read_to_string(root().join("examples/choir/amounts.csv")).expect("amounts");
+    assert_eq!(table.replace("\r\n", "\n"), block("pool amounts"));
 }
 
 /// A folder of its own for a test.

@@ -165,7 +165,7 @@ impl<'a> Asked<'a> {
 }
 
 /// No byte, one too few, just enough, more.
-fn lengths(needed: usize, random: &mut Random) -> [usize; 4] {
+pub fn lengths(needed: usize, random: &mut Random) -> [usize; 4] {
     let more = needed + random.between(1, 100);
     [0, needed.saturating_sub(1), needed, more]
 }

@@ -3,6 +3,8 @@
 pub mod alike;
 pub mod clock;
 pub mod listed;
+pub mod pools;
+pub mod promised;
 pub mod settings;
 
 use judge::sides::Side;
@@ -63,9 +65,14 @@ unsafe extern "C" {
 }
 
 /// What a call tells, over dirt.
-fn outcome(call: impl FnOnce(&mut Told) -> u8) -> Outcome {
+fn told(call: impl FnOnce(&mut Told) -> u8) -> Outcome {
     let mut told = [u64::MAX; 7];
     let number = call(&mut told);
+    outcome(number, told)
+}
+
+/// The numbers that a call told, beside the one that it returned.
+fn outcome(number: u8, told: Told) -> Outcome {
     let [refusal, record, count, maximum, lines, events, worlds] = told;
     assert_eq!(u64::from(number), refusal, "the result is the refusal told");
     Outcome {
@@ -82,13 +89,13 @@ fn outcome(call: impl FnOnce(&mut Told) -> u8) -> Outcome {
 /// Check a plan with the proved code.
 pub fn check(plan: &[u8]) -> Outcome {
     // The Rattle function takes a slice and a reference to seven numbers, and keeps neither.
-    outcome(|told| unsafe { lukhveri_check(plan.as_ptr(), plan.len(), told) })
+    told(|told| unsafe { lukhveri_check(plan.as_ptr(), plan.len(), told) })
 }
 
 /// Answer a case with the proved code.
 pub fn answer(plan: &[u8], case: &[u8], lines: &mut [u8], events: &mut [u8]) -> Outcome {
     // Four slices, of which two are lent for writing, and the seven numbers, of which the Rattle function keeps nothing.
-    outcome(|told| unsafe {
+    told(|told| unsafe {
         lukhveri_answer(
             plan.as_ptr(),
             plan.len(),
@@ -106,7 +113,7 @@ pub fn answer(plan: &[u8], case: &[u8], lines: &mut [u8], events: &mut [u8]) -> 
 /// Show a world with the proved code.
 pub fn show(plan: &[u8], case: &[u8], world: u64, lines: &mut [u8], events: &mut [u8]) -> Outcome {
     // As above.
-    outcome(|told| unsafe {
+    told(|told| unsafe {
         lukhveri_show(
             plan.as_ptr(),
             plan.len(),

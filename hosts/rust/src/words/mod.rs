@@ -1,4 +1,4 @@
-//! What lines, events, circles and refusals say, in sentences.
+//! What lines, events, circles, pools and refusals say, in sentences.
 //!
 //! A [`Paragraph`] is made of a [`Near`] and of names alone: of the plan, the heading, the constraints and what the case says of the facts that touch
 //! the person's circle. Nothing that strangers answer can show in it. What belongs to the whole roster, [`officer`] tells.
@@ -13,6 +13,7 @@ mod marks;
 mod officer;
 mod paragraph;
 mod parted;
+mod pools;
 mod reasons;
 mod stopped;
 mod things;
@@ -23,6 +24,7 @@ pub use events::event;
 pub use fate::fate;
 pub use officer::officer;
 pub use paragraph::{Paragraph, explain, explain_person, paragraph};
+pub use pools::{pools, unplaced};
 pub use things::Things;
 pub use touching::touching;
 

@@ -69,8 +69,8 @@ pub fn on(command: &str, folder: &Path, words: &[&str]) -> Said {
     run(&all)
 }
 
-/// The five examples of the repository.
-pub const EXAMPLES: [&str; 5] = ["01", "allotments", "club", "kitchen", "nursery"];
+/// The six examples of the repository.
+pub const EXAMPLES: [&str; 6] = ["01", "allotments", "choir", "club", "kitchen", "nursery"];
 
 pub fn example(name: &str) -> PathBuf {
     Path::new("examples").join(name)

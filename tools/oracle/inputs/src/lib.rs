@@ -1,12 +1,14 @@
 //! Inputs for comparison: plans and cases as values, random ones, damaged
 //! ones, smaller ones, and the vector format.
 
+pub mod amounts;
 pub mod build;
 pub mod calls;
 pub mod classes;
 pub mod families;
 pub mod generate;
 pub mod mutate;
+pub mod pool_vectors;
 pub mod random;
 pub mod samples;
 pub mod shrink;

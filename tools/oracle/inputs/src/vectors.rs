@@ -79,9 +79,14 @@ impl Op {
 
 impl Vector {
     pub fn parse(line: &str) -> Option<Vector> {
-        let fields: Vec<&str> = line.split(' ').collect();
-        let &[op, plan, case, world, lines_len, events_len, ref rest @ ..] = fields.as_slice()
-        else {
+        let (op, rest) = line.split_once(' ')?;
+        Vector::parse_rest(Op::parse(op)?, rest)
+    }
+
+    /// From the fields after the operation's name.
+    pub(crate) fn parse_rest(op: Op, fields: &str) -> Option<Vector> {
+        let fields: Vec<&str> = fields.split(' ').collect();
+        let &[plan, case, world, lines_len, events_len, ref rest @ ..] = fields.as_slice() else {
             return None;
         };
         let &[refusal, record, count, maximum, lines, events, worlds, line_bytes, event_bytes] =
@@ -90,7 +95,7 @@ impl Vector {
             return None;
         };
         let call = Call {
-            op: Op::parse(op)?,
+            op,
             plan: from_hex(plan)?,
             case: from_hex(case)?,
             world: world.parse().ok()?,
@@ -112,10 +117,14 @@ impl Vector {
     }
 
     pub fn print(&self) -> String {
+        format!("{} {}", self.call.op.name(), self.print_rest())
+    }
+
+    /// The fields after the operation's name.
+    pub(crate) fn print_rest(&self) -> String {
         let (call, want) = (&self.call, &self.expected);
         format!(
-            "{} {} {} {} {} {} {} {} {} {} {} {} {} {} {}",
-            call.op.name(),
+            "{} {} {} {} {} {} {} {} {} {} {} {} {} {}",
             to_hex(&call.plan),
             to_hex(&call.case),
             call.world,

@@ -1,6 +1,7 @@
 //! Running a call on a side, with every byte of both buffers taken into
 //! account. A further implementation joins by implementing `Side`.
 
+use inputs::pool_vectors::{PoolCall, PoolExpected};
 use inputs::vectors::{Call, Expected, Op};
 use model::{Citing, Outcome};
 
@@ -66,6 +67,18 @@ pub fn run(side: &dyn Side, call: &Call) -> Expected {
 
 pub fn model_answers(citing: Citing, call: &Call) -> Expected {
     run(&Model(citing), call)
+}
+
+/// The same of a call that pools.
+pub fn model_pools(call: &PoolCall) -> PoolExpected {
+    let Call { plan, case, lines_len, events_len, .. } = &call.answer;
+    let (mut lines, mut events) = (vec![DIRT; *lines_len], vec![DIRT; *events_len]);
+    let found = model::pool(plan, case, &call.amounts, &mut lines, &mut events);
+    PoolExpected {
+        answer: expected(found.answer, lines, events),
+        units: found.units.iter().map(|unit| (unit.block, unit.cents, unit.open)).collect(),
+        unplaced: found.unplaced,
+    }
 }
 
 /// What two sides answer, if it is not the same.

@@ -1,12 +1,18 @@
 //! The committed lists agree with the model, and are what their maker makes.
 
+use inputs::pool_vectors::PoolVector;
 use inputs::vectors::Vector;
-use judge::sides::model_answers;
+use judge::sides::{model_answers, model_pools};
 use model::Citing;
 
 const LISTS: [&str; 2] = [
     include_str!("../../../../crates/replay/data/vectors.txt"),
     include_str!("../../../../vectors/sample.txt"),
+];
+
+const POOLS: [&str; 2] = [
+    include_str!("../../../../crates/replay/data/pools.txt"),
+    include_str!("../../../../vectors/pools.txt"),
 ];
 
 #[test]
@@ -16,11 +22,18 @@ fn the_lists_agree_with_the_model() {
         assert_eq!(vector.print(), line);
         assert_eq!(model_answers(Citing::ByBlock, &vector.call), vector.expected, "{line}");
     }
+    for line in POOLS.iter().flat_map(|list| list.lines()) {
+        let vector = PoolVector::parse(line).expect("a vector");
+        assert_eq!(vector.print(), line);
+        assert_eq!(model_pools(&vector.call), vector.expected, "{line}");
+    }
 }
 
 #[test]
 fn the_lists_are_what_their_maker_makes() {
     let seed = judge::listing::SEED;
+    assert!(judge::listing::fixed_pools(seed).text() == POOLS[0], "run tools/make-vectors");
+    assert!(judge::listing::sample_pools(seed).text() == POOLS[1], "run tools/make-vectors");
     assert!(judge::listing::fixed(seed).text() == LISTS[0], "run tools/make-vectors");
     assert!(judge::listing::sample(seed).text() == LISTS[1], "run tools/make-vectors");
 }
@@ -41,4 +54,40 @@ fn the_fixed_list_covers_all_kinds() {
     }
     assert!(lines.iter().chain(&refusals).chain(&roles).all(|&count| count > 0));
     assert!(events[1..].iter().all(|&count| count > 0));
+}
+
+/// Every line kind and role, units that are open and not, and each refusal that a case of an accepted plan meets.
+#[test]
+fn the_list_of_pools_covers_all_kinds() {
+    let (mut lines, mut refusals, mut roles, mut open) = ([0; 7], [0; 16], [0; 4], [0; 2]);
+    for vector in POOLS[0].lines().map(|line| PoolVector::parse(line).expect("a vector")) {
+        refusals[vector.expected.answer.refusal as usize] += 1;
+        for line in vector.expected.answer.line_bytes.chunks_exact(29) {
+            lines[line[1] as usize] += 1;
+            roles[line[2] as usize] += 1;
+        }
+        vector.expected.units.iter().for_each(|unit| open[usize::from(unit.2)] += 1);
+    }
+    assert!(lines.iter().chain(&roles).chain(&open).all(|&count| count > 0));
+    assert!([0, 1, 3, 4, 5, 8, 9, 10, 11, 12, 13, 15].iter().all(|&number| refusals[number] > 0));
+}
+
+/// A line of another form is no vector.
+#[test]
+fn lines_of_another_form_are_no_pools() {
+    let line = POOLS[0].lines().next().expect("a line");
+    let fields: Vec<&str> = line.split(' ').collect();
+    let with = |at: usize, text: &str| {
+        let mut fields = fields.clone();
+        fields[at] = text;
+        PoolVector::parse(&fields.join(" "))
+    };
+    assert!(with(0, "pool").is_some() && with(15, "-").is_some() && with(16, "-").is_some());
+    assert_eq!(with(0, "answer"), None);
+    assert_eq!(with(15, "010203"), None);
+    assert_eq!(with(16, "00"), None);
+    assert_eq!(with(16, &"02".repeat(17)), None);
+    assert_eq!(with(17, "-"), None);
+    assert_eq!(PoolVector::parse(&fields[..17].join(" ")), None);
+    assert_eq!(Vector::parse(line), None);
 }

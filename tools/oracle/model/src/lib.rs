@@ -1,11 +1,14 @@
 //! Document 01 with plain masks: a third voice beside the Rust and the port,
-//! the yardstick of speed, and the source of expected refusals.
+//! the yardstick of speed, and the source of expected refusals. Of document
+//! 02: income pooled by unit.
 
 pub mod circle;
 pub mod expressions;
+pub mod pool;
 pub mod records;
 pub mod report;
 pub mod world;
 
 pub use circle::circles;
+pub use pool::{PoolOutcome, Unit, pool};
 pub use report::{Citing, Outcome, answer, answer_citing, check, show, show_citing};

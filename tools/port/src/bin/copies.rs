@@ -7,8 +7,10 @@ use std::process::exit;
 use std::sync::atomic::{AtomicU64, Ordering::Relaxed};
 
 use inputs::classes::{ALL, Class};
+use inputs::random::Random;
 use judge::measured::{Measured, inputs_of};
 use model::report::{EVENT, LINE};
+use port::pools::Arrays;
 
 /// Calls and bytes so far.
 struct Tally {
@@ -88,8 +90,8 @@ fn counted(call: impl FnOnce()) -> Counts {
     std::array::from_fn(|what| after[what] - before[what])
 }
 
-/// Of a check of the plan, then of an answer.
-fn of_input(class: &Class, input: &Measured) -> [Counts; 2] {
+/// Of a check of the plan, of an answer, of a pool.
+fn of_input(class: &Class, input: &Measured) -> [Counts; 3] {
     let (plan, case) = (&input.plan, &input.case);
     let fitting = (
         LINE * input.known.lines as usize,
@@ -100,11 +102,16 @@ fn of_input(class: &Class, input: &Measured) -> [Counts; 2] {
     let (mut lines, mut events) = (vec![0; lines], vec![0; events]);
     let check = counted(|| _ = port::check(plan));
     let answer = counted(|| _ = port::answer(plan, case, &mut lines, &mut events));
-    [check, answer]
+    let amounts: Vec<u32> = (1..=input.known.lines as u32).collect();
+    let mut arrays = Arrays::new(&mut Random::new(1));
+    let pool = counted(|| {
+        _ = port::pools::pool(plan, case, &amounts, &mut lines, &mut events, &mut arrays);
+    });
+    [check, answer, pool]
 }
 
-/// Counts of a check of the plan, then of an answer: mean of the class's inputs.
-fn means(class: &Class) -> (usize, [Counts; 2]) {
+/// The same, mean of the class's inputs.
+fn means(class: &Class) -> (usize, [Counts; 3]) {
     let all: Vec<_> = inputs_of(class)
         .map(|input| of_input(class, &input))
         .collect();
@@ -112,7 +119,7 @@ fn means(class: &Class) -> (usize, [Counts; 2]) {
         let sum: u64 = all.iter().map(|found| found[call][what]).sum();
         sum / all.len() as u64
     };
-    let means = [0, 1].map(|call| std::array::from_fn(|what| mean(call, what)));
+    let means = [0, 1, 2].map(|call| std::array::from_fn(|what| mean(call, what)));
     (all.len(), means)
 }
 
@@ -126,9 +133,9 @@ fn row(class: &Class) {
 }
 
 fn table() {
-    println!("mean of a class's inputs: of a check of the plan, then of an answer");
+    println!("mean of a class's inputs: of a check of the plan, of an answer, of a pool");
     print!("{:<10} {:>6}", "class", "inputs");
-    for _ in 0..2 {
+    for _ in 0..3 {
         print!(
             "   {:>7} {:>9} {:>5} {:>9} {:>9}",
             "copies", "bytes", "slow", "clearings", "bytes"
@@ -146,7 +153,7 @@ fn fail(what: &str) -> ! {
 fn touched(name: &str) {
     let class = ALL.iter().find(|class| class.name == name);
     let class = class.unwrap_or_else(|| fail("no such class"));
-    let (_, [_, [_, copied, _, _, cleared]]) = means(class);
+    let (_, [_, [_, copied, _, _, cleared], _]) = means(class);
     println!("{}", copied + cleared);
 }
 

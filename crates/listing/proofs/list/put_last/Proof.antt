@@ -1,5 +1,6 @@
 -- `list::put_last`: the word and the number of units.
-use Rattle.listing.proofs.RowLaws.{last-put, units-count}
+use Rattle.billing.proofs.UnitLaws.{units-count}
+use Rattle.listing.proofs.RowLaws.{last-put}
 use borrow.Author.Needs.{needs}
 use Rattle.listing.proofs.list.put_last.Statement.{statement}
 use Rattle.listing.proofs.list.put_last.Tie as tie

@@ -5,10 +5,10 @@ use Rattle.replay.proofs.tally.print_rows.Statement.{statement}
 use Rattle.replay.proofs.tally.print_rows.Tie as tie
 
 abbrev Inv-loop : tie.InvT-loop
-Inv-loop lines i₀ i = i ≤ 16
+Inv-loop list lines i₀ i = i ≤ 16
 
 abbrev μ-loop : tie.MeasureT-loop
-μ-loop lines i₀ i = 16 - i
+μ-loop list lines i₀ i = 16 - i
 
 pub print-rows-spec : {M : Type 1} → statement M
 print-rows-spec =

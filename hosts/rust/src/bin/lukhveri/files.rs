@@ -1,7 +1,8 @@
-//! Files: a plan, and the plan, case and names of a folder.
+//! Files: a plan, and the plan, case, names and amounts of a folder.
 
 use std::path::{Path, PathBuf};
 
+use lukhveri::amounts::Amounts;
 use lukhveri::files::{self, FileFault};
 use lukhveri::names::Names;
 use lukhveri::{CaseRecords, Plan};
@@ -72,6 +73,10 @@ impl Inputs {
         let plan = files::read_plan(&folder.join("plan.bin")).map_err(trouble)?;
         let case = files::read_case(&folder.join("case.bin")).map_err(trouble)?;
         Ok(Inputs { folder: folder.to_path_buf(), plan, case, names: Names::default() })
+    }
+
+    pub fn amounts(&self) -> Result<Amounts, Trouble> {
+        files::read_amounts(&self.folder).map_err(trouble)
     }
 
     pub fn path(&self, name: &str) -> PathBuf {

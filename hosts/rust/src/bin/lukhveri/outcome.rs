@@ -31,6 +31,8 @@ impl Outcome {
 pub enum Trouble {
     /// One line for the standard error.
     Said(String),
+    /// A line for each fault of a file.
+    Faults(Vec<String>),
     /// The standard output cannot be written.
     Output(io::Error),
 }
@@ -52,6 +54,7 @@ impl Trouble {
     pub fn tell(&self) -> ExitCode {
         match self {
             Trouble::Said(what) => complain(what),
+            Trouble::Faults(all) => all.iter().for_each(|what| complain(what)),
             Trouble::Output(error) if error.kind() == io::ErrorKind::BrokenPipe => {}
             Trouble::Output(error) => {
                 complain(&format!("standard output: {}", plainly(error)));

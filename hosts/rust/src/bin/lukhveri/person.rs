@@ -4,17 +4,10 @@ use std::ffi::OsStr;
 use std::path::Path;
 
 use lukhveri::limits;
-use lukhveri::names::Names;
 
 use crate::arguments::Arguments;
 use crate::files::Inputs;
 use crate::outcome::Trouble;
-
-/// Who has that name.
-fn named(names: &Names, name: &str) -> Vec<u8> {
-    let persons = (0u8..).take(limits::PERSONS);
-    persons.filter(|person| names.find("person", *person) == Some(name)).collect()
-}
 
 /// That nobody has the name, or that there are no names.
 fn unnamed(path: &Path, word: &str) -> String {
@@ -33,7 +26,7 @@ pub fn find(arguments: &Arguments, word: &OsStr, inputs: &Inputs) -> Result<u8, 
         let wrong = || arguments.wrong_use(format!("there is no person {number}, only 0 to 63"));
         return person.ok_or_else(wrong);
     }
-    match named(&inputs.names, word).as_slice() {
+    match inputs.names.called(word).iter().collect::<Vec<_>>().as_slice() {
         [person] => Ok(*person),
         [] => Err(arguments.wrong_use(unnamed(&inputs.path("names.txt"), word))),
         [first, second, ..] => Err(arguments.wrong_use(format!(

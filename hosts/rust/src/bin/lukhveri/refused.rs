@@ -3,7 +3,7 @@
 use std::path::Path;
 
 use lukhveri::names::{Names, sentence};
-use lukhveri::{File, Refusal};
+use lukhveri::{File, Reason, Refusal};
 
 use crate::files::Inputs;
 use crate::json::Json;
@@ -34,9 +34,10 @@ impl<'a> Refused<'a> {
 
     /// Which file is at fault.
     fn file(&self) -> &'static str {
-        match self.refusal.place.map(|place| place.file) {
-            Some(File::Plan) => "plan",
-            Some(File::Case) | None => "case",
+        match (self.refusal.place.map(|place| place.file), self.refusal.reason) {
+            (Some(File::Plan), _) => "plan",
+            (_, Reason::AmountsDoNotFit) => "amounts",
+            (Some(File::Case) | None, _) => "case",
         }
     }
 
@@ -77,7 +78,7 @@ impl<'a> Refused<'a> {
         Ok(Outcome::Refused)
     }
 
-    /// The same for a folder: the plan or the case is at fault.
+    /// The same for a folder: the plan, the case or the list of amounts is at fault.
     pub fn tell_in(&self, inputs: &Inputs, json: bool) -> Result<Outcome, Trouble> {
         self.tell(&inputs.path(&format!("{}.bin", self.file())), json)
     }

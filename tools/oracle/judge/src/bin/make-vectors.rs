@@ -1,8 +1,9 @@
-//! make-vectors DIRECTORY: writes fixed.txt, sample.txt and README.md there.
+//! make-vectors DIRECTORY: writes fixed.txt, sample.txt, fixed-pools.txt, pools.txt and README.md there.
 
 use std::path::Path;
 
-use judge::listing::{List, SEED, Source, fixed, sample};
+use inputs::pool_vectors::PoolVector;
+use judge::listing::{List, Listed, SEED, Source, fixed, fixed_pools, sample, sample_pools};
 
 fn write(directory: &Path, name: &str, text: &str) {
     std::fs::write(directory.join(name), text).unwrap_or_else(|error| panic!("{name}: {error}"));
@@ -24,13 +25,13 @@ fn ranges(numbers: &[usize]) -> String {
     parts.iter().map(print).collect::<Vec<_>>().join(", ")
 }
 
-fn lines_where(list: &List, holds: impl Fn(u8, Source) -> bool) -> Vec<usize> {
+fn lines_where<V: Listed>(list: &List<V>, holds: impl Fn(u8, Source) -> bool) -> Vec<usize> {
     let numbered = list.vectors.iter().enumerate();
-    let wanted = numbered.filter(|(_, (vector, source))| holds(vector.expected.refusal, *source));
+    let wanted = numbered.filter(|(_, (vector, source))| holds(vector.refusal(), *source));
     wanted.map(|(at, _)| at + 1).collect()
 }
 
-fn sections(list: &List) -> String {
+fn sections<V>(list: &List<V>) -> String {
     let ends = list.sections[1..].iter().map(|(_, first)| first - 1);
     let ends = ends.chain([list.vectors.len()]);
     list.sections
@@ -63,11 +64,34 @@ fn readme(fixed: &List, sample: &List) -> String {
     )
 }
 
+fn pools_readme(fixed: &List<PoolVector>, sample: &List<PoolVector>) -> String {
+    let count = |holds: fn(u8, Source) -> bool| lines_where(fixed, holds).len();
+    let units = fixed.vectors.iter().flat_map(|(vector, _)| &vector.expected.units);
+    format!(
+        include_str!("pools-readme.txt"),
+        count = fixed.vectors.len(),
+        sample = sample.vectors.len(),
+        sections = sections(fixed),
+        answered = count(|refusal, _| refusal == 0),
+        units = units.clone().count(),
+        open = units.filter(|(_, _, open)| *open).count(),
+        rust = count(|_, source| source == Source::Rust),
+        evaluate = count(|_, source| source == Source::Evaluate),
+        refused = count(|_, source| source == Source::RustRefusal),
+        wrong = count(|refusal, _| refusal == 15),
+        other =
+            count(|refusal, source| { refusal != 0 && refusal != 15 && source == Source::Model }),
+    )
+}
+
 fn main() {
     let directory = std::env::args().nth(1).expect("make-vectors DIRECTORY");
     let directory = Path::new(&directory);
     let (fixed, sample) = (fixed(SEED), sample(SEED));
+    let (pools, tiny) = (fixed_pools(SEED), sample_pools(SEED));
     write(directory, "fixed.txt", &fixed.text());
     write(directory, "sample.txt", &sample.text());
-    write(directory, "README.md", &readme(&fixed, &sample));
+    write(directory, "fixed-pools.txt", &pools.text());
+    write(directory, "pools.txt", &tiny.text());
+    write(directory, "README.md", &(readme(&fixed, &sample) + &pools_readme(&pools, &tiny)));
 }

@@ -2,12 +2,14 @@
 //! each expected value.
 
 mod limits;
+mod pools;
 mod random;
 mod spaces;
 mod starred;
 
 use std::collections::HashSet;
 
+use inputs::pool_vectors::PoolVector;
 use inputs::vectors::{Call, Expected, Op, Vector};
 use model::Citing;
 
@@ -31,28 +33,68 @@ pub enum Source {
     Model,
 }
 
+/// What a line of a list holds.
+pub trait Listed {
+    fn print(&self) -> String;
+    fn refusal(&self) -> u8;
+}
+
+impl Listed for Vector {
+    fn print(&self) -> String {
+        Vector::print(self)
+    }
+
+    fn refusal(&self) -> u8 {
+        self.expected.refusal
+    }
+}
+
+impl Listed for PoolVector {
+    fn print(&self) -> String {
+        PoolVector::print(self)
+    }
+
+    fn refusal(&self) -> u8 {
+        self.expected.answer.refusal
+    }
+}
+
 /// Named parts of a list, and its lines.
-#[derive(Default)]
-pub struct List {
-    pub vectors: Vec<(Vector, Source)>,
+pub struct List<V = Vector> {
+    pub vectors: Vec<(V, Source)>,
     /// Title and number of the first line, counted from 1.
     pub sections: Vec<(&'static str, usize)>,
     seen: HashSet<String>,
 }
 
-impl List {
+impl<V> Default for List<V> {
+    fn default() -> List<V> {
+        List { vectors: Vec::new(), sections: Vec::new(), seen: HashSet::new() }
+    }
+}
+
+impl<V: Listed> List<V> {
     fn section(&mut self, title: &'static str) {
         self.sections.push((title, self.vectors.len() + 1));
     }
 
-    /// Adds a call unless the list has it already.
-    fn add(&mut self, call: Call) -> Expected {
-        let expected = model_answers(Citing::ByBlock, &call);
-        let vector = Vector { call, expected: expected.clone() };
+    /// Adds a vector unless the list has it already.
+    fn put(&mut self, vector: V, source: impl FnOnce(&V) -> Source) {
         if self.seen.insert(vector.print()) {
             let source = source(&vector);
             self.vectors.push((vector, source));
         }
+    }
+
+    pub fn text(&self) -> String {
+        self.vectors.iter().map(|(vector, _)| vector.print() + "\n").collect()
+    }
+}
+
+impl List {
+    fn add(&mut self, call: Call) -> Expected {
+        let expected = model_answers(Citing::ByBlock, &call);
+        self.put(Vector { call, expected: expected.clone() }, source);
         expected
     }
 
@@ -99,10 +141,6 @@ impl List {
         for (lines_len, events_len) in pairs {
             self.add(Call { lines_len, events_len, ..exact.clone() });
         }
-    }
-
-    pub fn text(&self) -> String {
-        self.vectors.iter().map(|(vector, _)| vector.print() + "\n").collect()
     }
 }
 
@@ -165,6 +203,8 @@ fn refused_source(vector: &Vector) -> Source {
     assert_eq!(rust, *expected, "{}", vector.print());
     Source::RustRefusal
 }
+
+pub use pools::{fixed as fixed_pools, sample as sample_pools};
 
 /// The list for the repository's own tests.
 pub fn fixed(seed: u64) -> List {

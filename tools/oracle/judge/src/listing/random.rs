@@ -9,7 +9,7 @@ use super::List;
 use crate::compare::roomy;
 
 /// Smaller than tiny: for a checker that computes on definitions.
-const SMALLEST: Size = Size {
+pub const SMALLEST: Size = Size {
     persons: 3,
     booleans: 2,
     relations: 1,

@@ -1,4 +1,4 @@
-//! A folder of cases: its plan, its names, and which of its files are cases.
+//! A folder of cases: its plan, its names, its amounts, and which of its files are cases.
 
 use std::ffi::{OsStr, OsString};
 use std::io;
@@ -6,6 +6,7 @@ use std::path::{Path, PathBuf};
 use std::sync::Arc;
 
 use lukhveri::Plan;
+use lukhveri::amounts::Amounts;
 use lukhveri::files;
 use lukhveri::names::Names;
 
@@ -21,12 +22,23 @@ pub struct CommonPlan {
     pub bytes: Arc<Vec<u8>>,
 }
 
+/// What is the same for all folders.
+#[derive(Clone)]
+pub struct Common {
+    /// A plan in place of their own.
+    pub plan: Option<CommonPlan>,
+    /// Whether amounts are pooled.
+    pub amounts: bool,
+}
+
 /// What the cases of a folder share.
 pub struct Folder {
     pub path: PathBuf,
     /// The plan's bytes, or why there are none.
     pub plan: Result<Arc<Vec<u8>>, String>,
     pub names: Names,
+    /// The amounts that are pooled, or why there are none; nothing where none are asked for.
+    pub amounts: Option<Result<Amounts, String>>,
 }
 
 /// What a folder holds.
@@ -60,12 +72,17 @@ fn is_bin(name: &OsStr) -> bool {
 }
 
 impl Contents {
-    /// Everything named *.bin is a case, but plan.bin and the plan for all folders.
-    pub fn list(folder: &Path, plan: Option<&CommonPlan>) -> io::Result<Contents> {
-        let plan = plan.and_then(|plan| plan.path.canonicalize().ok());
+    /// Everything named *.bin is a case, but plan.bin, the plan for all folders, and amounts.bin.
+    pub fn list(folder: &Path, common: &Common) -> io::Result<Contents> {
+        let plan = common.plan.as_ref().and_then(|plan| plan.path.canonicalize().ok());
         let mut contents = Contents::default();
         for entry in folder.read_dir()? {
-            contents.add(folder, entry?.file_name(), plan.as_deref());
+            let name = entry?.file_name();
+            match name == "amounts.bin" || name == "amounts.csv" {
+                false => contents.add(folder, name, plan.as_deref()),
+                true if common.amounts => {}
+                true => contents.others.push(name),
+            }
         }
         contents.cases.sort();
         contents.others.sort();
@@ -121,11 +138,11 @@ impl Contents {
 }
 
 impl Folder {
-    /// Plan and names, with what is to be said of them.
-    pub fn open(path: &Path, common: Option<&CommonPlan>) -> (Folder, Vec<Remark>) {
+    /// Plan, names and amounts of a folder with so many cases, with what is to be said of them.
+    pub fn open(path: &Path, common: &Common, cases: usize) -> (Folder, Vec<Remark>) {
         let mut remarks = Vec::new();
         let own = path.join("plan.bin");
-        let plan = match common {
+        let plan = match &common.plan {
             Some(plan) => Ok(plan.bytes.clone()),
             None => files::read_plan(&own).map(Arc::new),
         };
@@ -134,8 +151,27 @@ impl Folder {
             format!("plan.bin: {}", fault.fault)
         });
         let names = named(path, plan.as_deref().ok(), &mut remarks);
-        (Folder { path: path.to_path_buf(), plan, names }, remarks)
+        let amounts = common.amounts.then(|| amounts(path, cases, &mut remarks));
+        (Folder { path: path.to_path_buf(), plan, names, amounts }, remarks)
     }
+}
+
+/// The amounts of a folder, or what a row says in their place, which is said of the folder, too.
+fn amounts(folder: &Path, cases: usize, remarks: &mut Vec<Remark>) -> Result<Amounts, String> {
+    let why = match files::read_amounts(folder) {
+        Ok(Amounts::Bytes(_)) if cases > 1 => format!(
+            "amounts.bin says of no amount whose it is, and there are {cases} cases; write amounts.csv, or give each case a folder"
+        ),
+        Ok(amounts) => return Ok(amounts),
+        Err(fault) => match fault.path.strip_prefix(folder) {
+            Ok(file) if !file.as_os_str().is_empty() => {
+                format!("{}: {}", file.display(), fault.fault)
+            }
+            _ => fault.fault.to_string(),
+        },
+    };
+    remarks.push(Remark::trouble(folder, &why));
+    Err(why)
 }
 
 /// The names of a folder; none where names.txt has a fault, which is said.
@@ -144,7 +180,7 @@ fn named(folder: &Path, plan: Option<&Vec<u8>>, remarks: &mut Vec<Remark>) -> Na
     match read_names(folder) {
         Err(fault) => {
             remarks.push(Remark::trouble(&path, format!("{}; no names are used", fault.fault)));
-            Names::default()
+            Names::unused()
         }
         Ok(names) => {
             let plan = plan.and_then(|bytes| Plan::read(bytes).ok());

@@ -6,6 +6,7 @@
 mod csv;
 mod folder;
 mod names_of_folders;
+mod pools;
 mod progress;
 mod rows;
 mod source;
@@ -21,7 +22,7 @@ use crate::arguments::Arguments;
 use crate::files::read_plan;
 use crate::outcome::{Outcome, Trouble};
 use crate::refused::Refused;
-use folder::CommonPlan;
+use folder::{Common, CommonPlan};
 use rows::Style;
 
 /// The plan for all folders, if one is given; a refused one would refuse every case.
@@ -51,5 +52,6 @@ pub fn run(arguments: &Arguments) -> Result<Outcome, Trouble> {
     }
     let style = if arguments.has("--json") { Style::Json } else { Style::Csv };
     let words: Vec<PathBuf> = arguments.words().iter().map(PathBuf::from).collect();
-    table::print_table(words, plan, style, !arguments.has("--rows"))
+    let common = Common { plan, amounts: arguments.has("--amounts") };
+    table::print_table(words, common, style, !arguments.has("--rows"))
 }

@@ -5,7 +5,7 @@ use std::io::{self, IsTerminal, Write};
 use std::path::PathBuf;
 use std::time::{Duration, Instant};
 
-use crate::batch::folder::{CommonPlan, Contents};
+use crate::batch::folder::{Common, Contents};
 use crate::batch::names_of_folders::is_input;
 use crate::batch::rows::Fate;
 use crate::output::complain;
@@ -31,22 +31,22 @@ pub struct Progress {
 }
 
 /// The cases of all folders; none where folders come from the standard input.
-fn count(words: &[PathBuf], plan: Option<&CommonPlan>) -> Option<u64> {
+fn count(words: &[PathBuf], common: &Common) -> Option<u64> {
     if words.iter().any(|word| is_input(word)) {
         return None;
     }
-    let cases = |word: &PathBuf| Contents::list(word, plan).map_or(0, |found| found.cases.len());
+    let cases = |word: &PathBuf| Contents::list(word, common).map_or(0, |found| found.cases.len());
     Some(words.iter().map(|word| cases(word) as u64).sum())
 }
 
 impl Progress {
-    pub fn new(words: &[PathBuf], plan: Option<&CommonPlan>) -> Progress {
+    pub fn new(words: &[PathBuf], common: &Common) -> Progress {
         let start = Instant::now();
         // Where rows go to the terminal, too, a bar would stand among them.
         let watched = io::stderr().is_terminal() && !io::stdout().is_terminal();
         let drawn = watched.then_some(start);
         // Nobody else needs the count, and folders are read for it.
-        let all = drawn.and_then(|_| count(words, plan));
+        let all = drawn.and_then(|_| count(words, common));
         let (answered, refused, unreadable, persons) = (0, 0, 0, 0);
         Progress { answered, refused, unreadable, persons, start, drawn, all, visible: false }
     }

@@ -7,12 +7,13 @@ use lukhveri::{Answered, Buffers, Line, Refusal, files};
 
 use crate::batch::csv::row;
 use crate::batch::folder::Folder;
+use crate::batch::pools;
 use crate::json::Json;
 use crate::lines;
 use crate::refused::Refused;
 
-/// The columns of the table.
-const COLUMNS: [&str; 12] = [
+/// The columns of the table of persons.
+pub const COLUMNS: [&str; 12] = [
     "case",
     "person",
     "name",
@@ -27,6 +28,9 @@ const COLUMNS: [&str; 12] = [
     "reason",
 ];
 
+/// Columns between the case and those of a refusal.
+const SAID: usize = COLUMNS.len() - 4;
+
 #[derive(Clone, Copy, Debug, PartialEq, Eq)]
 pub enum Style {
     Csv,
@@ -35,10 +39,10 @@ pub enum Style {
 
 impl Style {
     /// What stands above all rows.
-    pub fn heading(self) -> Vec<u8> {
-        let mut text = Vec::new();
+    pub fn heading(self, columns: &[&str]) -> Vec<u8> {
+        let (mut text, columns) = (Vec::new(), columns.iter().map(|name| name.as_bytes()));
         if self == Style::Csv {
-            row(&COLUMNS.map(str::as_bytes), &mut text);
+            row(&columns.collect::<Vec<_>>(), &mut text);
         }
         text
     }
@@ -56,6 +60,14 @@ pub enum Fate {
 pub struct Rows {
     pub text: Vec<u8>,
     pub fate: Fate,
+    /// What is wrong with the folder's table of amounts, if anything is.
+    pub faulty_table: Option<String>,
+}
+
+impl Rows {
+    pub fn new(text: Vec<u8>, fate: Fate) -> Rows {
+        Rows { text, fate, faulty_table: None }
+    }
 }
 
 /// A case, and how its rows are written.
@@ -66,7 +78,7 @@ pub struct CaseFile<'a> {
 }
 
 /// The numbers of a cell, parted by blanks.
-fn cell(numbers: impl IntoIterator<Item = u8>) -> String {
+pub fn cell(numbers: impl IntoIterator<Item = u8>) -> String {
     let numbers = numbers.into_iter().map(|number| number.to_string());
     numbers.collect::<Vec<_>>().join(" ")
 }
@@ -76,16 +88,20 @@ impl CaseFile<'_> {
         self.folder.path.join(self.file)
     }
 
-    /// Answers the case over the folder's plan.
+    /// Answers the case over the folder's plan, and pools the folder's amounts if they are asked for.
     pub fn answer(&self, buffers: &mut Buffers) -> Rows {
         let bytes = files::read_case(&self.path()).map_err(|fault| fault.fault.to_string());
         let (case, plan) = match (&bytes, &self.folder.plan) {
             (Err(error), _) | (_, Err(error)) => return self.unreadable(error),
             (Ok(case), Ok(plan)) => (case, plan),
         };
-        match buffers.answer(plan, case) {
-            Ok(answered) => self.answered(&answered),
-            Err(refusal) => self.refused(&refusal, plan, case),
+        match &self.folder.amounts {
+            Some(Err(error)) => self.unreadable(error),
+            Some(Ok(amounts)) => self.pool(amounts, plan, case, buffers),
+            None => match buffers.answer(plan, case) {
+                Ok(answered) => self.answered(&answered),
+                Err(refusal) => self.refused(&refusal, plan, case),
+            },
         }
     }
 
@@ -95,10 +111,10 @@ impl CaseFile<'_> {
             self.person(&line, &mut text);
             persons += 1;
         }
-        Rows { text, fate: Fate::Answered { persons } }
+        Rows::new(text, Fate::Answered { persons })
     }
 
-    fn object(&self) -> Json {
+    pub fn object(&self) -> Json {
         Json::object([("case", self.path().to_string_lossy().as_ref().into())])
     }
 
@@ -116,7 +132,7 @@ impl CaseFile<'_> {
         self.row(&rest, ["", "", ""], text);
     }
 
-    fn refused(&self, refusal: &Refusal, plan: &[u8], case: &[u8]) -> Rows {
+    pub fn refused(&self, refusal: &Refusal, plan: &[u8], case: &[u8]) -> Rows {
         let refused = Refused { refusal, plan, case, names: &self.folder.names };
         let mut text = Vec::new();
         match self.style {
@@ -125,26 +141,31 @@ impl CaseFile<'_> {
             }
             Style::Csv => {
                 let (number, record) = (refusal.number().to_string(), refusal.record().to_string());
-                self.row(&[""; 8], [&number, &record, &refused.reason()], &mut text);
+                self.row(self.nothing(), [&number, &record, &refused.reason()], &mut text);
             }
         }
-        Rows { text, fate: Fate::Refused }
+        Rows::new(text, Fate::Refused)
     }
 
-    fn unreadable(&self, error: &str) -> Rows {
+    pub fn unreadable(&self, error: &str) -> Rows {
         let (mut text, why) = (Vec::new(), format!("unreadable: {error}"));
         match self.style {
             Style::Json => text.extend(self.object().with("error", why).line().into_bytes()),
-            Style::Csv => self.row(&[""; 8], ["", "", &why], &mut text),
+            Style::Csv => self.row(self.nothing(), ["", "", &why], &mut text),
         }
-        Rows { text, fate: Fate::Unreadable }
+        Rows::new(text, Fate::Unreadable)
     }
 
-    /// A row: the case, what is said of a person, and why nothing is.
-    fn row(&self, person: &[&str; 8], why: [&str; 3], text: &mut Vec<u8>) {
+    /// What is said where there is no answer: nothing between the case and the last three columns.
+    fn nothing(&self) -> &'static [&'static str] {
+        if self.folder.amounts.is_some() { &[""; pools::SAID] } else { &[""; SAID] }
+    }
+
+    /// A row: the case, what is said of a person or a unit, and why nothing is.
+    pub fn row(&self, said: &[&str], why: [&str; 3], text: &mut Vec<u8>) {
         let path = self.path();
         let mut fields = vec![path.as_os_str().as_encoded_bytes()];
-        fields.extend(person.iter().map(|field| field.as_bytes()));
+        fields.extend(said.iter().map(|field| field.as_bytes()));
         fields.extend(why.iter().map(|field| field.as_bytes()));
         row(&fields, text);
     }

@@ -5,7 +5,7 @@ use std::path::{Path, PathBuf};
 use std::sync::Arc;
 use std::sync::mpsc::{Receiver, Sender, SyncSender, sync_channel};
 
-use crate::batch::folder::{CommonPlan, Contents, Folder, Remark};
+use crate::batch::folder::{Common, Contents, Folder, Remark};
 use crate::batch::names_of_folders;
 use crate::batch::rows::{Rows, Style};
 use crate::batch::workers::Job;
@@ -13,6 +13,8 @@ use crate::outcome::plainly;
 
 /// What is printed next.
 pub enum Item {
+    /// A folder begins.
+    Folder,
     Remark(Remark),
     /// The rows of a case, when a worker has them.
     Rows(Receiver<Rows>),
@@ -22,7 +24,7 @@ pub enum Item {
 pub struct Source {
     pub items: SyncSender<Item>,
     pub jobs: Sender<Job>,
-    pub plan: Option<CommonPlan>,
+    pub common: Common,
     pub style: Style,
 }
 
@@ -60,19 +62,20 @@ impl Source {
     }
 
     fn folder(&self, path: &Path) -> Result<(), Gone> {
-        let contents = match Contents::list(path, self.plan.as_ref()) {
+        let contents = match Contents::list(path, &self.common) {
             Ok(contents) => contents,
             Err(error) => {
                 let text = format!("{}: {}", path.display(), no_folder(&error));
                 return self.remark(Remark { text, failed: true });
             }
         };
-        let remarks = contents.remarks(path, self.plan.is_some());
+        let remarks = contents.remarks(path, self.common.plan.is_some());
         remarks.into_iter().try_for_each(|remark| self.remark(remark))?;
         if contents.cases.is_empty() {
             return Ok(());
         }
-        let (folder, remarks) = Folder::open(path, self.plan.as_ref());
+        self.items.send(Item::Folder).map_err(|_| Gone)?;
+        let (folder, remarks) = Folder::open(path, &self.common, contents.cases.len());
         remarks.into_iter().try_for_each(|remark| self.remark(remark))?;
         let folder = Arc::new(folder);
         contents.cases.into_iter().try_for_each(|file| {

@@ -5,9 +5,10 @@ use std::path::PathBuf;
 use std::sync::mpsc::{Receiver, TryRecvError, channel, sync_channel};
 use std::thread;
 
-use crate::batch::folder::CommonPlan;
+use crate::batch::folder::Common;
+use crate::batch::pools;
 use crate::batch::progress::Progress;
-use crate::batch::rows::{Rows, Style};
+use crate::batch::rows::{self, Rows, Style};
 use crate::batch::source::{Item, Source};
 use crate::batch::workers;
 use crate::outcome::{Outcome, Trouble, plainly};
@@ -21,6 +22,8 @@ struct Table<Output: Write> {
     progress: Progress,
     /// Something could not be done, and it was said.
     failed: bool,
+    /// It was said that the table of this folder has faults.
+    told: bool,
 }
 
 impl<Output: Write> Table<Output> {
@@ -38,19 +41,31 @@ impl<Output: Write> Table<Output> {
 
     fn take(&mut self, item: Item) -> io::Result<()> {
         match item {
+            Item::Folder => {
+                self.told = false;
+                Ok(())
+            }
             Item::Remark(remark) => {
-                self.progress.clear();
-                complain(&remark.text);
+                self.say(&remark.text);
                 self.failed |= remark.failed;
                 Ok(())
             }
             Item::Rows(rows) => {
                 let lost = |_| io::Error::other("a worker has ended before its time");
-                let Rows { text, fate } = rows.recv().map_err(lost)?;
+                let Rows { text, fate, faulty_table } = rows.recv().map_err(lost)?;
                 self.progress.add(fate);
+                if let Some(what) = faulty_table.filter(|_| !self.told) {
+                    self.told = true;
+                    self.say(&what);
+                }
                 self.output.write_all(&text)
             }
         }
+    }
+
+    fn say(&mut self, what: &str) {
+        self.progress.clear();
+        complain(what);
     }
 
     fn run(&mut self, items: &Receiver<Item>) -> io::Result<()> {
@@ -72,20 +87,21 @@ impl<Output: Write> Table<Output> {
 /// The table of all cases of all folders.
 pub fn print_table(
     words: Vec<PathBuf>,
-    plan: Option<CommonPlan>,
+    common: Common,
     style: Style,
     heading: bool,
 ) -> Result<Outcome, Trouble> {
     let cannot = |error: io::Error| Trouble::Said(format!("batch: {}", plainly(&error)));
     let ((items, taken), (jobs, work)) = (sync_channel(WINDOW), channel());
-    let progress = Progress::new(&words, plan.as_ref());
+    let progress = Progress::new(&words, &common);
+    let columns = if common.amounts { &pools::COLUMNS[..] } else { &rows::COLUMNS[..] };
     workers::start(work).map_err(cannot)?;
-    let source = Source { items, jobs, plan, style };
+    let source = Source { items, jobs, common, style };
     thread::Builder::new().spawn(move || source.run(words)).map_err(cannot)?;
     let output = BufWriter::with_capacity(1 << 16, io::stdout().lock());
-    let mut table = Table { output, progress, failed: false };
+    let mut table = Table { output, progress, failed: false, told: false };
     if heading {
-        table.output.write_all(&style.heading()).map_err(Trouble::Output)?;
+        table.output.write_all(&style.heading(columns)).map_err(Trouble::Output)?;
     }
     let printed = table.run(&taken);
     table.progress.clear();

@@ -4,6 +4,7 @@ mod check;
 mod circle;
 mod explain;
 mod list;
+mod pool;
 mod show;
 
 use crate::arguments::Arguments;
@@ -28,7 +29,7 @@ impl std::fmt::Debug for Command {
     }
 }
 
-pub const COMMANDS: [Command; 6] = [
+pub const COMMANDS: [Command; 7] = [
     Command { name: "check", help: help::CHECK, flags: &["--json"], valued: &[], run: check::run },
     Command { name: "list", help: help::LIST, flags: &["--json"], valued: &[], run: list::run },
     Command {
@@ -46,10 +47,11 @@ pub const COMMANDS: [Command; 6] = [
         valued: &[],
         run: circle::run,
     },
+    Command { name: "pool", help: help::POOL, flags: &["--json"], valued: &[], run: pool::run },
     Command {
         name: "batch",
         help: help::BATCH,
-        flags: &["--json", "--rows"],
+        flags: &["--amounts", "--json", "--rows"],
         valued: &["--plan"],
         run: batch::run,
     },

@@ -7,4 +7,5 @@ pub const LIST: &str = include_str!("list.txt");
 pub const EXPLAIN: &str = include_str!("explain.txt");
 pub const SHOW: &str = include_str!("show.txt");
 pub const CIRCLE: &str = include_str!("circle.txt");
+pub const POOL: &str = include_str!("pool.txt");
 pub const BATCH: &str = include_str!("batch.txt");

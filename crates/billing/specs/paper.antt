@@ -1,0 +1,3 @@
+-- Document 02's own definitions: what a reader must believe.
+pub mod Pools
+pub mod Pooling

@@ -1,0 +1,4 @@
+// What is made of an answer's lines alone.
+pub mod fields;
+pub mod pools;
+pub mod units;
