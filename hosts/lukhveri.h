@@ -4,15 +4,16 @@
  * target/staticlib/libexports.a, which `rt staticlib exports` makes (x86-64, C calling convention; of the C library it needs memcpy and memset).
  *
  * Rules of use
- *   - Any bytes may be given as plan and case, any numbers as amounts, and buffers of any length and content may be lent: nothing is asked of the
- *     caller but that each pointer reaches as many bytes, or amounts, as its length says. A pointer is never null, also where its length is 0.
- *   - Buffers that are written (lines, events, text, told, and the units of lukhveri_pool) overlap no other buffer of the call. Plan, case and
- *     amounts are only read.
+ *   - Any bytes may be given as plan, case and table, any numbers as amounts, and buffers of any length and content may be lent: nothing is asked of
+ *     the caller but that each pointer reaches as many bytes, or amounts, as its length says. A pointer is never null, also where its length is 0.
+ *   - Buffers that are written (lines, events, text, told, the units of lukhveri_pool, the plan and made of lukhveri_import) overlap no other buffer
+ *     of the call. What else is given is only read.
  *   - Nothing is allocated and nothing is kept between calls: no state, no pointer. Calls from several threads are independent.
- *   - A function that takes told returns the refusal's number, 0 for none, which is also told[LUKHVERI_TOLD_REFUSAL]; all numbers of told are
- *     written. The other two, lukhveri_list and lukhveri_circle, say themselves what they return.
- *   - After a refusal the buffers of lines and events are zero from end to end. After a result the lines and events stand at their start, one
- *     after another, and every byte past them is zero.
+ *   - A function that takes told or made returns the refusal's number, 0 for none, which is also told[LUKHVERI_TOLD_REFUSAL] or
+ *     made[LUKHVERI_MADE_REFUSAL]; all numbers of told and made are written. The other two, lukhveri_list and lukhveri_circle, say themselves what
+ *     they return.
+ *   - After a refusal the buffers of lines and events, and of a plan that is made, are zero from end to end. After a result the lines, the events or
+ *     the plan stand at their start, one after another, and every byte past them is zero.
  *   - A call works on the stack of its thread, which has to be large enough: see LUKHVERI_STACK.
  *
  * Integers in files, lines and events are little-endian. A mask has bit p for person (or fact, citation, piece of evidence) p, bit 0 lowest.
@@ -75,7 +76,7 @@ extern "C" {
 #define LUKHVERI_EVENT_DISCRETION 9 /* -, -, -; persons */
 
 /* Refusals. The record is counted from 0 over the file that is at fault: the plan's if lukhveri_check refuses it, else the case's. It is 0
- * for 8 and 9 and from 11 on. */
+ * for 8 and 9 and from 11 on, but for 16: there it is the row of the table. */
 #define LUKHVERI_MALFORMED 1            /* cut short, unknown kind or bit, falling kind, value or count outside its range */
 #define LUKHVERI_PAST_LIMIT 2           /* more records of a kind, or more unresolved decisions, than there may be */
 #define LUKHVERI_INCOMPLETE 3           /* required field missing, wrong set of bits, no heading at the start */
@@ -91,6 +92,8 @@ extern "C" {
 #define LUKHVERI_EVENTS_DO_NOT_FIT 13   /* 12 bytes for each event */
 #define LUKHVERI_NO_SUCH_WORLD 14       /* also where the roster is not complete or no world is admissible */
 #define LUKHVERI_AMOUNTS_DO_NOT_FIT 15  /* the list of amounts is not as long as the roster */
+#define LUKHVERI_BROKEN_ROW 16          /* a row of the table breaks its form; the first such row, the header's being 0 */
+#define LUKHVERI_PLAN_DOES_NOT_FIT 17   /* the plan of the table is longer than its buffer */
 
 /* The seven numbers that a call tells. Count and maximum are those of refusal 11, else 0; the last three are 0 after a refusal. */
 #define LUKHVERI_TOLD 7
@@ -106,6 +109,12 @@ extern "C" {
 #define LUKHVERI_POOL_TOLD 9
 #define LUKHVERI_TOLD_UNITS 7
 #define LUKHVERI_TOLD_UNPLACED 8 /* cents */
+
+/* The three numbers of lukhveri_import. */
+#define LUKHVERI_MADE 3
+#define LUKHVERI_MADE_REFUSAL 0
+#define LUKHVERI_MADE_RECORD 1 /* the row of refusal 16, else 0 */
+#define LUKHVERI_MADE_LENGTH 2 /* bytes of the plan; 0 after a refusal */
 
 /* Entries of each array of units. Nobody is in two units, so that there are no more. */
 #define LUKHVERI_UNITS 64
@@ -126,6 +135,9 @@ extern "C" {
 
 /* Bytes that hold every text of the lister. */
 #define LUKHVERI_TEXT_LENGTH 13216
+
+/* Bytes that hold the plan of every table: 17 never comes. */
+#define LUKHVERI_IMPORTED_LENGTH 550
 
 /* Bytes of stack that are enough for a call, whatever is lent: hosts/measure found 97,015. Many events take little time: an answer with 4,096
  * of kind 9 took 2 ms, one with 16,384 took 21 ms. */
@@ -165,6 +177,16 @@ size_t lukhveri_list(const uint8_t *plan, size_t plan_length, const uint8_t *cas
  * constraints alone make a circle. 0 for a person above 63, for a plan that lukhveri_check refuses, and for a case that is refused by 1 to 4; a
  * case that a later number refuses has circles. */
 uint64_t lukhveri_circle(const uint8_t *plan, size_t plan_length, const uint8_t *case_bytes, size_t case_length, uint8_t person);
+
+/* Makes the plan of a table of rules, as a spreadsheet exports it by RFC 4180: fields parted by commas, any of them in quotation marks, rows ended by
+ * CR LF, which the last may lack; a CR or LF by itself breaks the quoting. The first row is kind,left,right,citation. Below it each row is a rule
+ * that always holds: base or combination, the persons left and right, a citation; or status, the person left, who is excluded from the relief while
+ * the place in the unit stays, nothing, a citation. Persons and citations are 0 to 63, in base ten, without leading zeros. Edges come before statuses
+ * in the plan, both in the order of their rows; its heading has roster relation 1 and no base-chain citation, so that three or more persons joined by
+ * base need a row for each two of them: a mere chain is left to discretion. lukhveri_check accepts the plan.
+ * LUKHVERI_BROKEN_ROW, which is asked first, names the first row that breaks the quoting, the header, the count of fields, a word, a number's form
+ * or range, a status's empty field or the plan's limit of edges or statuses. */
+uint8_t lukhveri_import(const uint8_t *table, size_t table_length, uint8_t *plan, size_t plan_length, uint64_t made[LUKHVERI_MADE]);
 
 #ifdef __cplusplus
 }

@@ -1,5 +1,5 @@
-/* measure: how long an answer with many events of kind 9 takes, and how much stack the calls use that answer it, list it, pool amounts and find a
- * circle, for what lukhveri.h says of time and stack.
+/* measure: how long an answer with many events of kind 9 takes, and how much stack the calls use that answer it, list it, pool amounts, find a
+ * circle and import a table as long as a plan can hold, for what lukhveri.h says of time and stack.
  *
  * The plan has stars of Base edges: two arms that are always there, twelve that come and go with twelve open facts. So there are 4,096 worlds, in each
  * of which each star is another component that is left to discretion. */
@@ -21,6 +21,10 @@ static uint32_t amounts[LUKHVERI_PERSONS];
 static uint8_t open[LUKHVERI_UNITS];
 static size_t listed;
 static uint64_t circle;
+static char table[4096];
+static size_t table_length;
+static uint8_t imported[LUKHVERI_IMPORTED_LENGTH];
+static uint64_t made[LUKHVERI_MADE];
 static double best;
 static uintptr_t top;
 
@@ -56,6 +60,17 @@ static void make_case(uint8_t stars) {
     memcpy(roster_case + 13, (uint8_t[]){0, 0, 16}, 3);
 }
 
+static void put_rows(const char *row, int count) {
+    for (; count > 0; count--) table_length += sprintf(table + table_length, "%s\r\n", row);
+}
+
+/* As many edges and statuses as there may be. */
+static void make_table(void) {
+    put_rows("kind,left,right,citation", 1);
+    put_rows("\"combination\",\"62\",\"63\",\"63\"", 64);
+    put_rows("\"status\",\"63\",\"\",\"63\"", 32);
+}
+
 static double seconds(void) {
     struct timespec now;
     clock_gettime(CLOCK_THREAD_CPUTIME_ID, &now);
@@ -76,6 +91,7 @@ static void *call(void *nothing) {
     lukhveri_pool(plan, plan_length, roster_case, sizeof roster_case, amounts, told[LUKHVERI_TOLD_LINES], lines, sizeof lines, events,
                   sizeof events, blocks, pools, open, pool_told);
     circle = lukhveri_circle(plan, plan_length, roster_case, sizeof roster_case, 0);
+    lukhveri_import((const uint8_t *)table, table_length, imported, sizeof imported, made);
     return nothing;
 }
 
@@ -92,12 +108,14 @@ static int measure(uint8_t stars, uint8_t *stack) {
     while (untouched < STACK && stack[untouched] == PAINT) untouched++;
     printf("%6d %8d %8d %10.2f %8d\n", (int)told[LUKHVERI_TOLD_REFUSAL], (int)told[LUKHVERI_TOLD_WORLDS], (int)told[LUKHVERI_TOLD_EVENTS],
            best * 1e3, (int)(top - (uintptr_t)(stack + untouched)));
-    return told[LUKHVERI_TOLD_REFUSAL] == 0 && pool_told[LUKHVERI_TOLD_REFUSAL] == 0 && listed > 0 && circle != 0;
+    return told[LUKHVERI_TOLD_REFUSAL] == 0 && pool_told[LUKHVERI_TOLD_REFUSAL] == 0 && listed > 0 && circle != 0 &&
+           made[LUKHVERI_MADE_LENGTH] == LUKHVERI_IMPORTED_LENGTH;
 }
 
 int main(void) {
     uint8_t *stack = mmap(NULL, STACK, PROT_READ | PROT_WRITE, MAP_PRIVATE | MAP_ANONYMOUS, -1, 0);
     int fine = stack != MAP_FAILED;
+    make_table();
     puts("refusal   worlds   events milliseconds  stack");
     for (uint8_t stars = 1; fine && stars <= MOST_STARS; stars *= 2) fine = measure(stars, stack);
     if (!fine) fputs("measure: a call was refused, or there is no thread for it\n", stderr);

@@ -6,6 +6,8 @@ use Rattle.sets.specs.paper.Sets.{only}
 use Rattle.report.specs.paper.Operations.{Told, told, Outcome}
 use Rattle.billing.specs.paper.Pooling.{PoolOutcome}
 use Rattle.billing.specs.Shown.{padded}
+use Rattle.records.specs.paper.Fields.{Verdict, fine, refused}
+use Rattle.encoding.specs.paper.Placed.{Kept}
 
 unfoldable pub numbers : Told → List ℕ
 numbers t = t .refusal ∷ t .«record» ∷ t .count ∷ t .maximum ∷ t .lines ∷ t .events ∷ t .worlds ∷ []
@@ -40,3 +42,25 @@ handedPools p = record {
   pools = padded 0 (map (λ u. u .cents) (p .units));
   marks = padded 0 (map (λ u. only (u .marked) 1) (p .units));
 }
+
+-- ---- plan bytes that were made
+
+-- 0 for no refusal
+abbrev pub madeRefusal : Verdict ℕ → ℕ
+madeRefusal (fine n) = 0
+madeRefusal (refused n k) = n
+
+-- the refusal, its record, the plan's length
+abbrev pub madeNumbers : Verdict ℕ → List ℕ
+madeNumbers (fine n) = 0 ∷ 0 ∷ n ∷ []
+madeNumbers (refused n k) = n ∷ k ∷ 0 ∷ []
+
+pub record HandedPlan : Type 0 where
+  -- the refusal's number, 0 for none
+  pub result : ℕ
+  pub made : List ℕ
+  -- every byte of the lent buffer
+  pub plan : List ℕ
+
+abbrev pub handedPlan : Kept → HandedPlan
+handedPlan k = record { result = madeRefusal (k .answer); made = madeNumbers (k .answer); plan = k .bytes }

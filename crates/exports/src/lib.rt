@@ -1,10 +1,13 @@
-// What a host links: the operations, pools, the lister's work and a person's circle, under C names.
+// What a host links: the operations, pools, the lister's work, a person's circle and imported plans, under C names.
 mod circle;
+mod made;
 mod pools;
 mod tell;
 
 use circle::circle_in;
+use drafting::import::import;
 use listing::list::list;
+use made::tell_made;
 use pooling::pool;
 use pools::mark_bytes;
 use pools::tell_pools;
@@ -17,7 +20,8 @@ ghost use lib.ListN.{length};
 ghost use Rattle.report.specs.paper.Operations.{told as toldOf, check as checkOf, answer as answerOf, show as showOf};
 ghost use Rattle.listing.specs.Shown.{Listed};
 ghost use Rattle.billing.specs.paper.Pooling.{pool as poolOver};
-ghost use Rattle.exports.specs.Handed.{numbers, handed, handedPools};
+ghost use Rattle.drafting.specs.paper.Importing.{imported};
+ghost use Rattle.exports.specs.Handed.{numbers, handed, handedPools, handedPlan};
 ghost use Rattle.exports.specs.Circled.{circleIn};
 
 // Check a plan: the refusal's number, 0 for none. The seven numbers of document 01 go behind the reference.
@@ -108,4 +112,13 @@ pub extern "C" fn lukhveri_circle(plan: &[u8], case: &[u8], person: u8) -> u64
     ensures { λ r. ⌜ r ≡ circleIn (now (plan .entry)) (now (case .entry)) person ⌝ }
 {
     circle_in(plan, case, person)
+}
+
+// Import a table: the plan's bytes go to the start of `plan`, zeros behind them. The three numbers: the refusal, its row, the plan's length.
+#[no_mangle]
+pub extern "C" fn lukhveri_import(table: &[u8], plan: &mut [u8], made: &mut [u64; 3]) -> u8
+    ensures { λ r. ⌜ record { result = r; made = now (made .exit); plan = now (plan .exit) } ≡ handedPlan (imported (now (table .entry)) (length (now (plan .entry)))) ⌝ }
+{
+    let found = import(table, plan);
+    tell_made(found, made)
 }

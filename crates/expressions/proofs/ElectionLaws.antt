@@ -14,7 +14,8 @@ use Rattle.records.specs.declared.plan.Election.{Election}
 use Rattle.records.specs.declared.plan.Cuts.{Cuts}
 use Rattle.records.specs.declared.plan.Attachments.{Attachments}
 use Rattle.expressions.specs.paper.Bindings.{elections, electionsIn, defaultOf}
-use Rattle.expressions.proofs.ListLaws.{flat-append, changed-at}
+use Rattle.records.proofs.UsedLaws.{flat-append}
+use Rattle.expressions.proofs.ListLaws.{changed-at}
 use Rattle.expressions.proofs.Rests.{made-next, made-none}
 
 -- one record more: its election if it is on the fact

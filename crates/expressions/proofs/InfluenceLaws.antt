@@ -16,7 +16,7 @@ use Rattle.expressions.specs.paper.Influence.{Frame, touch, decisionTouc
 use Rattle.expressions.specs.paper.Bindings.{Bound, bindingAt}
 use Rattle.expressions.specs.code.Influences.{closed, closedIf, influenceBy}
 use Rattle.expressions.specs.declared.reach.Reach.{Reach}
-use Rattle.expressions.proofs.ListLaws.{used-take}
+use Rattle.records.proofs.UsedLaws.{used-take}
 use Rattle.expressions.specs.paper.Variables.{isVariable, factInfluence, decisionInfluence}
 
 -- of the front of a list

@@ -1,50 +1,21 @@
--- Laws of lists that a loop goes through: what is left from an index on, of the entries in use of an array.
+-- Laws of lists that a loop goes through: made from the entries in use of an array, or stored in one.
 use Prim.Native.Nat.{ℕ, zero, suc, _+_, _≤_, _<_, min}
 use mathlib.Core.Path.{_≡_, refl, sym, ap, ap₂, _∙_, subst}
 use mathlib.Core.Bool.{Bool, true, false, _&&_, _||_, cond, or-assoc, or-false}
 use mathlib.Core.Logic.{⊎-elim}
-use mathlib.Core.List.{append-assoc, List, [], _∷_, _++_, map, map-append, map-map, flatMap}
+use mathlib.Core.List.{append-assoc, List, [], _∷_, _++_, map, map-append, map-map}
 use native.Mathlib.Numerals.{add-one}
 use native.Mathlib.Omega.{arith}
-use lib.ListN.{length, getD, take, drop, set, replicate, length-take, drop-of-length-le}
+use lib.ListN.{length, getD, take, set, replicate}
 use lib.Dec.{eqb}
-use lib.Seq.{ext-getD, getD-set-same, getD-set-other, take-suc-set, drop-cons, getD-take, take-suc, take-all, length-take-le}
+use lib.Seq.{ext-getD, getD-set-same, getD-set-other, take-suc-set, getD-take, take-suc, take-all, length-take-le}
 use borrow.Author.Tests.{eqb-true, eqb-false}
 use Rattle.sets.specs.paper.Sets.{allOf, anyOf, numbers, below, All}
 use Rattle.sets.proofs.LoopLaws.{getD-below, getD-past, length-below, all-at}
 use Rattle.sets.proofs.SetLaws.{lt-or-le}
-use Rattle.records.proofs.ListLaws.{length-front, getD-front, take-min}
+use Rattle.records.proofs.ListLaws.{length-front, getD-front}
 use Rattle.records.proofs.Listing.{below-more}
 use Rattle.expressions.specs.code.Coded.{Holds}
-
--- what is left of a list, in the code's i + 1
-pub rest-next : {A : Type 0} (xs : List A) (i : ℕ) (d : A) → i < length xs → drop i xs ≡ getD xs i d ∷ drop (i + 1) xs
-rest-next xs i d h = drop-cons xs i d h ∙ ap (λ (k : ℕ). getD xs i d ∷ drop k xs) (sym (add-one i))
-
--- ---- the entries in use: n of them, as many as the count says and no more than there are
-
-module _ {A : Type 0} (xs : List A) (count most n : ℕ) (long : length xs ≡ most) (some : n ≡ min count most) where
-  pub used-length : length (take count xs) ≡ n
-  used-length = length-take count xs ∙ ap (min count) long ∙ sym some
-
-  pub used-at : (i : ℕ) (d : A) → i < n → getD (take count xs) i d ≡ getD xs i d
-  used-at i d h = getD-take count xs i d (omega arith)
-
-  -- what holds of each
-  pub used-each : (Q : A → Type 0) (i : ℕ) (d : A) → i < n → All Q (take count xs) → Q (getD xs i d)
-  used-each Q i d h q = let l = used-length in subst Q (used-at i d h) (all-at Q (take count xs) d i q (omega arith))
-
-  -- one entry more, at the code's i + 1
-  pub used-next : (i : ℕ) (d k : A) → i < n → k ≡ getD xs i d → drop i (take count xs) ≡ k ∷ drop (i + 1) (take count xs)
-  used-next i d k h e =
-      let l = used-length in
-      rest-next (take count xs) i d (omega arith) ∙ ap (λ (x : A). x ∷ drop (i + 1) (take count xs)) (used-at i d h ∙ sym e)
-
-  pub used-end : (i : ℕ) → n ≤ i → drop i (take count xs) ≡ []
-  used-end i h = let l = used-length in let k : length (take count xs) ≤ i = omega arith in drop-of-length-le (take count xs) k
-
-  pub used-take : take n xs ≡ take count xs
-  used-take = ap (λ (k : ℕ). take k xs) some ∙ take-min count most xs long
 
 -- ---- a list made from the entries of an array, one entry at a time
 
@@ -94,17 +65,12 @@ module _ {A : Type 0} (f : A → Bool) (k : A) (rest : List A) where
   unfolding anyOf
   any-stop e = ap (λ (b : Bool). b || anyOf f rest) e
 
--- ---- one entry more at the end, and a list behind another
+-- ---- one entry more at the end
 
 pub any-last : {A : Type 0} (f : A → Bool) (xs : List A) (x : A) → anyOf f (xs ++ (x ∷ [])) ≡ (anyOf f xs || f x)
 unfolding anyOf
 any-last f [] x = or-false (f x)
 any-last f (y ∷ xs) x = ap (λ (b : Bool). f y || b) (any-last f xs x) ∙ sym (or-assoc (f y) (anyOf f xs) (f x))
-
-pub flat-append : {A B : Type 0} (f : A → List B) (xs ys : List A) → flatMap f (xs ++ ys) ≡ flatMap f xs ++ flatMap f ys
-unfolding flatMap
-flat-append f [] ys = refl
-flat-append f (x ∷ xs) ys = ap (λ (l : List _). f x ++ l) (flat-append f xs ys) ∙ sym (append-assoc (f x) (flatMap f xs) (flatMap f ys))
 
 -- an entry where the test holds
 pub length-if : {A : Type 0} (b : Bool) (x : A) → length (cond b (x ∷ []) []) ≡ cond b 1 0

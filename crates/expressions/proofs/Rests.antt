@@ -7,7 +7,7 @@ use lib.ListN.{length, getD, take, drop, drop-of-length-le}
 use Rattle.sets.specs.paper.Sets.{below}
 use Rattle.sets.proofs.LoopLaws.{length-below, getD-below}
 use Rattle.records.proofs.ListLaws.{length-front, getD-front}
-use Rattle.expressions.proofs.ListLaws.{rest-next}
+use Rattle.records.proofs.UsedLaws.{rest-next}
 
 -- of a list made from the first n of another
 pub made-next : {A B : Type 0} (g : A → B) (xs : List A) (n i : ℕ) (d : A) → i < min n (length xs)

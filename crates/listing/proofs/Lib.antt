@@ -2,8 +2,6 @@ pub mod Alike
 pub mod Counted
 pub mod Prefix
 pub mod Beginning
-pub mod PageLaws
-pub mod DecimalLaws
 pub mod Short
 pub mod PersonLaws
 pub mod RowLaws

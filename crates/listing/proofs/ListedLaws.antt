@@ -5,17 +5,17 @@ use Prim.Native.Nat.{ℕ, zero, suc, _*_, _≤_}
 use native.Mathlib.Omega.{arith}
 use lib.ListN.{length}
 use lib.Seq.{length-take-le}
+use Rattle.page.specs.Page.{Page, puts, begun}
+use Rattle.page.proofs.PageLaws.{puts-begun, begun-inside}
 use Rattle.report.specs.paper.Line.{lineLength}
 use Rattle.report.specs.paper.LineAt.{linesFrom}
 use Rattle.report.specs.declared.Answer.{Answer}
 use Rattle.report.specs.paper.Operations.{told, Outcome, answer}
 use Rattle.report.proofs.FewLines.{lines-few}
 use Rattle.listing.specs.Text.{table, refusedRow}
-use Rattle.listing.specs.Page.{Page, puts, begun}
 use Rattle.listing.specs.Listing.{longest, textOf, outcomeText, listing}
 use Rattle.listing.specs.Shown.{TellsAnswer, Listed}
 use Rattle.listing.specs.declared.list.Told.{Told}
-use Rattle.listing.proofs.PageLaws.{puts-begun, begun-inside}
 
 module _ (plan case lines₀ events₀ lines₁ events₁ : List ℕ) (a : Answer)
     (answered : _≡_ {A = Outcome} (record { answer = a; lines = lines₁; events = events₁ }) (answer plan case (length lines₀) (length events₀)))

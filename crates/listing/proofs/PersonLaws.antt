@@ -5,9 +5,10 @@ use mathlib.Core.List.{List, _∷_, _++_}
 use Prim.Native.Nat.{ℕ}
 use Rattle.sets.specs.paper.Sets.{members, lowest}
 use Rattle.sets.proofs.TurnLaws.{members-none}
-use Rattle.listing.specs.Text.{decimal, further, persons}
-use Rattle.listing.specs.Page.{Page, putByte, puts}
-use Rattle.listing.proofs.PageLaws.{puts-append, puts-first}
+use Rattle.page.specs.Page.{Page, putByte, puts}
+use Rattle.page.specs.Decimal.{decimal}
+use Rattle.page.proofs.PageLaws.{puts-append, puts-first}
+use Rattle.listing.specs.Text.{further, persons}
 
 -- what is still to be put of these persons, `first` if none of the block is put yet
 abbrev pub pending : Bool → List ℕ → List ℕ

@@ -4,14 +4,15 @@ use mathlib.Core.List.{List}
 use Prim.Native.Nat.{ℕ, _+_, _-_, _≤_, _<_}
 use lib.ListN.{length}
 use Rattle.sets.specs.paper.Sets.{members}
+use Rattle.page.specs.Page.{Page, putByte, puts}
+use Rattle.page.specs.Decimal.{decimal}
+use Rattle.page.proofs.PageLaws.{puts-append, put-last, puts-then}
 use Rattle.report.specs.paper.Line.{Line}
 use Rattle.report.specs.paper.LineAt.{lineAt, decoded, linesFrom}
 use Rattle.report.specs.paper.Units.{units}
-use Rattle.listing.specs.Text.{feed, space, decimal, persons, cell, row, rowOf, rows, header, unitsWord, lastRow, table, refusedWord, refusedRow}
-use Rattle.listing.specs.Page.{Page, putByte, puts}
+use Rattle.listing.specs.Text.{feed, space, persons, cell, row, rowOf, rows, header, unitsWord, lastRow, table, refusedWord, refusedRow}
 use Rattle.billing.specs.Shown.{Shows}
 use Rattle.billing.specs.declared.fields.Fields.{Fields}
-use Rattle.listing.proofs.PageLaws.{puts-append, put-last, puts-then}
 use Rattle.billing.proofs.UnitLaws.{lines-next, lines-none}
 
 pub cell-put : (p q r : Page) (m n : ℕ) → m ≡ n → q ≡ puts p (decimal m) → r ≡ putByte q space → r ≡ puts p (cell n)

@@ -9,13 +9,14 @@ use lib.ListN.{length, getD, take, drop, length-append}
 use lib.Seq.{getD-take, getD-drop}
 use lib.Dec.{eqb}
 use Rattle.sets.specs.paper.Sets.{members, membersFrom, when, anyOf}
+use Rattle.page.specs.Decimal.{decimal}
+use Rattle.page.proofs.DecimalLaws.{digits-more, two-digits, three-digits}
 use Rattle.report.specs.paper.Line.{Line, lineLength}
 use Rattle.report.specs.paper.LineAt.{lineAt, decoded, linesFrom}
 use Rattle.report.specs.paper.Units.{joinUnit, unitsWith, units}
 use Rattle.billing.proofs.LinePlaces.{lines-count}
-use Rattle.listing.specs.Text.{decimal, further, persons, cell, row, rowOf, rows, lastRow, table, refusedRow}
+use Rattle.listing.specs.Text.{further, persons, cell, row, rowOf, rows, lastRow, table, refusedRow}
 use Rattle.listing.specs.Listing.{longest}
-use Rattle.listing.proofs.DecimalLaws.{digits-more, two-digits, three-digits}
 
 -- ---- the persons of a block
 

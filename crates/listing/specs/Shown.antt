@@ -3,8 +3,8 @@ use mathlib.Core.Path.{_≡_}
 use mathlib.Core.List.{List}
 use Prim.Native.Nat.{ℕ, _≤_}
 use lib.ListN.{length, take}
+use Rattle.page.specs.Page.{Page, begun}
 use Rattle.report.specs.paper.Operations as operations
-use Rattle.listing.specs.Page.{Page, begun}
 use Rattle.listing.specs.Listing.{longest, listing}
 use Rattle.listing.specs.declared.list.Told.{Told}
 

@@ -1,26 +1,11 @@
 -- The lister's rows as bytes, in ASCII. Document 01, "Line and event": "a line feed ends rows".
-use mathlib.Core.Bool.{cond}
 use mathlib.Core.List.{List, [], _∷_, _++_}
-use Prim.Native.Nat.{ℕ, zero, suc, _+_, _/_, _%_}
+use Prim.Native.Nat.{ℕ}
 use lib.ListN.{length}
-use lib.Dec.{ltb}
 use Rattle.sets.specs.paper.Sets.{members}
+use Rattle.page.specs.Decimal.{decimal}
 use Rattle.report.specs.paper.Line.{Line}
 use Rattle.report.specs.paper.Units.{units}
-
--- ---- numbers in base ten, without leading zeros
-
-abbrev pub digit : ℕ → ℕ
-digit d = 48 + d
-
--- with at most so many digits before the last
-unfoldable pub decimalWith : ℕ → ℕ → List ℕ
-decimalWith zero n = digit n ∷ []
-decimalWith (suc k) n = cond (ltb n 10) (digit n ∷ []) (decimalWith k (n / 10) ++ (digit (n % 10) ∷ []))
-
--- a number has no more digits than its own value and one
-unfoldable pub decimal : ℕ → List ℕ
-decimal n = decimalWith n n
 
 -- ---- the row of a line
 

@@ -1,4 +1,3 @@
 // What the lister prints: the table of a case's lines, or the refusal.
 pub mod list;
-pub mod page;
 pub mod rows;

@@ -1,21 +1,21 @@
 // The lister's work, on slices.
-use crate::page::put;
-use crate::page::put_all;
-use crate::page::put_number;
 use crate::rows::put_refused;
 use crate::rows::put_rows;
 use billing::units::units_of;
+use page::number::put_number;
+use page::put;
+use page::put_all;
 use report::Answer;
 use report::operations::answer;
 ghost use mathlib.Core.Path.{_≡_};
 ghost use Prim.Native.Nat.{_*_, _≤_};
 ghost use lib.ListN.{length};
+ghost use Rattle.page.specs.Page.{puts};
 ghost use Rattle.report.specs.paper.Line.{lineLength};
 ghost use Rattle.report.specs.paper.Operations.{told as toldOf};
 ghost use Rattle.report.specs.paper.LineAt.{linesFrom};
 ghost use Rattle.report.specs.paper.Units.{units};
 ghost use Rattle.listing.specs.Text.{table, lastRow};
-ghost use Rattle.listing.specs.Page.{puts};
 ghost use Rattle.listing.specs.Listing.{longest};
 ghost use Rattle.listing.specs.Shown.{TellsAnswer, Listed};
 

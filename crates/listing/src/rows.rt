@@ -1,9 +1,9 @@
 // The rows of the table, and the row of a refusal.
-use crate::page::put;
-use crate::page::put_all;
-use crate::page::put_number;
 use billing::fields::Fields;
 use billing::fields::fields_at;
+use page::number::put_number;
+use page::put;
+use page::put_all;
 use sets::low;
 use sets::numbers::wide;
 use sets::others;
@@ -13,10 +13,11 @@ ghost use mathlib.Core.List.{_∷_};
 ghost use Prim.Native.Nat.{_+_, _*_, _≤_};
 ghost use lib.ListN.{length};
 ghost use Rattle.sets.specs.paper.Sets.{members};
+ghost use Rattle.page.specs.Page.{puts};
+ghost use Rattle.page.specs.Decimal.{decimal};
 ghost use Rattle.report.specs.paper.Line.{lineLength};
 ghost use Rattle.report.specs.paper.LineAt.{linesFrom};
-ghost use Rattle.listing.specs.Text.{decimal, persons, cell, rowOf, rows, refusedRow};
-ghost use Rattle.listing.specs.Page.{puts};
+ghost use Rattle.listing.specs.Text.{persons, cell, rowOf, rows, refusedRow};
 ghost use Rattle.listing.specs.Listing.{longest};
 
 // A person, behind a comma if another stands before.

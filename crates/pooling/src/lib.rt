@@ -2,8 +2,8 @@
 use billing::pools::Pools;
 use billing::pools::no_pools;
 use billing::pools::pools_of;
+use page::clear::clear;
 use report::Answer;
-use report::clear::clear;
 use report::operations::answer;
 ghost use mathlib.Core.Path.{_≡_};
 ghost use mathlib.Core.List.{[]};

@@ -15,7 +15,8 @@ use Rattle.expressions.specs.paper.Variables.{booleanCount, slots, waysOf, worl
 use Rattle.worlds.specs.paper.Active.{flags, active, blocksEdge}
 use Rattle.worlds.specs.paper.World.{about, baseSet, baseSets, clique, loose, looseComponent, looseComponents, spread, chainStep, preceded, keptCut, keptCuts, overlappingCut, overlappingCuts, blockedBy, blockedCut, appliedCuts, discretionSeed, overlapSeed, marksOf, marked, cutMembers, appliedTo, restSets, firstBlock, firstState, move, attach, lastState, barredBy, excludedBy, afterMarks, worldOf}
 use Rattle.worlds.specs.paper.View.{roleOf, edgeCitations, leads, cutCitations, attachmentCitations, barCitations, statusCitations, citations, view}
-use Rattle.worlds.specs.paper.Events.{littleBytes, event, listed, frozenEvents, appliedEvents, blocks, blockedEvents, leastOfMerged, overlaps, overlapEvents, attachmentEvents, barEvents, statusEvents, discretionEvents, eventsOf}
+use Rattle.page.specs.Little.{littleBytes}
+use Rattle.worlds.specs.paper.Events.{event, listed, frozenEvents, appliedEvents, blocks, blockedEvents, leastOfMerged, overlaps, overlapEvents, attachmentEvents, barEvents, statusEvents, discretionEvents, eventsOf}
 use Rattle.report.specs.paper.Line.{lineBytes, firstKind, holding, lineOver, lineIn}
 use Rattle.report.specs.paper.EventList.{insert, rising, defaultEvents}
 use Rattle.report.specs.paper.Operations.{Outcome, check, mismatched, headingFault, tooMany, counted, boundAndCounted, bound, opened, written, influences, allWorlds, linesOver, eventsOver, linesOf, answerReady, answer, showFrom, show}

@@ -2,45 +2,35 @@
 use mathlib.Core.Path.{_≡_, refl, sym, ap, _∙_, subst}
 use mathlib.Core.List.{List, [], _∷_, map}
 use mathlib.Core.Logic.{_⊎_, inl, inr, ⊎-elim}
-use Prim.Native.Nat.{ℕ, zero, suc, _*_, _-_, _/_, _^_, _≤_, _<_}
-use native.Mathlib.Nat.{pow-suc}
+use Prim.Native.Nat.{ℕ, zero, suc, _*_, _-_, _^_, _≤_, _<_}
 use native.Mathlib.Omega.{arith}
 use lib.ListN.{length, getD, take, drop, replicate, take-append-drop, List·getD-eq-default}
 use Rattle.sets.specs.paper.Sets.{All}
 use Rattle.records.specs.paper.Fields.{little}
 use Rattle.sets.proofs.SetLaws.{lt-or-le}
 use Rattle.sets.proofs.Every.{all-parts, all-getD}
-use Rattle.worlds.specs.paper.Events.{littleBytes}
+use Rattle.page.specs.Little.{littleBytes}
+use Rattle.encoding.proofs.FieldsBack.{little-back}
 use Rattle.report.specs.paper.Line.{Line, lineBytes, lineLength, bareLine}
 use Rattle.report.specs.paper.LineAt.{lineAt, decoded}
 use Rattle.report.specs.paper.Operations.{filled}
 use Rattle.report.proofs.LinesAt.{run, line-at, past-lines}
 use Rattle.promises.specs.Partitioned.{personAt, kindAt, roleAt, blockAt}
 
--- ---- numbers as bytes
-
-little-bytes : (n m : ℕ) → m < 256 ^ n → little (littleBytes n m) ≡ m
-unfolding littleBytes little
-little-bytes zero m h = omega arith
-little-bytes (suc n) m h =
-    let less = subst (λ (x : ℕ). m < x) (pow-suc 256 n) h in
-    let ih = little-bytes n (m / 256) (omega arith) in
-    omega arith
-
 -- ---- a line that is read back is the line, where its fields fit their bytes
 
 module _ (l : Line) where
   pub block-back : l .block < 2 ^ 64 → decoded (lineBytes l) .block ≡ l .block
   unfolding decoded lineBytes littleBytes
-  block-back h = little-bytes 8 (l .block) h
+  block-back h = little-back 8 (l .block) h
 
   pub facts-back : l .openFacts < 2 ^ 64 → decoded (lineBytes l) .openFacts ≡ l .openFacts
   unfolding decoded lineBytes littleBytes
-  facts-back h = little-bytes 8 (l .openFacts) h
+  facts-back h = little-back 8 (l .openFacts) h
 
   pub decisions-back : l .openDecisions < 2 ^ 16 → decoded (lineBytes l) .openDecisions ≡ l .openDecisions
   unfolding decoded lineBytes littleBytes
-  decisions-back h = little-bytes 2 (l .openDecisions) h
+  decisions-back h = little-back 2 (l .openDecisions) h
 
   pub decoded-line : l .block < 2 ^ 64 → l .openFacts < 2 ^ 64 → l .openDecisions < 2 ^ 16 → l .citations < 2 ^ 64 → decoded (lineBytes l) ≡ l
   unfolding decoded lineBytes littleBytes
@@ -51,7 +41,7 @@ module _ (l : Line) where
     block = block-back b i;
     openFacts = facts-back f i;
     openDecisions = decisions-back d i;
-    citations = little-bytes 8 (l .citations) c i;
+    citations = little-back 8 (l .citations) c i;
   }
 
 -- ---- zeros

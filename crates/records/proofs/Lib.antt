@@ -21,3 +21,4 @@ pub mod FactLaws
 pub mod FaultLaws
 pub mod DecisionLaws
 pub mod PlanLaws
+pub mod UsedLaws

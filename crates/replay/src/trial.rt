@@ -2,6 +2,7 @@
 use crate::pooled::amounts_of;
 use crate::pooled::page_of;
 use crate::vector::ANSWER;
+use crate::vector::IMPORT;
 use crate::vector::Outcome;
 use crate::vector::POOL;
 use crate::vector::SHOW;
@@ -9,6 +10,8 @@ use crate::vector::Vector;
 use crate::vector::same;
 use billing::pools::Pools;
 use billing::pools::no_pools;
+use drafting::import::import;
+use encoding::made::Made;
 use pooling::PoolAnswer;
 use pooling::pool;
 use report::Answer;
@@ -46,6 +49,25 @@ fn holds(out: &[u8], expected: &[u8]) -> bool {
     true
 }
 
+// A table stands in the plan's place of a line, its plan's bytes and length in those of the lines.
+fn imported(table: &[u8], plan: &mut [u8]) -> Answer {
+    let made = import(table, plan);
+    match made {
+        Made::Written(length) => Answer::Answered {
+            lines: length,
+            events: 0,
+            worlds: 0,
+        },
+        Made::Refused {
+            number,
+            record: row,
+        } => Answer::Refused {
+            number: number,
+            record: row,
+        },
+    }
+}
+
 fn report_on(
     op: u64,
     world: u64,
@@ -59,6 +81,9 @@ fn report_on(
     }
     if op == SHOW {
         return show(plan, case, world, lines, events);
+    }
+    if op == IMPORT {
+        return imported(plan, lines);
     }
     check(plan)
 }

@@ -10,6 +10,8 @@ pub const SHOW: u64 = 0x73686f77;
 
 pub const POOL: u64 = 0x706f6f6c;
 
+pub const IMPORT: u64 = 0x696d706f7274;
+
 // What an operation answers, as the numbers of a line.
 pub struct Outcome {
     pub refusal: u64,
@@ -117,7 +119,7 @@ pub fn same(a: Outcome, b: Outcome) -> bool {
 }
 
 pub fn known(op: u64) -> bool {
-    op == CHECK || op == ANSWER || op == SHOW || op == POOL
+    op == CHECK || op == ANSWER || op == SHOW || op == POOL || op == IMPORT
 }
 
 // How many fields a line with this operation has.

@@ -17,7 +17,7 @@ use borrow.Rule.Slice.PartMut.{putMid}
 use Rattle.sets.specs.paper.Sets.{odd, has, size, lowest, when, members, membersFrom, numbers}
 use Rattle.sets.proofs.SetLaws.{has-zero, has-suc, has-none, lt-or-le}
 use Rattle.sets.proofs.MemberLaws.{members-length}
-use Rattle.expressions.proofs.ListLaws.{flat-append}
+use Rattle.records.proofs.UsedLaws.{flat-append}
 use Rattle.records.specs.paper.Plan.{Plan, Election}
 use Rattle.records.specs.code.Decoded.{edgeOf, cutOf, attachmentOf, statusOf, edgesOf, cutsOf, attachmentsOf, statusesOf}
 use Rattle.records.specs.declared.plan.Edge.{Edge}
@@ -31,7 +31,8 @@ use Rattle.records.specs.declared.plan.Statuses.{Statuses}
 use Rattle.records.proofs.ListLaws.{getD-front}
 use Rattle.expressions.specs.paper.Rules.{edgeCount, cutCount, attachmentCount, statusCount, edge, cut, attachment, status}
 use Rattle.expressions.specs.paper.Bindings.{defaultOf}
-use Rattle.worlds.specs.paper.Events.{event, littleBytes, listed, electionActor}
+use Rattle.page.specs.Little.{littleBytes}
+use Rattle.worlds.specs.paper.Events.{event, listed, electionActor}
 use Rattle.sets.proofs.TurnLaws.{members-next, members-none, and-less, turn-has}
 use Rattle.report.specs.paper.EventList.{numberOf, electionCitation, eventLength}
 use Rattle.report.specs.code.EventBytes.{Below, Writes, sizes}

@@ -2,12 +2,13 @@
 use mathlib.Core.Path.{_≡_, refl, sym, ap, ap₂, _∙_}
 use mathlib.Core.Bool.{Bool, true, false}
 use mathlib.Core.List.{List, [], _∷_, _++_, map, flatMap}
-use Prim.Native.Nat.{ℕ, zero, suc, _+_, _*_, _-_, _≤_}
+use Prim.Native.Nat.{ℕ, suc, _+_, _*_, _-_, _≤_}
 use native.Mathlib.Omega.{arith}
 use lib.ListN.{length, drop, replicate, length-map, length-append}
 use borrow.Author.Tests.{le-ltb}
 use Rattle.sets.specs.paper.Sets.{size, members}
 use Rattle.sets.proofs.MemberLaws.{members-length}
+use Rattle.page.proofs.ZeroLaws.{zeros-drop}
 use Rattle.report.specs.paper.EventList.{eventLength}
 use Rattle.report.specs.paper.Line.{Line, lineBytes, bareLine, lineLength}
 use Rattle.report.specs.paper.Operations.{Outcome, filled, written}
@@ -29,12 +30,6 @@ lines-length (l ∷ ls) =
     length-append (lineBytes l) (flatMap (λ b. b) (map lineBytes ls))
     ∙ (let a = line-length l in let b = lines-length ls in
     let z : length (lineBytes l) + length (flatMap (λ b. b) (map lineBytes ls)) ≡ lineLength * suc (length ls) = omega arith in z)
-
-pub zeros-drop : (n k : ℕ) → drop k (replicate {A = ℕ} n 0) ≡ replicate (n - k) 0
-zeros-drop zero zero = refl
-zeros-drop zero (suc k) = ap (λ (j : ℕ). replicate {A = ℕ} j 0) (let z : 0 ≡ 0 - suc k = omega arith in z)
-zeros-drop (suc n) zero = ap (λ (j : ℕ). replicate {A = ℕ} j 0) (let z : suc n ≡ suc n - 0 = omega arith in z)
-zeros-drop (suc n) (suc k) = zeros-drop n k ∙ ap (λ (j : ℕ). replicate {A = ℕ} j 0) (let z : n - k ≡ suc n - suc k = omega arith in z)
 
 pub lines-filled : (f : ℕ → Line) (roster : ℕ) (before after : List ℕ) → before ≡ replicate (length before) 0
     → after ≡ flatMap (λ p. lineBytes (f p)) (members roster) ++ drop (lineLength * size roster) before

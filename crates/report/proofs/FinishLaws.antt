@@ -20,17 +20,19 @@ use Rattle.sets.proofs.SetLaws.{ext, has-union, has-none, member}
 use Rattle.sets.proofs.Local.{clash}
 use Rattle.sets.proofs.Every.{all-tested, all-map}
 use Rattle.sets.proofs.MemberLaws.{members-same, members-length}
+use Rattle.page.proofs.ZeroLaws.{zeros-drop}
 use Rattle.expressions.specs.paper.Rules.{factCount, cutCount, rulePersons}
 use Rattle.expressions.specs.paper.Influence.{Frame}
 use Rattle.expressions.specs.paper.Variables.{Influence, Values}
 use Rattle.expressions.specs.paper.Bindings.{Bound, tookDefault}
 use Rattle.expressions.specs.code.Influences.{setsOf}
-use Rattle.expressions.proofs.ListLaws.{flat-append}
+use Rattle.records.proofs.UsedLaws.{flat-append}
 use Rattle.expressions.proofs.ReachLaws.{heading-of}
 use Rattle.worlds.specs.paper.World.{World, marked}
 use Rattle.worlds.specs.paper.Active.{active}
 use Rattle.worlds.specs.paper.View.{View, view, roleOf}
-use Rattle.worlds.specs.paper.Events.{littleBytes, event, eventsOf}
+use Rattle.page.specs.Little.{littleBytes}
+use Rattle.worlds.specs.paper.Events.{event, eventsOf}
 use Rattle.worlds.specs.code.Tables.{row}
 use Rattle.report.specs.paper.Line.{Line, lineBytes, bareLine, lineOver, lineIn, firstKind, holding, lineLength}
 use Rattle.report.specs.paper.EventList.{insert, rising, defaultEvents, eventLength}
@@ -55,7 +57,7 @@ use Rattle.report.proofs.RisingKinds.{happened-rising}
 use Rattle.report.proofs.HappenedAll.{happened-same, defaults-asked, defaults-none}
 use Rattle.report.proofs.HappenedLaws.{Many, rules-many}
 use Rattle.report.proofs.NineLaws.{rising-sized, flat-length}
-use Rattle.report.proofs.FilledLaws.{zeros-drop, lines-filled, written-told}
+use Rattle.report.proofs.FilledLaws.{lines-filled, written-told}
 use Rattle.report.proofs.WorldBlocks.{PartedIn, world-parted}
 
 -- ---- masks of kind 9 in the order of their events

@@ -16,7 +16,8 @@ use Rattle.expressions.specs.paper.Rules.{edgeCount, cutCount, attachmentCount,
 use Rattle.expressions.specs.paper.Nodes.{on}
 use Rattle.expressions.specs.paper.Bindings.{Bound, tookDefault}
 use Rattle.worlds.specs.paper.World.{World, looseComponents, barHolds}
-use Rattle.worlds.specs.paper.Events.{littleBytes, event, listed, frozenEvents, appliedEvents, blocks, blockedEvents, overlaps, overlapEvents, attachmentEvents, barEvents, statusEvents, discretionEvents, eventsOf}
+use Rattle.page.specs.Little.{littleBytes}
+use Rattle.worlds.specs.paper.Events.{event, listed, frozenEvents, appliedEvents, blocks, blockedEvents, overlaps, overlapEvents, attachmentEvents, barEvents, statusEvents, discretionEvents, eventsOf}
 use Rattle.report.specs.paper.EventList.{rising, defaultEvents}
 use Rattle.report.specs.paper.Operations.{eventsOver}
 use Rattle.report.specs.code.Happened.{Rises, Gathered, frozenOver, appliedOver, blockedOver, overlapOver, attachmentOver, barOver, statusOver, defaultOver, discretionOver, happened}

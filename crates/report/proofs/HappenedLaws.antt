@@ -12,7 +12,7 @@ use Rattle.records.specs.code.Decoded.{planOf, caseOf}
 use Rattle.records.specs.declared.plan.Plan.{Plan}
 use Rattle.records.specs.declared.case.Case.{Case}
 use Rattle.expressions.specs.paper.Rules.{cutCount}
-use Rattle.expressions.proofs.ListLaws.{flat-append}
+use Rattle.records.proofs.UsedLaws.{flat-append}
 use Rattle.worlds.specs.code.Tables.{row}
 use Rattle.worlds.specs.paper.Events.{listed}
 use Rattle.worlds.proofs.FindLaws.{few-low}

@@ -11,7 +11,8 @@ use Rattle.records.specs.paper.Plan.{Plan}
 use Rattle.records.specs.paper.Case.{CaseHeading}
 use Rattle.expressions.specs.paper.Rules.{edgeCount, cutCount, attachmentCount, barCount, statusCount, cut, bar, status, pair, withAnchor, ruleSets, rulePersons}
 use Rattle.expressions.specs.code.Listed.{heldByStatus}
-use Rattle.expressions.proofs.ListLaws.{rest-next, made-length, made-at}
+use Rattle.records.proofs.UsedLaws.{rest-next}
+use Rattle.expressions.proofs.ListLaws.{made-length, made-at}
 use Rattle.expressions.proofs.RuleLaws.{below-list}
 use Rattle.sets.proofs.UnionLaws.{union-assoc, union-append}
 use Rattle.worlds.proofs.DiscretionLaws.{union-below}

@@ -6,7 +6,7 @@ use native.Mathlib.Omega.{arith}
 use native.Mathlib.Nat.{not-suc-le-zero, le-of-suc-le-suc}
 use lib.ListN.{length, getD, take, drop, replicate}
 use lib.Seq.{take-at, drop-append-add}
-use Rattle.worlds.specs.paper.Events.{littleBytes}
+use Rattle.page.specs.Little.{littleBytes}
 use Rattle.report.specs.paper.Line.{Line, lineBytes, lineLength}
 use Rattle.report.specs.paper.Operations.{filled}
 

@@ -3,8 +3,9 @@ use mathlib.Core.Path.{_≡_, refl, sym, ap, ap₂, _∙_}
 use mathlib.Core.Bool.{Bool, true, false, cond}
 use mathlib.Core.List.{List}
 use Prim.Native.Nat.{ℕ}
-use lib.ListN.{length, replicate, length-replicate}
+use lib.ListN.{length, replicate}
 use borrow.Author.Tests.{eq-eqb, ne-eqb}
+use Rattle.page.proofs.ZeroLaws.{zeros-long}
 use Rattle.records.specs.paper.Fields.{Verdict, fine, refused}
 use Rattle.records.specs.paper.Plan.{Plan, checkedPlan}
 use Rattle.records.specs.paper.Case.{Case, readCase, caseHeading}
@@ -82,14 +83,6 @@ module _ (s : List ℕ) (r : PlanRead) (e : planReadOf r ≡ checkedPlan s) wher
       case-opened y o h e =
           ap (λ (v : Verdict Plan). orStop v rest) (plan-fine z) ∙ ap (λ (v : Verdict Case). orStop v last) (case-fine y)
           ∙ h .opened ∙ ap (openedOf (r .plan) (q .case)) e
-
--- ---- buffers that were cleared
-
-pub zeros-long : (l : List ℕ) (n : ℕ) → l ≡ replicate n 0 → length l ≡ n
-zeros-long l n z = ap length z ∙ length-replicate n 0
-
-pub zeros-all : (l : List ℕ) (n : ℕ) → l ≡ replicate n 0 → l ≡ replicate (length l) 0
-zeros-all l n z = z ∙ ap (λ (k : ℕ). replicate {A = ℕ} k 0) (sym (zeros-long l n z))
 
 -- ---- what an operation makes of it
 

@@ -10,7 +10,8 @@ use Rattle.sets.specs.paper.Sets.{has, numbers, lexLess, All}
 use Rattle.records.specs.paper.Plan.{Plan}
 use Rattle.records.specs.paper.Case.{Case}
 use Rattle.sets.proofs.LoopLaws.{all-append}
-use Rattle.worlds.specs.paper.Events.{littleBytes, event, listed}
+use Rattle.page.specs.Little.{littleBytes}
+use Rattle.worlds.specs.paper.Events.{event, listed}
 use Rattle.report.specs.code.Happened.{Rises, frozenOver, appliedOver, blockedOver, overlapOver, attachmentOver, barOver, statusOver, defaultOver, discretionOver, happened}
 use Rattle.report.proofs.AmongLaws.{Among, each-all, of-both, of-flat, of-map, of-numbers, of-if, of-listed}
 use Rattle.report.proofs.RisingSet.{less-head, less-tail}

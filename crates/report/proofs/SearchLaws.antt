@@ -15,7 +15,7 @@ use Rattle.sets.proofs.SetLaws.{lt-or-le}
 use Rattle.sets.proofs.Local.{clash}
 use Rattle.sets.proofs.LoopLaws.{all-at, all-append}
 use Rattle.sets.proofs.Every.{all-both}
-use Rattle.expressions.proofs.ListLaws.{flat-append}
+use Rattle.records.proofs.UsedLaws.{flat-append}
 use Rattle.report.specs.paper.EventList.{eventLength, insert}
 use Rattle.report.specs.code.Happened.{Rises}
 use Rattle.report.specs.code.EventBytes.{chunks}

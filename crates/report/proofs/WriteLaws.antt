@@ -6,7 +6,7 @@ use Prim.Native.Nat.{ℕ, zero, suc, _+_, _-_, _*_, _%_, _^_, _≤_, _<_}
 use native.Mathlib.Nat.{lt-trans, mod-eq-of-lt}
 use native.Mathlib.Numerals.{add-one}
 use native.Mathlib.Omega.{arith}
-use lib.ListN.{length, getD, set, take, drop, replicate, length-append, length-take, length-drop, length-replicate, drop-of-length-le}
+use lib.ListN.{length, getD, set, take, drop, length-append, length-take, length-drop, drop-of-length-le}
 use lib.Seq.{drop-cons, take-suc, set-at, length-take-le, append-snoc, take-at, drop-at, take-all, drop-drop}
 use lib.Dec.{eqb}
 use lib.Bits.{bitAnd}
@@ -16,9 +16,9 @@ use borrow.Rule.Slice.PartMut.{putMid, same-len-mid}
 use Rattle.sets.specs.paper.Sets.{has, one, only, size, lowest, members, anyOf, unionOf, unionBelow, All}
 use Rattle.sets.proofs.SetLaws.{one-lt, union-lt}
 use Rattle.sets.proofs.MemberLaws.{members-length}
-use Rattle.expressions.proofs.ListLaws.{flat-append}
+use Rattle.records.proofs.UsedLaws.{flat-append}
 use Rattle.expressions.specs.paper.Variables.{Influence}
-use Rattle.worlds.specs.paper.Events.{littleBytes}
+use Rattle.page.specs.Little.{littleBytes}
 use Rattle.worlds.specs.paper.View.{View}
 use Rattle.worlds.specs.code.Tables.{row}
 use Rattle.sets.proofs.TurnLaws.{has-members, members-next, members-none}
@@ -27,10 +27,6 @@ use Rattle.report.specs.code.Summed.{stands, rolesAgree}
 use Rattle.report.specs.code.Written.{LineBy}
 
 -- ---- byte by byte
-
--- a buffer whose first n bytes are zero is as long as it was
-pub cleared-long : (n : ℕ) (d : List ℕ) → n ≤ length d → length (replicate n 0 ++ drop n d) ≡ length d
-cleared-long n d h = simp (length-append, length-replicate, length-drop) (omega arith)
 
 -- one byte more is copied
 pub copied : (e d : List ℕ) (i : ℕ) → i < length e → i < length d → set (take i e ++ drop i d) i (getD e i 0) ≡ take (i + 1) e ++ drop (i + 1) d

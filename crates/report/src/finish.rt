@@ -1,7 +1,6 @@
 // The answer, once all worlds are looked at: lines and events are written, or one of 13 and 14 is refused.
 use crate::Answer;
 use crate::bare::without_worlds;
-use crate::clear::clear;
 use crate::event::EVENT;
 use crate::happened::count_events;
 use crate::happened::write_events;
@@ -12,6 +11,7 @@ use crate::sums::Sums;
 use crate::sums::TALLY;
 use crate::walk::Walked;
 use expressions::influence::Influence;
+use page::clear::clear;
 use records::case::Case;
 use records::plan::Plan;
 use sets::numbers::upto;

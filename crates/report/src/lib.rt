@@ -1,7 +1,6 @@
 // The three operations: check a plan, answer a case, show a world.
 pub mod bare;
 pub mod classes;
-pub mod clear;
 pub mod event;
 pub mod finish;
 pub mod fold;

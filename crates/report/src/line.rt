@@ -1,4 +1,5 @@
 // A line, LINE bytes, written into the rest of the lent buffer.
+use page::little::mask_bytes;
 use sets::low;
 use sets::others;
 ghost use mathlib.Core.Path.{_≡_};
@@ -6,7 +7,6 @@ ghost use mathlib.Core.List.{_++_, flatMap};
 ghost use Prim.Native.Nat.{_*_, _≤_};
 ghost use Rattle.sets.specs.paper.Sets.{size, members};
 ghost use lib.ListN.{length, drop};
-ghost use Rattle.worlds.specs.paper.Events.{littleBytes};
 ghost use Rattle.report.specs.paper.Line.{lineBytes, bareLine, lineLength};
 ghost use Rattle.report.specs.code.Written.{lineFrom};
 
@@ -21,29 +21,6 @@ pub struct Line {
     pub facts: u64,
     pub decisions: u16,
     pub citations: u64,
-}
-
-// The bytes of a mask, the lowest first.
-fn mask_bytes(m: u64) -> [u8; 8]
-    ensures { λ r. ⌜ r ≡ littleBytes 8 m ⌝ }
-{
-    let m1 = m / 256;
-    let m2 = m1 / 256;
-    let m3 = m2 / 256;
-    let m4 = m3 / 256;
-    let m5 = m4 / 256;
-    let m6 = m5 / 256;
-    let m7 = m6 / 256;
-    [
-        (m % 256) as u8,
-        (m1 % 256) as u8,
-        (m2 % 256) as u8,
-        (m3 % 256) as u8,
-        (m4 % 256) as u8,
-        (m5 % 256) as u8,
-        (m6 % 256) as u8,
-        (m7 % 256) as u8,
-    ]
 }
 
 // Person, kind, role, block, open facts, open decisions, citations; each number's lowest byte first.

@@ -1,12 +1,12 @@
 // A case answered, or one of its worlds shown: the refusals in their order, then the worlds.
 use crate::Answer;
 use crate::bare::without_worlds;
-use crate::clear::clear;
 use crate::open::Stop;
 use crate::open::open_case;
 use crate::ready::answer_ready;
 use crate::run::Wanted;
 use expressions::uses::node_uses;
+use page::clear::clear;
 use records::case::reading::read_case;
 use records::plan::checks::decode_plan;
 ghost use mathlib.Core.Path.{_≡_};

@@ -1,8 +1,8 @@
-//! Reads plans, cases, names and amounts from files, no further than they can be long.
+//! Reads plans, cases, names, amounts and tables of rules from files, no further than they can be long.
 
 use std::fmt;
 use std::fs::File;
-use std::io::{ErrorKind, Read};
+use std::io::{self, ErrorKind, Read};
 use std::path::{Path, PathBuf};
 
 use crate::amounts::Amounts;
@@ -24,6 +24,11 @@ pub const AMOUNTS_LENGTH: usize = 4 * (limits::PERSONS + 1);
 
 /// Bytes that a table of amounts may have.
 pub const TABLE_LENGTH: usize = 1 << 20;
+
+/// Bytes of a table of rules that are read. A header that is not refused takes at most 34, a rule 30, and there are at most 96 rules: the first row
+/// at fault of a longer table begins among the first 2,914, and it is at fault by what it has before this end, or as longer than 30. What follows
+/// changes neither that the table is refused nor the row that is named.
+pub const RULES_LENGTH: usize = 1 << 20;
 
 /// Why a file was not read.
 #[derive(Clone, Debug, PartialEq, Eq)]
@@ -104,13 +109,37 @@ pub fn read_names(path: &Path) -> Result<Names, FileFault> {
     Names::read(&text).map_err(fault)
 }
 
+/// The bytes of a table of rules, as many as matter. [`Plan::from_table`](crate::Plan::from_table) makes a plan of them.
+pub fn read_rules(path: &Path) -> Result<Vec<u8>, FileFault> {
+    read(path, RULES_LENGTH)
+}
+
+/// The same from the standard input, or from what else is open.
+pub fn read_rules_from(input: impl Read) -> Result<Vec<u8>, Fault> {
+    let mut bytes = Vec::new();
+    let read = input.take(RULES_LENGTH as u64).read_to_end(&mut bytes);
+    read.map(|_| bytes).map_err(|error| Fault::Unreadable(plainly(&error)))
+}
+
+/// An error of the system in words, without its number.
+pub fn plainly(error: &io::Error) -> String {
+    let text = error.to_string();
+    text.split(" (os error").next().unwrap_or(&text).to_string()
+}
+
+/// A file that is no longer than so many bytes.
+fn read_whole(path: &Path, most: usize) -> Result<Vec<u8>, FileFault> {
+    let bytes = read(path, most.saturating_add(1))?;
+    match bytes.len() > most {
+        true => Err(FileFault { path: path.to_path_buf(), fault: Fault::TooLong { most } }),
+        false => Ok(bytes),
+    }
+}
+
 /// A text that is no longer than so many bytes.
 fn read_text(path: &Path, most: usize) -> Result<String, FileFault> {
     let fault = |fault| FileFault { path: path.to_path_buf(), fault };
-    let bytes = read(path, most.saturating_add(1))?;
-    if bytes.len() > most {
-        return Err(fault(Fault::TooLong { most }));
-    }
+    let bytes = read_whole(path, most)?;
     String::from_utf8(bytes).map_err(|error| {
         let valid = error.utf8_error().valid_up_to();
         let before = error.as_bytes().get(..valid).unwrap_or(&[]);
@@ -142,9 +171,9 @@ pub fn read_names_if_any(path: &Path) -> Result<Names, FileFault> {
 /// The first bytes of a file, at most so many. Whether it is a file is asked before it is opened, since opening a pipe may wait for ever.
 pub fn read(path: &Path, most: usize) -> Result<Vec<u8>, FileFault> {
     let fault = |fault| FileFault { path: path.to_path_buf(), fault };
-    let system = |error: std::io::Error| match error.kind() {
+    let system = |error: io::Error| match error.kind() {
         ErrorKind::NotFound => fault(Fault::Missing),
-        _ => fault(Fault::Unreadable(error.to_string())),
+        _ => fault(Fault::Unreadable(plainly(&error))),
     };
     let kind = path.metadata().map_err(system)?.file_type();
     if kind.is_dir() {

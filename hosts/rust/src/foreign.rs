@@ -5,6 +5,9 @@ use crate::limits::UNITS;
 /// Refusal, record, count, maximum, lines, events, worlds.
 pub(crate) type Told = [u64; 7];
 
+/// Refusal, row of the table, length of the plan.
+pub(crate) type Made = [u64; 3];
+
 /// What a pooling tells beside its lines and events: units, one place for each, zero past their count, and what is unplaced.
 #[derive(Clone, Copy, Debug)]
 pub(crate) struct Sums {
@@ -85,6 +88,14 @@ unsafe extern "C" {
         case_length: usize,
         person: u8,
     ) -> u64;
+
+    fn lukhveri_import(
+        table: *const u8,
+        table_length: usize,
+        plan: *mut u8,
+        plan_length: usize,
+        made: *mut Made,
+    ) -> u8;
 }
 
 pub(crate) fn check(plan: &[u8]) -> Told {
@@ -202,4 +213,13 @@ pub(crate) fn list(
 pub(crate) fn circle(plan: &[u8], case: &[u8], person: u8) -> u64 {
     // SAFETY: two slices, which it only reads and does not keep.
     unsafe { lukhveri_circle(plan.as_ptr(), plan.len(), case.as_ptr(), case.len(), person) }
+}
+
+pub(crate) fn import(table: &[u8], plan: &mut [u8]) -> Made {
+    let mut made = [0; 3];
+    // SAFETY: two slices and three numbers, none of which it keeps; those that it writes are borrowed mutably, so nothing overlaps them.
+    unsafe {
+        lukhveri_import(table.as_ptr(), table.len(), plan.as_mut_ptr(), plan.len(), &mut made)
+    };
+    made
 }

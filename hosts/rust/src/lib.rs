@@ -1,9 +1,9 @@
 //! Finds the units of a roster: the people whom a fee scheme counts together, and nobody else.
 //!
-//! A plan holds the scheme's rules, a case holds what is known of a roster's people; the answer is one line for each person. Four operations
+//! A plan holds the scheme's rules, a case holds what is known of a roster's people; the answer is one line for each person. Five operations
 //! do the work, each by the proved code of the static library: [`check`] a plan, [`answer`] a case, [`show`] one world, [`pool`] amounts by
-//! units. They take plain bytes, whatever these are, and give typed lines and events or a [`Refusal`] that says in words what is wrong and
-//! where. Nothing panics.
+//! units, [`import`](Plan::from_table) a plan out of a table. They take plain bytes, whatever these are, and give typed results or a
+//! [`Refusal`] that says in words what is wrong and where. Nothing panics.
 //!
 //! [`PlanBuilder`] and [`CaseBuilder`] make the bytes from named things. They turn away what the operations would refuse, when it is
 //! given, so that a rule editor can say it at once; facts may come in any order. [`Plan::read`] reads a plan's bytes back, and
@@ -79,7 +79,10 @@
 //! [`pool`] gives each unit the sum of its persons' amounts, and says what is unplaced; [`amounts`] reads the list from amounts.bin, or from a
 //! table with a person a row.
 //!
-//! [`answer_into`], [`show_into`] and [`pool_into`] work in buffers that the caller lends and allocate nothing; [`Buffers`] keeps such buffers for many calls.
+//! [`Plan::from_table`] makes a plan of the table that a spreadsheet exports; [`draft`] says what is wrong with a row that is refused.
+//!
+//! [`answer_into`], [`show_into`], [`pool_into`] and [`import_into`] work in buffers that the caller lends and allocate nothing; [`Buffers`] keeps such
+//! buffers for many calls.
 //! Calls from several threads are independent. A call takes less than 256 KB of its thread's stack ([`STACK`]).
 
 #![deny(unsafe_code)]
@@ -96,11 +99,13 @@ mod case_change;
 mod case_records;
 mod conditions;
 mod diagnosis;
+pub mod draft;
 mod event;
 pub mod files;
 #[allow(unsafe_code)]
 mod foreign;
 mod handles;
+mod importing;
 pub mod limits;
 mod line;
 mod listing;
@@ -122,6 +127,7 @@ mod refusal;
 mod refused;
 mod renumber;
 mod rules;
+mod shown;
 mod unnamed;
 mod warning;
 mod warnings;
@@ -137,6 +143,7 @@ pub use event::{EVENT, Event, Evidence};
 pub use handles::{
     AttachmentId, BarId, BooleanId, CutId, EdgeId, FactId, NodeId, RelationId, RuleId, StatusId,
 };
+pub use importing::{IMPORTED_LENGTH, import_into};
 pub use line::{LINE, Line, LineKind, Role};
 pub use listing::{Listing, TEXT_LENGTH, list};
 pub use numbers::{Actor, Citation, Paper};

@@ -3,7 +3,7 @@
 use std::error::Error;
 use std::fmt;
 
-use crate::foreign::Told;
+use crate::foreign::{Made, Told};
 use crate::read::{File, Reader};
 
 /// What an operation turns away.
@@ -39,6 +39,10 @@ pub enum Reason {
     NoSuchWorld,
     /// 15: the list of amounts is not as long as the roster.
     AmountsDoNotFit,
+    /// 16: the first row of a table that breaks its form, counted from 0, the header's.
+    BrokenRow { row: u64 },
+    /// 17: the plan of a table does not fit the lent buffer.
+    PlanDoesNotFit,
     /// A number that no operation answers today.
     Other(u8),
 }
@@ -82,6 +86,8 @@ impl Reason {
             Reason::EventsDoNotFit => 13,
             Reason::NoSuchWorld => 14,
             Reason::AmountsDoNotFit => 15,
+            Reason::BrokenRow { .. } => 16,
+            Reason::PlanDoesNotFit => 17,
             Reason::Other(number) => number,
         }
     }
@@ -183,14 +189,29 @@ impl Refusal {
         Some(Refusal { place, ..Refusal::nowhere(reason) })
     }
 
+    /// The refusal of a table, if it is refused.
+    pub(crate) fn made(made: &Made) -> Option<Refusal> {
+        let [number, row, _] = *made;
+        let reason = match number {
+            0 => return None,
+            16 => Reason::BrokenRow { row },
+            17 => Reason::PlanDoesNotFit,
+            _ => Reason::Other(u8::try_from(number).unwrap_or(u8::MAX)),
+        };
+        Some(Refusal::nowhere(reason))
+    }
+
     /// Its number in documents 01 and 02.
     pub fn number(&self) -> u8 {
         self.reason.number()
     }
 
-    /// The record that it names, 0 where it names none.
+    /// The record that it names, for 16 the row of the table; 0 where it names none.
     pub fn record(&self) -> u64 {
-        self.place.map_or(0, |place| place.record)
+        match self.reason {
+            Reason::BrokenRow { row } => row,
+            _ => self.place.map_or(0, |place| place.record),
+        }
     }
 
     /// File and kind of the record at fault.
@@ -232,6 +253,8 @@ impl Refusal {
             Reason::EventsDoNotFit => "there are more events than the buffer holds, 12 bytes each",
             Reason::NoSuchWorld => "there is no admissible world of that number",
             Reason::AmountsDoNotFit => "the list of amounts is not as long as the roster",
+            Reason::BrokenRow { .. } => "a row of the table breaks its form",
+            Reason::PlanDoesNotFit => "the plan does not fit the buffer",
             Reason::Other(_) => "a refusal that this program does not know",
         }
     }
@@ -308,6 +331,13 @@ impl Refusal {
             Reason::AmountsDoNotFit => {
                 "give one amount for each person of the roster, in rising order of the persons' numbers; in amounts.bin each takes 4 bytes"
             }
+            Reason::BrokenRow { row: 0 } => {
+                "write kind,left,right,citation in the first row, end each row in CR LF, and save the table as UTF-8 without a byte order mark"
+            }
+            Reason::BrokenRow { .. } => {
+                "write four fields, kind,left,right,citation: base, combination or status, whole numbers from 0 to 63, and right empty for a status"
+            }
+            Reason::PlanDoesNotFit => "lend more for the plan; 550 bytes always suffice",
             Reason::Other(_) => "use a program that fits the library",
         }
     }
@@ -332,6 +362,7 @@ impl Refusal {
                 format!("{words}: 2^64 or more")
             }
             Reason::TooManyWorlds { count, most } => format!("{words}: {count}, allowed {most}"),
+            Reason::BrokenRow { row } => format!("row {row} of the table breaks its form"),
             _ => words.to_string(),
         }
     }

@@ -44,7 +44,7 @@ fn the_examples() {
     all.extend(words);
     let said = run(&all);
     assert_eq!(said.status, Some(0));
-    assert_eq!(counts(&said), "6 cases: 6 answered, 0 refused, 0 unreadable; 32 persons");
+    assert_eq!(counts(&said), "7 cases: 7 answered, 0 refused, 0 unreadable; 39 persons");
     assert!(said.out.starts_with(HEADING));
     for row in [
         "examples/01/case.bin,0,Ana,0,1,0 1,,,1,,,\r\n",
@@ -154,7 +154,7 @@ fn folders_without_cases() {
     assert_eq!(said.status, Some(2));
     assert_eq!(said.out.lines().count(), 3, "the folder that has cases is done: {}", said.out);
     let complaints = [
-        "lukhveri: examples: no cases in this folder; it has 01, allotments, choir, club and 2 more: try examples/*\n",
+        "lukhveri: examples: no cases in this folder; it has 01, allotments, choir, club and 3 more: try examples/*\n",
         "lukhveri: nowhere: there is no such folder\n",
         "lukhveri: examples/01/plan.bin: this is a file; a folder of cases is wanted\n",
     ];

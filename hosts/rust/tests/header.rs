@@ -2,7 +2,9 @@
 
 use std::collections::BTreeMap;
 
-use lukhveri::{EVENT, Event, LINE, LineKind, Persons, Reason, Role, TEXT_LENGTH, limits};
+use lukhveri::{
+    EVENT, Event, IMPORTED_LENGTH, LINE, LineKind, Persons, Reason, Role, TEXT_LENGTH, limits,
+};
 
 /// Every constant of the header that is a plain number.
 fn constants() -> BTreeMap<String, usize> {
@@ -26,6 +28,7 @@ fn sizes_kinds_and_roles() {
     is("UNITS", limits::UNITS);
     is("WORLDS", usize::from(limits::WORLDS));
     is("TEXT_LENGTH", TEXT_LENGTH);
+    is("IMPORTED_LENGTH", IMPORTED_LENGTH);
     is("DECIDED", usize::from(LineKind::Decided.number()));
     is("MEMBERSHIP_OPEN", usize::from(LineKind::Membership.number()));
     is("ROLE_OPEN", usize::from(LineKind::Role.number()));
@@ -39,7 +42,7 @@ fn sizes_kinds_and_roles() {
     is("BARRED", usize::from(Role::Barred.number()));
 }
 
-/// The numbers that a call tells stand one behind another; pooling tells two more.
+/// The numbers that a call tells stand one behind another; pooling tells two more, an import others.
 #[test]
 fn what_a_call_tells() {
     let header = constants();
@@ -50,6 +53,11 @@ fn what_a_call_tells() {
     }
     assert_eq!(header.get("TOLD"), Some(&answer.len()));
     assert_eq!(header.get("POOL_TOLD"), Some(&pool.len()));
+    let import = ["REFUSAL", "RECORD", "LENGTH"];
+    for (place, name) in import.iter().enumerate() {
+        assert_eq!(header.get(&format!("MADE_{name}")), Some(&place), "{name}");
+    }
+    assert_eq!(header.get("MADE"), Some(&import.len()));
 }
 
 #[test]
@@ -73,6 +81,8 @@ fn refusals() {
     is("EVENTS_DO_NOT_FIT", Reason::EventsDoNotFit);
     is("NO_SUCH_WORLD", Reason::NoSuchWorld);
     is("AMOUNTS_DO_NOT_FIT", Reason::AmountsDoNotFit);
+    is("BROKEN_ROW", Reason::BrokenRow { row: 1 });
+    is("PLAN_DOES_NOT_FIT", Reason::PlanDoesNotFit);
 }
 
 #[test]

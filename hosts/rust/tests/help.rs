@@ -7,7 +7,8 @@ use std::process::{Command, Stdio};
 
 use program::{program, root, run};
 
-const COMMANDS: [&str; 7] = ["check", "list", "explain", "show", "circle", "pool", "batch"];
+const COMMANDS: [&str; 8] =
+    ["check", "import", "list", "explain", "show", "circle", "pool", "batch"];
 
 /// The help of the program and of each command.
 fn all_helps() -> Vec<String> {
@@ -116,7 +117,8 @@ fn the_man_page_is_made_of_the_help_texts() {
 #[test]
 fn wrong_words_are_said_in_one_line() {
     let empty: [&str; 0] = [];
-    run(&empty).is_trouble("a command is wanted: check, list, explain, show, circle, pool, batch");
+    run(&empty)
+        .is_trouble("a command is wanted: check, import, list, explain, show, circle, pool, batch");
     run(&["chek"]).is_trouble("there is no command 'chek', only check,");
     run(&["--chek"]).is_trouble("there is no option --chek (lukhveri --help helps)");
     run(&["help", "chek"]).is_trouble("there is no command 'chek'");
@@ -131,6 +133,10 @@ fn wrong_words_are_said_in_one_line() {
     for command in ["check", "list", "explain", "pool"] {
         run(&[command, "a", "b"]).is_trouble("'b' is a word too many");
     }
+    run(&["import", "a"]).is_trouble("a file for the plan is wanted behind a table");
+    run(&["import", "a", "b", "c"]).is_trouble("'c' is a word too many");
+    run(&["import", "--check", "a", "b"]).is_trouble("'b' is a word too many");
+    run(&["import", "a", "-"]).is_trouble("the plan wants the name of a file");
     for command in ["show", "circle"] {
         run(&[command, "a"]).is_trouble("is wanted behind a folder");
         run(&[command, "a", "0", "b"]).is_trouble("'b' is a word too many");
@@ -141,10 +147,11 @@ fn wrong_words_are_said_in_one_line() {
 }
 
 /// Each command, with words that make it print something.
-const PRINTING: [&[&str]; 10] = [
+const PRINTING: [&[&str]; 11] = [
     &["--help"],
     &["--version"],
     &["check", "examples/kitchen/plan.bin"],
+    &["import", "--check", "examples/rowing/rules.csv"],
     &["list", "examples/kitchen"],
     &["explain", "examples/kitchen"],
     &["show", "examples/kitchen", "0"],

@@ -1,6 +1,7 @@
 //! No input makes anything panic: random bytes, and good bytes that were damaged.
 
 use lukhveri::amounts::{Amounts, AmountsError};
+use lukhveri::draft::{notes, with_returns};
 use lukhveri::names::Names;
 use lukhveri::near::{NearError, values};
 use lukhveri::words;
@@ -257,6 +258,76 @@ fn tables_of_any_text() {
             }
         }
     }
+}
+
+/// A table that is accepted, with rules of every kind.
+fn draft(random: &mut Random) -> Vec<u8> {
+    let mut table = "kind,left,right,citation".to_string();
+    let most = [4, 12, 110][random.below(3)];
+    for _ in 0..random.below(most) {
+        let [left, right, citation] = [0; 3].map(|_| random.below(64));
+        table += &match random.below(3) {
+            0 => format!("\r\nstatus,{left},,{citation}"),
+            1 => format!("\r\nbase,{left},{right},{citation}"),
+            _ => format!("\r\n\"combination\",\"{left}\",{right},{citation}"),
+        };
+    }
+    table += ["", "\r\n"][random.below(2)];
+    table.into_bytes()
+}
+
+/// What spreadsheets and people do to a table, and what nobody does.
+fn spoil(table: &mut Vec<u8>, random: &mut Random) {
+    const PARTS: &str = "\"|\"\"|\r|\n|\r\n|,|;|\t| |0|63|64|65|00|+|-1|1.0|99999999999999999999|base|Base|status|combination,1,2,3\r\n|x|\u{feff}|é|\0";
+    let parts: Vec<&str> = PARTS.split('|').collect();
+    for _ in 0..=random.below(3) {
+        let (at, part) = (random.below(table.len() + 1), parts[random.below(parts.len())]);
+        let end = (at + random.below(8)).min(table.len());
+        match random.below(8) {
+            0 => table.truncate(at),
+            1 => table.insert(at, random.next() as u8),
+            2 => table.retain(|byte| *byte != b'\r'),
+            3 => drop(table.drain(at..end)),
+            4 => drop(table.splice(0..0, "\u{feff}".bytes())),
+            5 => table.iter_mut().filter(|byte| **byte == b',').for_each(|byte| *byte = b';'),
+            _ => drop(table.splice(at..at, part.bytes())),
+        }
+    }
+}
+
+/// Tables of any bytes: a plan that the check accepts, or a row, which the words name, too, with what is wrong there.
+#[test]
+fn drafts_of_any_bytes() {
+    let random = &mut Random(6);
+    let (mut accepted, mut refused) = (0, [0; 98]);
+    for number in 0..100_000 {
+        let mut table = if number % 10 == 0 { random.bytes(80) } else { draft(random) };
+        if number % 10 > 1 {
+            spoil(&mut table, random);
+        }
+        match Plan::from_table(&table) {
+            Ok(plan) => {
+                accepted += 1;
+                assert_eq!(check(plan.bytes()), Ok(()));
+                assert!(notes(&table).len() <= 192);
+                assert!(Plan::from_table(&with_returns(&table)).is_ok());
+            }
+            Err(refusal) => {
+                let fault = refusal.row_fault(&table).expect("a row");
+                assert_eq!(Reason::BrokenRow { row: fault.row }, refusal.reason);
+                refused[usize::try_from(fault.row).expect("a row")] += 1;
+                let (said, row) = (fault.to_string(), format!("row {} of the table", fault.row));
+                assert!(said.starts_with(&row), "{said}");
+                assert!(fault.finding().is_some() && !fault.remedy().is_empty(), "{table:?}");
+                assert!(said.chars().all(|letter| !letter.is_control()), "{said:?}");
+                let lines = 1 + table.iter().filter(|byte| b"\r\n".contains(byte)).count();
+                let line = fault.line.expect("a line");
+                assert!(line > usize::try_from(fault.row).expect("a row") && line <= lines);
+            }
+        }
+    }
+    assert!(accepted > 10_000 && refused[0] > 10_000, "{accepted} {refused:?}");
+    assert!(refused.iter().filter(|count| **count > 0).count() > 80, "{refused:?}");
 }
 
 #[test]

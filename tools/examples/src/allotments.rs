@@ -66,6 +66,7 @@ pub fn example() -> Result<Example, BuildError> {
         plan,
         case,
         amounts: &[],
+        sheets: &[],
         words: Words {
             persons: &[
                 (0, "Rusa"),

@@ -46,6 +46,7 @@ pub fn example() -> Result<Example, BuildError> {
         plan,
         case,
         amounts: &[(0, 1), (1, 10), (2, 100), (3, 1000)],
+        sheets: &[],
         words: Words {
             persons: &[(0, "Nato"), (1, "Gela"), (2, "Rezo"), (3, "Soso")],
             facts: &[(0, "Nato is paid by the choir this term")],

@@ -68,6 +68,7 @@ pub fn example() -> Result<Example, BuildError> {
         plan,
         case,
         amounts: &[],
+        sheets: &[],
         words: Words {
             persons: &[
                 (0, "Marta"),

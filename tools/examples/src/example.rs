@@ -1,6 +1,11 @@
 //! A plan and a case with the words for their numbers.
 
+use std::error::Error;
+
 use lukhveri::{Case, Plan};
+
+/// Why an example cannot be made.
+pub type Fault = Box<dyn Error>;
 
 /// A number and what it stands for.
 pub type Word = (u8, &'static str);
@@ -17,7 +22,24 @@ pub struct Example {
     pub case: Case,
     /// Cents by person; nothing where no amounts are pooled.
     pub amounts: &'static [(u8, u32)],
+    /// What a spreadsheet program wrote, the table of the plan first; nothing where the plan was not drafted in one.
+    pub sheets: &'static [Sheet],
     pub words: Words,
+}
+
+impl Example {
+    /// The table that the plan was made of; empty where there is none.
+    pub fn table(&self) -> &[u8] {
+        self.sheets.first().map_or(&[], |sheet| sheet.bytes)
+    }
+}
+
+/// A file of a spreadsheet program, kept as it was written.
+pub struct Sheet {
+    pub file: &'static str,
+    pub bytes: &'static [u8],
+    /// Where it comes from.
+    pub origin: &'static str,
 }
 
 /// What the numbers stand for. Facts are numbered as in the file.

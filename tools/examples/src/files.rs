@@ -35,6 +35,7 @@ fn folder(example: &Example) -> Vec<File> {
     if !example.amounts.is_empty() {
         files.push((at("amounts.csv"), amounts(example).into_bytes()));
     }
+    files.extend(example.sheets.iter().map(|sheet| (at(sheet.file), sheet.bytes.to_vec())));
     files
 }
 
@@ -74,6 +75,7 @@ fn readme(example: &Example, printed: &str) -> String {
             "The amounts of amounts.csv pooled by unit: `lukhveri pool examples/{folder}`.\n\n"
         );
     }
+    text.push_str(&sheets(example));
     text.push_str("The rule book:\n\n");
     for (number, name, sentence) in words.citations {
         let _ = writeln!(text, "- citation {number}, {name}: {sentence}");
@@ -85,6 +87,19 @@ fn readme(example: &Example, printed: &str) -> String {
         }
     }
     text
+}
+
+/// The files of the spreadsheet program, the first of which is the table that the plan was made of.
+fn sheets(example: &Example) -> String {
+    let Some(first) = example.sheets.first() else {
+        return String::new();
+    };
+    let (folder, table) = (example.folder, first.file);
+    let rows = example.sheets.iter().map(|sheet| format!("- {}: {}\n", sheet.file, sheet.origin));
+    format!(
+        "The plan out of the table: `lukhveri import examples/{folder}/{table} plan.bin`.\n\n{}\n",
+        rows.collect::<String>()
+    )
 }
 
 impl Words {

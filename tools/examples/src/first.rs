@@ -27,6 +27,7 @@ pub fn example() -> Result<Example, BuildError> {
         plan,
         case,
         amounts: &[],
+        sheets: &[],
         words: Words {
             persons: &[(0, "Ana"), (1, "Beka"), (2, "Gio")],
             facts: &[],

@@ -2,7 +2,7 @@
 
 use std::fmt::Write;
 
-use lukhveri::{Answer, Event, Line, Pools, Refusal};
+use lukhveri::{Answer, Event, Line, Plan, Pools, Refusal};
 
 use crate::example::Example;
 use crate::printed::printed;
@@ -14,12 +14,13 @@ struct Block<'a> {
     at: usize,
 }
 
-/// Plan, case and amounts as the last blocks of that mark gave them.
+/// Plan, case, amounts and table as the last blocks of that mark gave them.
 #[derive(Default)]
 struct Told {
     plan: Vec<u8>,
     case: Vec<u8>,
     amounts: Vec<u32>,
+    table: Vec<u8>,
 }
 
 /// How many blocks agree, or where the first one does not.
@@ -55,6 +56,19 @@ impl Told {
                 let pools = lukhveri::pool(&self.plan, &self.case, &self.amounts);
                 pools.map(|pools| pooled(&pools)) == Ok(block.text())
             }
+            ("table", name) => {
+                self.table = block.table();
+                return same(&self.table, name, Example::table);
+            }
+            ("made", name) => {
+                self.plan = block.bytes()?;
+                same(&self.plan, name, |example| example.plan.bytes())?;
+                Plan::from_table(&self.table).is_ok_and(|plan| plan.bytes() == self.plan)
+            }
+            ("turned", _) => match Plan::from_table(&self.table) {
+                Ok(_) => false,
+                Err(refusal) => block.refusal() == refused(&refusal),
+            },
             ("example", whose) => line_of(whose)? == block.bytes()?,
             ("lines", _) => lines(answer(self)) == Ok(block.bytes()?),
             ("events", _) => events(answer(self)) == Ok(block.bytes()?),
@@ -103,6 +117,11 @@ fn events(answer: Result<Answer, Refusal>) -> Result<Vec<u8>, Refusal> {
     answer.map(|answer| answer.events.iter().flat_map(Event::bytes).collect())
 }
 
+/// Number and record, as the lister prints them.
+fn refused(refusal: &Refusal) -> String {
+    format!("refused {} {}", refusal.number(), refusal.record())
+}
+
 /// Each unit with its pool and its mark, then what is unplaced.
 fn pooled(pools: &Pools) -> String {
     let mut text = String::new();
@@ -129,6 +148,11 @@ impl Block<'_> {
         let before = |row: &&str| row.split("  ").next().unwrap_or("").to_string();
         let row = |bytes: String| bytes.split_whitespace().map(byte).collect::<Vec<_>>();
         self.rows.iter().map(before).flat_map(row).collect()
+    }
+
+    /// The rows of a table, each with its CR LF.
+    fn table(&self) -> Vec<u8> {
+        self.rows.iter().flat_map(|row| format!("{row}\r\n").into_bytes()).collect()
     }
 
     fn text(&self) -> String {
@@ -161,7 +185,8 @@ fn blocks(guide: &str) -> Vec<Block<'_>> {
             (None, false) => {}
         }
     }
-    let is_bytes = |mark: &str| !matches!(mark, "" | "c" | "rust" | "sh" | "explain" | "pool");
+    let is_bytes =
+        |mark: &str| !matches!(mark, "" | "c" | "rust" | "sh" | "explain" | "pool" | "import");
     found.retain(|block| block.mark.split(' ').next().is_some_and(is_bytes));
     found
 }

@@ -65,6 +65,7 @@ pub fn example() -> Result<Example, BuildError> {
         plan,
         case,
         amounts: &[],
+        sheets: &[],
         words: Words {
             persons: &[(0, "Eka"), (1, "Luka"), (2, "Nana"), (3, "Irakli"), (4, "Zura")],
             facts: &[

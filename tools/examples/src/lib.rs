@@ -11,15 +11,14 @@ pub mod kitchen;
 pub mod nursery;
 pub mod printed;
 pub mod roster_picture;
+pub mod rowing;
 pub mod svg;
 pub mod tree_picture;
 
-use lukhveri::BuildError;
-
-use example::Example;
+use example::{Example, Fault};
 
 /// All examples, in the order in which a reader meets them.
-pub fn all() -> Result<Vec<Example>, BuildError> {
+pub fn all() -> Result<Vec<Example>, Fault> {
     Ok(vec![
         first::example()?,
         nursery::example()?,
@@ -27,6 +26,7 @@ pub fn all() -> Result<Vec<Example>, BuildError> {
         club::example()?,
         allotments::example()?,
         choir::example()?,
+        rowing::example()?,
     ])
 }
 

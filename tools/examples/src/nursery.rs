@@ -59,6 +59,7 @@ pub fn example() -> Result<Example, BuildError> {
         plan,
         case,
         amounts: &[],
+        sheets: &[],
         words: Words {
             persons: &[
                 (0, "Nino"),

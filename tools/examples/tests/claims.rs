@@ -171,6 +171,23 @@ fn a_list_of_another_length_than_the_roster() {
     assert_eq!(ask(&[1, 2], 11), 13);
 }
 
+#[test]
+fn rows_of_a_table() {
+    let header = "kind,left,right,citation\r\n";
+    let ask = |rows: &str, room: usize| {
+        let mut plan = vec![7; room];
+        let table = format!("{header}{rows}");
+        let made = lukhveri::import_into(table.as_bytes(), &mut plan).map(<[u8]>::to_vec);
+        let zero = plan.iter().all(|byte| *byte == 0);
+        made.map_err(|refusal| (refusal.number(), refusal.record(), zero))
+    };
+    let plan = bytes("010101_030101_040f00010005_042f01020006_0807030007");
+    let rows = "status,3,,7\r\nbase,0,1,5\r\ncombination,1,2,6\r\n";
+    assert_eq!(ask(rows, plan.len()), Ok(plan.clone()));
+    assert_eq!(ask(rows, plan.len() - 1), Err((17, 0, true)));
+    assert_eq!(ask("base,0,1,5\r\nbase,0,1,64\r\nx", 0), Err((16, 2, true)));
+}
+
 /// Fact 0 makes the chain 0, 1, 2. Fact 1 names 2 and 5, so a mark on 2 spreads to 5; the line of 5 lists fact 1 alone, but fact 0 changes it.
 #[test]
 fn a_question_that_is_not_listed_can_matter() {

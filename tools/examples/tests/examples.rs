@@ -3,7 +3,8 @@
 use std::fs;
 use std::path::Path;
 
-use lukhveri::{EVENTS_LENGTH, Event, LINES_LENGTH, Line, Persons, Unit};
+use lukhveri::draft::with_returns;
+use lukhveri::{EVENTS_LENGTH, Event, LINES_LENGTH, Line, Persons, Plan, Unit};
 
 fn root() -> &'static Path {
     Path::new(concat!(env!("CARGO_MANIFEST_DIR"), "/../.."))
@@ -60,6 +61,22 @@ fn the_choir_is_billed() {
     };
     let wanted = [unit(&[0, 1], 10, true), unit(&[2], 0, false), unit(&[3], 1000, false)];
     assert_eq!((pools.units.as_slice(), pools.unplaced), (&wanted[..], 101));
+}
+
+/// What the folder of the rowing club says of its tables.
+#[test]
+fn the_tables_of_the_rowing_club() {
+    use examples::rowing::{TABLE, UNIX};
+    let rowing = examples::rowing::example().expect("an example");
+    let records = rowing.plan.records();
+    assert_eq!((records.edges.len(), records.statuses.len()), (4, 2));
+    let refusal = Plan::from_table(UNIX).expect_err("line ends of Unix");
+    assert_eq!((refusal.number(), refusal.record()), (16, 0));
+    let mended = Plan::from_table(&with_returns(UNIX)).expect("line ends of Windows");
+    assert_eq!(mended.bytes(), rowing.plan.bytes());
+    let plain = |table: &[u8]| String::from_utf8_lossy(table).replace(['"', '\r'], "");
+    assert_eq!(plain(TABLE), plain(UNIX));
+    assert!(TABLE.ends_with(b"\r\n") && !UNIX.contains(&b'\r'));
 }
 
 /// Maka, Dato and Tamar have a circle without Levan: what he answers does not show in their lines.

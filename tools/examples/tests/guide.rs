@@ -16,7 +16,7 @@ fn guide() -> String {
 #[test]
 fn every_block_of_bytes_agrees() {
     let agreed = examples::guide::agrees(&guide()).unwrap_or_else(|what| panic!("{what}"));
-    assert!(agreed >= 24, "{agreed} blocks were compared");
+    assert!(agreed >= 27, "{agreed} blocks were compared");
 }
 
 #[test]
@@ -33,6 +33,14 @@ fn a_wrong_pool_is_found() {
     assert!(examples::guide::agrees(&pools("0 5\n1 7\n")).is_err());
 }
 
+#[test]
+fn a_wrong_row_is_found() {
+    let guide = "```table\nkind,left,right,citation\nbase,0,64,1\n```\n";
+    let turned = |row: &str| format!("{guide}```turned\n16 {row}\n```\n");
+    assert_eq!(examples::guide::agrees(&turned("1")), Ok(1));
+    assert!(examples::guide::agrees(&turned("2")).is_err());
+}
+
 /// The text of the first block with this mark.
 fn block(mark: &str) -> String {
     let guide = guide();
@@ -40,13 +48,19 @@ fn block(mark: &str) -> String {
     rest.split_once("```").expect("its end").0.to_string()
 }
 
-/// What the program prints of an example.
-fn lukhveri(command: &str, example: &str) -> String {
+/// The program, called in a folder, with a command.
+fn program(command: &str, folder: &Path) -> Command {
     let mut program = Command::new(env!("CARGO"));
     program.args(["run", "--quiet", "--release", "--manifest-path"]);
     program.arg(root().join("hosts/rust/Cargo.toml"));
-    program.args(["--", command]).arg(root().join("examples").join(example));
-    let said = program.output().expect(command).stdout;
+    program.args(["--", command]).current_dir(folder);
+    program
+}
+
+/// What the program prints of an example.
+fn lukhveri(command: &str, example: &str) -> String {
+    let mut program = program(command, root());
+    let said = program.arg(root().join("examples").join(example)).output().expect(command).stdout;
     String::from_utf8_lossy(&said).into_owned()
 }
 
@@ -61,6 +75,24 @@ fn pool_says_so() {
     assert_eq!(lukhveri("pool", "choir"), block("pool choir"));
     let table = fs::read_to_string(root().join("examples/choir/amounts.csv")).expect("amounts");
     assert_eq!(table.replace("\r\n", "\n"), block("pool amounts"));
+}
+
+/// All that it prints of the table of examples/rowing, and of the table that is refused.
+#[test]
+fn import_says_so() {
+    let folder = folder("import");
+    let _ = fs::remove_file(folder.join("plan.bin"));
+    let import = |table: &Path| {
+        let mut program = program("import", &folder);
+        let said = program.arg(table).arg("plan.bin").output().expect("import").stdout;
+        String::from_utf8_lossy(&said).into_owned()
+    };
+    let rowing = root().join("examples/rowing/rules.csv");
+    assert_eq!(import(&rowing), block("import rowing"));
+    let made = fs::read(folder.join("plan.bin")).expect("a plan");
+    assert_eq!(made, fs::read(root().join("examples/rowing/plan.bin")).expect("a plan"));
+    fs::write(folder.join("rules.csv"), block("table").replace('\n', "\r\n")).expect("a file");
+    assert_eq!(import(Path::new("rules.csv")), block("import refused"));
 }
 
 /// A folder of its own for a test.

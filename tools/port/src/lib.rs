@@ -2,10 +2,13 @@
 
 pub mod alike;
 pub mod clock;
+pub mod drafted;
+pub mod import_times;
 pub mod listed;
 pub mod pools;
 pub mod promised;
 pub mod settings;
+pub mod tables;
 
 use judge::sides::Side;
 use model::Outcome;

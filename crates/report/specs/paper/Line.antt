@@ -6,7 +6,7 @@ use lib.ListN.{length, getD}
 use lib.Dec.{eqb}
 use Rattle.sets.specs.paper.Sets.{has, one, only, unionBelow, unionOf, allOf}
 use Rattle.expressions.specs.paper.Variables.{Influence}
-use Rattle.worlds.specs.paper.Events.{littleBytes}
+use Rattle.page.specs.Little.{littleBytes}
 use Rattle.worlds.specs.paper.View.{View}
 
 pub record Line : Type 0 where

@@ -1,20 +1,16 @@
 -- The events of one world. Document 01, "Line and event": "An event is 12 bytes: kind, a, b, c, 8-byte mask".
 use mathlib.Core.Bool.{Bool, _&&_, not, cond}
 use mathlib.Core.List.{List, [], _∷_, _++_, flatMap}
-use Prim.Native.Nat.{ℕ, zero, suc, _/_, _%_}
+use Prim.Native.Nat.{ℕ}
 use lib.Dec.{eqb}
 use Rattle.sets.specs.paper.Sets.{has, meets, risingLess, anyBelow, numbers}
+use Rattle.page.specs.Little.{littleBytes}
 use Rattle.records.specs.paper.Plan.{Plan, Election}
 use Rattle.records.specs.paper.Case.{Case}
 use Rattle.expressions.specs.paper.Rules.{edgeCount, cutCount, attachmentCount, barCount, statusCount, edge, cut, attachment, status}
 use Rattle.expressions.specs.paper.Nodes.{on}
 use Rattle.expressions.specs.paper.Bindings.{evidenceOf}
 use Rattle.worlds.specs.paper.World.{World, looseComponents, sameMembers, standing, blockedBy, barHolds}
-
--- n bytes of a number, the lowest first
-unfoldable pub littleBytes : ℕ → ℕ → List ℕ
-littleBytes zero m = []
-littleBytes (suc n) m = m % 256 ∷ littleBytes n (m / 256)
 
 unfoldable pub event : ℕ → ℕ → ℕ → ℕ → ℕ → List ℕ
 event kind a b c mask = kind ∷ a ∷ b ∷ c ∷ littleBytes 8 mask

@@ -1,7 +1,7 @@
 //! The first row of amounts.csv: which column holds what.
 
 use crate::amounts::csv::Quoting;
-use crate::amounts::shown;
+use crate::shown::shown;
 
 /// What stands in the first row.
 const HEADER: [&str; 2] = ["person", "cents"];

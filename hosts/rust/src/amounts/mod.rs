@@ -87,12 +87,3 @@ fn no_list(plan: &[u8], case: &[u8], given: Given) -> Refusal {
     let refused = Buffers::new().pool(plan, case, &longer).err();
     refused.unwrap_or(Refusal::nowhere(Reason::AmountsDoNotFit)).of_amounts(given)
 }
-
-/// The beginning of what was written.
-fn shown(text: &str) -> String {
-    const MOST: usize = 40;
-    match text.char_indices().nth(MOST) {
-        Some((end, _)) => text.get(..end).unwrap_or(text).to_string() + "...",
-        None => text.to_string(),
-    }
-}

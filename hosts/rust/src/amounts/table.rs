@@ -5,10 +5,10 @@ use std::fmt;
 
 use crate::amounts::columns::Columns;
 use crate::amounts::csv::{Quoting, Rows};
-use crate::amounts::shown;
 use crate::limits;
 use crate::names::{Names, listed};
 use crate::persons::Persons;
+use crate::shown::shown;
 
 /// What is wrong with a table, and what would mend it.
 #[derive(Clone, Debug, PartialEq, Eq)]

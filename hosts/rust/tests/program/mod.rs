@@ -50,7 +50,13 @@ pub fn run<Word: AsRef<OsStr>>(words: &[Word]) -> Said {
 /// With a text on the standard input.
 pub fn run_with<Word: AsRef<OsStr>>(words: &[Word], input: &[u8]) -> Said {
     let mut command = program();
-    command.args(words).stdin(Stdio::piped()).stdout(Stdio::piped()).stderr(Stdio::piped());
+    command.args(words);
+    said_with(command, input)
+}
+
+/// What a command says with a text on its standard input.
+pub fn said_with(mut command: Command, input: &[u8]) -> Said {
+    command.stdin(Stdio::piped()).stdout(Stdio::piped()).stderr(Stdio::piped());
     let mut child = command.spawn().expect("lukhveri runs");
     let mut pipe = child.stdin.take().expect("a pipe");
     let input = input.to_vec();
@@ -69,8 +75,9 @@ pub fn on(command: &str, folder: &Path, words: &[&str]) -> Said {
     run(&all)
 }
 
-/// The six examples of the repository.
-pub const EXAMPLES: [&str; 6] = ["01", "allotments", "choir", "club", "kitchen", "nursery"];
+/// The examples of the repository.
+pub const EXAMPLES: [&str; 7] =
+    ["01", "allotments", "choir", "club", "kitchen", "nursery", "rowing"];
 
 pub fn example(name: &str) -> PathBuf {
     Path::new("examples").join(name)

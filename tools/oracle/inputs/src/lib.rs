@@ -1,7 +1,8 @@
-//! Inputs for comparison: plans and cases as values, random ones, damaged
-//! ones, smaller ones, and the vector format.
+//! Inputs for comparison: plans and cases as values, and tables, random
+//! ones, damaged ones, smaller ones, and the vector format.
 
 pub mod amounts;
+pub mod broken_tables;
 pub mod build;
 pub mod calls;
 pub mod classes;
@@ -13,6 +14,8 @@ pub mod random;
 pub mod samples;
 pub mod shrink;
 pub mod smallest;
+pub mod table_vectors;
+pub mod tables;
 pub mod vectors;
 pub mod village;
 pub mod wire;

@@ -31,6 +31,21 @@ pub fn smallest(sample: Sample, differ: impl Fn(&[u8], &[u8]) -> bool) -> (Vec<u
     }
 }
 
+/// Bytes alone, byte by byte.
+pub fn shortest(mut bytes: Vec<u8>, differ: impl Fn(&[u8]) -> bool) -> Vec<u8> {
+    let mut left = TRIES;
+    loop {
+        let before = bytes.len();
+        bytes = shorten(bytes, |next| {
+            left = left.saturating_sub(1);
+            left > 0 && differ(next)
+        });
+        if bytes.len() == before {
+            return bytes;
+        }
+    }
+}
+
 /// Leaves out bytes in a row, many before few, where that still shows it.
 fn shorten(mut bytes: Vec<u8>, mut shows: impl FnMut(&[u8]) -> bool) -> Vec<u8> {
     for run in (1..=RUN).rev() {

@@ -2,6 +2,7 @@
 //! account. A further implementation joins by implementing `Side`.
 
 use inputs::pool_vectors::{PoolCall, PoolExpected};
+use inputs::table_vectors::{TableCall, TableExpected};
 use inputs::vectors::{Call, Expected, Op};
 use model::{Citing, Outcome};
 
@@ -79,6 +80,15 @@ pub fn model_pools(call: &PoolCall) -> PoolExpected {
         units: found.units.iter().map(|unit| (unit.block, unit.cents, unit.open)).collect(),
         unplaced: found.unplaced,
     }
+}
+
+/// The same of a call that imports a table.
+pub fn model_imports(call: &TableCall) -> TableExpected {
+    let mut plan = vec![DIRT; call.room];
+    let made = model::import(&call.table, &mut plan);
+    let rest = plan.split_off(made.length as usize);
+    assert!(rest.iter().all(|&byte| byte == 0), "plan buffer past the plan");
+    TableExpected { refusal: made.refusal, row: made.row, plan }
 }
 
 /// What two sides answer, if it is not the same.

@@ -1,8 +1,9 @@
 //! The committed lists agree with the model, and are what their maker makes.
 
 use inputs::pool_vectors::PoolVector;
+use inputs::table_vectors::TableVector;
 use inputs::vectors::Vector;
-use judge::sides::{model_answers, model_pools};
+use judge::sides::{model_answers, model_imports, model_pools};
 use model::Citing;
 
 const LISTS: [&str; 2] = [
@@ -13,6 +14,11 @@ const LISTS: [&str; 2] = [
 const POOLS: [&str; 2] = [
     include_str!("../../../../crates/replay/data/pools.txt"),
     include_str!("../../../../vectors/pools.txt"),
+];
+
+const TABLES: [&str; 2] = [
+    include_str!("../../../../crates/replay/data/tables.txt"),
+    include_str!("../../../../vectors/tables.txt"),
 ];
 
 #[test]
@@ -27,6 +33,11 @@ fn the_lists_agree_with_the_model() {
         assert_eq!(vector.print(), line);
         assert_eq!(model_pools(&vector.call), vector.expected, "{line}");
     }
+    for line in TABLES.iter().flat_map(|list| list.lines()) {
+        let vector = TableVector::parse(line).expect("a vector");
+        assert_eq!(vector.print(), line);
+        assert_eq!(model_imports(&vector.call), vector.expected, "{line}");
+    }
 }
 
 #[test]
@@ -34,6 +45,8 @@ fn the_lists_are_what_their_maker_makes() {
     let seed = judge::listing::SEED;
     assert!(judge::listing::fixed_pools(seed).text() == POOLS[0], "run tools/make-vectors");
     assert!(judge::listing::sample_pools(seed).text() == POOLS[1], "run tools/make-vectors");
+    assert!(judge::listing::fixed_tables(seed).text() == TABLES[0], "run tools/make-vectors");
+    assert!(judge::listing::sample_tables(seed).text() == TABLES[1], "run tools/make-vectors");
     assert!(judge::listing::fixed(seed).text() == LISTS[0], "run tools/make-vectors");
     assert!(judge::listing::sample(seed).text() == LISTS[1], "run tools/make-vectors");
 }
@@ -70,6 +83,41 @@ fn the_list_of_pools_covers_all_kinds() {
     }
     assert!(lines.iter().chain(&roles).chain(&open).all(|&count| count > 0));
     assert!([0, 1, 3, 4, 5, 8, 9, 10, 11, 12, 13, 15].iter().all(|&number| refusals[number] > 0));
+}
+
+/// Both refusals, the largest plan, and each row that may be named at the limits.
+#[test]
+fn the_list_of_tables_covers_all_kinds() {
+    let vectors = TABLES[0].lines().map(|line| TableVector::parse(line).expect("a vector"));
+    let expected: Vec<_> = vectors.map(|vector| vector.expected).collect();
+    for (refusal, row) in
+        [(16, 0), (16, 1), (16, 2), (16, 3), (16, 33), (16, 65), (16, 97), (17, 0)]
+    {
+        assert!(expected.iter().any(|found| (found.refusal, found.row) == (refusal, row)));
+    }
+    assert!(expected.iter().any(|found| found.plan.len() == 550));
+    assert!(expected.iter().filter(|found| found.refusal == 0).count() > 60);
+}
+
+/// A line of another form is no vector.
+#[test]
+fn lines_of_another_form_are_no_tables() {
+    let line = TABLES[0].lines().find(|line| line.contains(" 010101030101 ")).expect("a line");
+    let fields: Vec<&str> = line.split(' ').collect();
+    let with = |at: usize, text: &str| {
+        let mut fields = fields.clone();
+        fields[at] = text;
+        TableVector::parse(&fields.join(" "))
+    };
+    assert!(with(0, "import").is_some() && with(1, "-").is_some() && with(4, "99").is_some());
+    for (at, text) in [(0, "answer"), (2, "00"), (3, "1"), (5, "1"), (8, "1"), (9, "1")] {
+        assert_eq!(with(at, text), None);
+    }
+    for (at, text) in [(10, "5"), (11, "1"), (12, "1"), (13, "0101"), (14, "00"), (6, "x")] {
+        assert_eq!(with(at, text), None);
+    }
+    assert_eq!(TableVector::parse(&fields[..14].join(" ")), None);
+    assert_eq!(Vector::parse(line), None);
 }
 
 /// A line of another form is no vector.

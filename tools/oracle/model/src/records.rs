@@ -140,6 +140,11 @@ pub struct Case {
     pub constraints: Vec<u8>,
 }
 
+/// The highest numbers of persons, citations and pieces of evidence.
+pub const MOST_PERSON: u8 = 63;
+pub const MOST_CITATION: u8 = 63;
+const MOST_EVIDENCE: u8 = 63;
+
 /// The bytes not yet read. Every reading answers None where refusal 1 stands.
 struct Reader<'a> {
     rest: &'a [u8],
@@ -157,11 +162,15 @@ impl Reader<'_> {
     }
 
     fn person(&mut self) -> Option<u8> {
-        self.within(0, 63)
+        self.within(0, MOST_PERSON)
     }
 
     fn citation(&mut self) -> Option<u8> {
-        self.within(0, 63)
+        self.within(0, MOST_CITATION)
+    }
+
+    fn evidence(&mut self) -> Option<u8> {
+        self.within(0, MOST_EVIDENCE)
     }
 
     fn truth(&mut self) -> Option<bool> {
@@ -248,7 +257,9 @@ enum PlanRecord {
 
 const PLAN_LISTED: [u8; 8] = [0x03, 0x03, 0x1f, 0x3f, 0x3f, 0x3f, 0x07, 0x07];
 const PLAN_REQUIRED: [u8; 8] = [0x01, 0x00, 0x00, 0x0f, 0x07, 0x1f, 0x07, 0x07];
-const PLAN_LIMITS: [usize; 8] = [1, 64, 256, 64, 16, 32, 32, 32];
+pub const MOST_EDGES: usize = 64;
+pub const MOST_STATUSES: usize = 32;
+const PLAN_LIMITS: [usize; 8] = [1, 64, 256, MOST_EDGES, 16, 32, 32, MOST_STATUSES];
 const MOST_UNRESOLVED: usize = 16;
 
 fn read_fact(reader: &mut Reader, bits: u8) -> Option<Fact> {
@@ -621,7 +632,7 @@ fn read_heading(reader: &mut Reader, bits: u8) -> Option<Heading> {
         segment: field!(bits, 2, reader.byte()),
         segment_complete: has(bits, 3),
         roster: field!(bits, 4, reader.mask()),
-        complete: optional!(bits, 5, reader.citation()).is_some(),
+        complete: optional!(bits, 5, reader.evidence()).is_some(),
         most_worlds: field!(bits, 6, reader.two().filter(|&most| most <= MOST_WORLDS)),
     })
 }
@@ -630,15 +641,15 @@ fn read_family(reader: &mut Reader, bits: u8) -> Option<Family> {
     Some(Family {
         number: field!(bits, 0, reader.byte()),
         scope: field!(bits, 1, reader.byte()),
-        complete: optional!(bits, 2, reader.citation()).is_some(),
+        complete: optional!(bits, 2, reader.evidence()).is_some(),
     })
 }
 
 fn read_boolean(reader: &mut Reader, bits: u8) -> Option<Boolean> {
-    let pair = |reader: &mut Reader| Some((reader.truth()?, reader.citation()?));
+    let pair = |reader: &mut Reader| Some((reader.truth()?, reader.evidence()?));
     Some(Boolean {
         fact: field!(bits, 0, reader.byte()),
-        unknown: optional!(bits, 1, reader.citation()),
+        unknown: optional!(bits, 1, reader.evidence()),
         observations: field!(bits, 2, reader.list(16, pair)),
     })
 }
@@ -647,7 +658,7 @@ fn read_relation(reader: &mut Reader, bits: u8) -> Option<Relation> {
     Some(Relation {
         fact: field!(bits, 0, reader.byte()),
         value: field!(bits, 1, reader.truth()),
-        evidence: field!(bits, 2, reader.citation()),
+        evidence: field!(bits, 2, reader.evidence()),
     })
 }
 

@@ -1,4 +1,5 @@
-//! bench: time of an answer by the Rust, by the model and by the proved code, and of the proved code's check and pool, for classes of inputs.
+//! bench: time of an answer by the Rust, by the model and by the proved code, and of the proved code's check and pool, for classes of inputs; then
+//! of plans made from two tables.
 //! `tools/bench --help` has more.
 
 use std::hint::black_box;
@@ -13,6 +14,7 @@ use model::Citing;
 use model::report::{EVENT, LINE};
 use port::Port;
 use port::clock::{Clock, median};
+use port::import_times;
 use port::pools::{Arrays, Pooled, pool};
 use port::settings::{fail, settings};
 
@@ -184,5 +186,9 @@ fn main() {
     );
     for class in settings.classes {
         row(class, settings.rounds);
+    }
+    if !import_times::print(settings.rounds) {
+        eprintln!("bench: the plans made from a table differ");
+        exit(1);
     }
 }

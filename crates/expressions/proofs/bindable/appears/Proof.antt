@@ -7,7 +7,8 @@ use lib.ListN.{length, getD, drop, drop-of-length-le}
 use borrow.Author.Tests.{eq-eqb, ne-eqb}
 use borrow.Author.Needs.{needs}
 use Rattle.sets.specs.paper.Sets.{anyOf}
-use Rattle.expressions.proofs.ListLaws.{rest-next, any-go, any-stop}
+use Rattle.records.proofs.UsedLaws.{rest-next}
+use Rattle.expressions.proofs.ListLaws.{any-go, any-stop}
 use Rattle.expressions.proofs.bindable.appears.Statement.{statement}
 use Rattle.expressions.proofs.bindable.appears.Tie as tie
 

@@ -6,7 +6,7 @@ use lib.Seq.{length-take-le}
 use borrow.Author.Needs.{needs}
 use Rattle.sets.specs.paper.Sets.{closeOf}
 use Rattle.expressions.specs.code.Joined.{joinsOf}
-use Rattle.expressions.proofs.ListLaws.{used-take}
+use Rattle.records.proofs.UsedLaws.{used-take}
 use Rattle.expressions.proofs.circle.circle_of.Statement.{statement}
 use Rattle.expressions.proofs.circle.circle_of.Tie as tie
 

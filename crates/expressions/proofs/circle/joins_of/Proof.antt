@@ -7,7 +7,8 @@ use lib.ListN.{length, take, length-map}
 use lib.Seq.{length-take-le}
 use borrow.Author.Needs.{needs}
 use Rattle.expressions.specs.code.Joined.{joinsOf}
-use Rattle.expressions.proofs.ListLaws.{used-take, front-below}
+use Rattle.records.proofs.UsedLaws.{used-take}
+use Rattle.expressions.proofs.ListLaws.{front-below}
 use Rattle.expressions.proofs.circle.joins_of.Statement.{statement}
 use Rattle.expressions.proofs.circle.joins_of.Tie as tie
 

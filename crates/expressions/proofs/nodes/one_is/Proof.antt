@@ -8,7 +8,8 @@ use borrow.Author.Needs.{needs}
 use Rattle.sets.specs.paper.Sets.{anyOf}
 use Rattle.records.specs.code.Decoded.{numbersOf}
 use Rattle.expressions.specs.paper.Nodes.{on}
-use Rattle.expressions.proofs.ListLaws.{used-next, used-end, any-go, any-stop}
+use Rattle.records.proofs.UsedLaws.{used-next, used-end}
+use Rattle.expressions.proofs.ListLaws.{any-go, any-stop}
 use Rattle.expressions.proofs.nodes.one_is.Statement.{statement}
 use Rattle.expressions.proofs.nodes.one_is.Tie as tie
 

@@ -5,7 +5,7 @@ use borrow.Author.Needs.{needs}
 use Rattle.sets.specs.paper.Sets.{unionOf}
 use Rattle.records.specs.code.Decoded.{numbersOf}
 use Rattle.expressions.specs.code.Listed.{usedAt}
-use Rattle.expressions.proofs.ListLaws.{used-take}
+use Rattle.records.proofs.UsedLaws.{used-take}
 use Rattle.expressions.proofs.touch.constraint_uses.Statement.{statement}
 use Rattle.expressions.proofs.touch.constraint_uses.Tie as tie
 

@@ -7,7 +7,7 @@ use borrow.Author.Needs.{needs}
 use Rattle.sets.specs.paper.Sets.{one, union, unionOf}
 use Rattle.records.specs.promises.Sound.{Person}
 use Rattle.records.specs.code.Decoded.{factOf}
-use Rattle.expressions.proofs.ListLaws.{used-next, used-end, used-each}
+use Rattle.records.proofs.UsedLaws.{used-next, used-end, used-each}
 use Rattle.sets.proofs.UnionLaws.{union-go, union-none, none-union, set-union}
 use Rattle.expressions.proofs.touch.named_persons.Statement.{statement}
 use Rattle.expressions.proofs.touch.named_persons.Tie as tie

@@ -8,7 +8,7 @@ use lib.ListN.{length, drop, getD, drop-of-length-le}
 use borrow.Author.Needs.{needs}
 use Rattle.sets.specs.paper.Sets.{has, union, only}
 use Rattle.expressions.specs.code.Listed.{usersIn}
-use Rattle.expressions.proofs.ListLaws.{rest-next}
+use Rattle.records.proofs.UsedLaws.{rest-next}
 use Rattle.sets.proofs.UnionLaws.{union-assoc, union-none, none-union, joined-if, left-if}
 use Rattle.expressions.proofs.touch.users.Statement.{statement}
 use Rattle.expressions.proofs.touch.users.Tie as tie

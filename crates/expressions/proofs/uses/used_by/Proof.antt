@@ -6,7 +6,7 @@ use lib.ListN.{length, drop, getD, length-map}
 use borrow.Author.Needs.{needs}
 use Rattle.sets.specs.paper.Sets.{union, unionOf}
 use Rattle.records.specs.code.Decoded.{numbersOf}
-use Rattle.expressions.proofs.ListLaws.{used-next, used-end}
+use Rattle.records.proofs.UsedLaws.{used-next, used-end}
 use Rattle.sets.proofs.UnionLaws.{union-go, union-none, none-union}
 use Rattle.expressions.proofs.uses.used_by.Statement.{statement}
 use Rattle.expressions.proofs.uses.used_by.Tie as tie

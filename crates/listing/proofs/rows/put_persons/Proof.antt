@@ -4,9 +4,9 @@ use mathlib.Core.Bool.{false}
 use lib.ListN.{length}
 use borrow.Author.Needs.{needs}
 use Rattle.sets.specs.paper.Sets.{members}
+use Rattle.page.specs.Page.{Page, puts}
+use Rattle.page.proofs.PageLaws.{puts-length}
 use Rattle.listing.specs.Text.{persons}
-use Rattle.listing.specs.Page.{Page, puts}
-use Rattle.listing.proofs.PageLaws.{puts-length}
 use Rattle.listing.proofs.PersonLaws.{pending, turn-put, none-put, all-put}
 use Rattle.listing.proofs.rows.put_persons.Statement.{statement}
 use Rattle.listing.proofs.rows.put_persons.Tie as tie

@@ -5,9 +5,9 @@ use denote.Ref.{now}
 use native.Mathlib.Omega.{arith}
 use lib.ListN.{length}
 use borrow.Author.Needs.{needs}
+use Rattle.page.specs.Page.{Page, puts}
 use Rattle.report.specs.paper.LineAt.{linesFrom}
 use Rattle.listing.specs.Text.{rows}
-use Rattle.listing.specs.Page.{Page, puts}
 use Rattle.listing.proofs.RowLaws.{rows-next, rows-end}
 use Rattle.listing.proofs.rows.put_rows.Statement.{statement}
 use Rattle.listing.proofs.rows.put_rows.Tie as tie

@@ -73,7 +73,7 @@ pub struct AttachmentsRead {
     pub attachments: Attachments,
 }
 
-fn no_attachments() -> Attachments
+pub fn no_attachments() -> Attachments
     ensures { λ r. ⌜ (attachmentsOf r ≡ []) × (r .count ≡ 0) × (length (r .items) ≡ 32) ⌝ }
 {
     let none = no_election();

@@ -58,7 +58,7 @@ pub struct BarsRead {
     pub bars: Bars,
 }
 
-fn no_bars() -> Bars
+pub fn no_bars() -> Bars
     ensures { λ r. ⌜ (barsOf r ≡ []) × (r .count ≡ 0) × (length (r .items) ≡ 32) ⌝ }
 {
     let blank = Bar {

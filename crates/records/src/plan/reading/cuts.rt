@@ -125,7 +125,7 @@ pub struct CutsRead {
     pub cuts: Cuts,
 }
 
-fn no_cuts() -> Cuts
+pub fn no_cuts() -> Cuts
     ensures { λ r. ⌜ (cutsOf r ≡ []) × (r .count ≡ 0) × (length (r .items) ≡ 16) ⌝ }
 {
     let election = no_election();

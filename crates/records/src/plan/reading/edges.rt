@@ -94,7 +94,7 @@ pub struct EdgesRead {
     pub edges: Edges,
 }
 
-fn no_edges() -> Edges
+pub fn no_edges() -> Edges
     ensures { λ r. ⌜ (edgesOf r ≡ []) × (r .count ≡ 0) × (length (r .items) ≡ 64) ⌝ }
 {
     let none = Numbers {

@@ -81,7 +81,7 @@ fn no_fact() -> Fact
     }
 }
 
-fn no_facts() -> Facts
+pub fn no_facts() -> Facts
     ensures { λ r. ⌜ (factsOf r ≡ []) × (r .count ≡ 0) × (length (r .items) ≡ 64) ⌝ }
 {
     let blank = no_fact();

@@ -134,7 +134,7 @@ pub struct NodesRead {
     pub nodes: Nodes,
 }
 
-fn no_nodes() -> Nodes
+pub fn no_nodes() -> Nodes
     ensures { λ r. ⌜ (nodesOf r ≡ []) × (r .count ≡ 0) × (length (r .items) ≡ 256) ⌝ }
 {
     let none = Numbers {

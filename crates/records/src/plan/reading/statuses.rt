@@ -57,7 +57,7 @@ pub struct StatusesRead {
     pub statuses: Statuses,
 }
 
-fn no_statuses() -> Statuses
+pub fn no_statuses() -> Statuses
     ensures { λ r. ⌜ (statusesOf r ≡ []) × (r .count ≡ 0) × (length (r .items) ≡ 32) ⌝ }
 {
     let blank = Status {

@@ -1,6 +1,7 @@
 -- `event::encode_event`: the code divides as the definition does.
 use mathlib.Core.Path.{refl}
-use Rattle.worlds.specs.paper.Events.{event, littleBytes}
+use Rattle.page.specs.Little.{littleBytes}
+use Rattle.worlds.specs.paper.Events.{event}
 use borrow.Author.Needs.{needs}
 use Rattle.report.proofs.event.encode_event.Statement.{statement}
 use Rattle.report.proofs.event.encode_event.Tie as tie

@@ -5,7 +5,7 @@ use lib.ListN.{length, length-map}
 use lib.Seq.{length-take-le}
 use Rattle.sets.specs.paper.Sets.{union, unionOf}
 use Rattle.expressions.specs.code.Listed.{heldByStatus}
-use Rattle.expressions.proofs.ListLaws.{used-take}
+use Rattle.records.proofs.UsedLaws.{used-take}
 use Rattle.report.specs.code.Opening.{itself}
 use Rattle.report.proofs.HeadingLaws.{persons-are}
 use Rattle.report.proofs.heading.rule_persons.Statement.{statement}

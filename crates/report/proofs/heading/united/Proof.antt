@@ -4,7 +4,7 @@ use Prim.Native.Nat.{_-_, _≤_}
 use lib.ListN.{length, drop, drop-of-length-le}
 use borrow.Author.Needs.{needs}
 use Rattle.sets.specs.paper.Sets.{union, unionOf}
-use Rattle.expressions.proofs.ListLaws.{rest-next}
+use Rattle.records.proofs.UsedLaws.{rest-next}
 use Rattle.sets.proofs.UnionLaws.{none-union, union-first, union-end}
 use Rattle.report.specs.code.Opening.{itself}
 use Rattle.report.proofs.heading.united.Statement.{statement}

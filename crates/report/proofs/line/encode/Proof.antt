@@ -3,7 +3,7 @@ use mathlib.Core.Path.{ap, _∙_}
 use mathlib.Core.List.{List, [], _∷_, _++_}
 use Prim.Native.Nat.{ℕ}
 use lib.ListN.{getD}
-use Rattle.worlds.specs.paper.Events.{littleBytes}
+use Rattle.page.specs.Little.{littleBytes}
 use Rattle.report.specs.paper.Line.{lineBytes}
 use Rattle.report.specs.declared.line.Line.{Line}
 use borrow.Author.Needs.{needs}

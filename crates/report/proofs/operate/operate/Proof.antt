@@ -3,6 +3,7 @@ use mathlib.Core.Path.{_≡_, sym, ap, _∙_}
 use Prim.Native.Nat.{ℕ}
 use lib.ListN.{length, replicate}
 use denote.Ref.{now}
+use Rattle.page.proofs.ZeroLaws.{zeros-all}
 use Rattle.records.specs.promises.Sound.{Sound, SoundCase}
 use Rattle.records.specs.code.Decoded.{planOf, caseOf}
 use Rattle.records.specs.declared.plan.Plan.{Plan}
@@ -12,7 +13,7 @@ use Rattle.report.specs.paper.Operations.{Opened, stopped, opened}
 use Rattle.report.specs.code.Open.{openedOf}
 use Rattle.report.specs.declared.open.Stop.{Stop}
 use Rattle.report.proofs.OpenLaws.{bare-fits, is-ready}
-use Rattle.report.proofs.OperateLaws.{plan-sound, plan-stops, case-sound, case-stops, case-opened, zeros-all, stops, cleared, bare, ready-outcome}
+use Rattle.report.proofs.OperateLaws.{plan-sound, plan-stops, case-sound, case-stops, case-opened, stops, cleared, bare, ready-outcome}
 use borrow.Author.Needs.{needs}
 use Rattle.report.proofs.operate.operate.Statement.{statement}
 use Rattle.report.proofs.operate.operate.Tie as tie

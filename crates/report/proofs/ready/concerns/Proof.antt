@@ -4,7 +4,7 @@ use mathlib.Core.Bool.{false≢true}
 use lib.ListN.{length, length-map}
 use borrow.Author.Needs.{needs}
 use Rattle.expressions.specs.code.Influences.{setsOf}
-use Rattle.expressions.proofs.ListLaws.{used-length, used-take}
+use Rattle.records.proofs.UsedLaws.{used-length, used-take}
 use Rattle.report.proofs.ready.concerns.Statement.{statement}
 use Rattle.report.proofs.ready.concerns.Tie as tie
 

@@ -8,7 +8,8 @@ use Rattle.sets.specs.paper.Sets.{All}
 use Rattle.records.specs.code.Decoded.{cutOf, planOf}
 use Rattle.records.proofs.plan.Cut.{the-type}
 use Rattle.expressions.specs.code.Influences.{setsOf}
-use Rattle.expressions.proofs.ListLaws.{made-length, used-take}
+use Rattle.records.proofs.UsedLaws.{used-take}
+use Rattle.expressions.proofs.ListLaws.{made-length}
 use Rattle.worlds.specs.code.Laid.{OpenFits}
 use Rattle.worlds.proofs.MakeLaws.{kind-has, edges-fit, cuts-fit, precedes-fit, attachments-fit, bars-fit, statuses-fit, opens-fit, emptied, tables-stand}
 use Rattle.worlds.proofs.make.lay_tables.Statement.{statement}

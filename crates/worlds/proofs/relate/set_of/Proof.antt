@@ -5,7 +5,7 @@ use lib.ListN.{length, drop, length-map}
 use borrow.Author.Needs.{needs}
 use Rattle.sets.specs.paper.Sets.{one, union, setOf, unionOf}
 use Rattle.records.specs.code.Decoded.{numbersOf}
-use Rattle.expressions.proofs.ListLaws.{used-next, used-end, used-each}
+use Rattle.records.proofs.UsedLaws.{used-next, used-end, used-each}
 use Rattle.sets.proofs.UnionLaws.{none-union, union-first, union-end, set-union}
 use Rattle.worlds.proofs.relate.set_of.Statement.{statement}
 use Rattle.worlds.proofs.relate.set_of.Tie as tie

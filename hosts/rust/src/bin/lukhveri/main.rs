@@ -18,6 +18,7 @@ mod outcome;
 mod output;
 mod person;
 mod refused;
+mod saving;
 mod version;
 mod wrap;
 

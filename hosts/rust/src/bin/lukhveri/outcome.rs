@@ -4,6 +4,8 @@ use std::io;
 use std::path::Path;
 use std::process::ExitCode;
 
+pub use lukhveri::files::plainly;
+
 use crate::output::complain;
 
 /// What became of what was asked.
@@ -62,10 +64,4 @@ impl Trouble {
         }
         ExitCode::from(2)
     }
-}
-
-/// An error of the system in words, without its number.
-pub fn plainly(error: &io::Error) -> String {
-    let text = error.to_string();
-    text.split(" (os error").next().unwrap_or(&text).to_string()
 }

@@ -1,9 +1,13 @@
-//! make-vectors DIRECTORY: writes fixed.txt, sample.txt, fixed-pools.txt, pools.txt and README.md there.
+//! make-vectors DIRECTORY: writes fixed.txt, sample.txt, fixed-pools.txt, pools.txt, fixed-tables.txt, tables.txt and README.md there.
 
 use std::path::Path;
 
 use inputs::pool_vectors::PoolVector;
-use judge::listing::{List, Listed, SEED, Source, fixed, fixed_pools, sample, sample_pools};
+use inputs::table_vectors::TableVector;
+use judge::listing::{
+    List, Listed, SEED, Source, fixed, fixed_pools, fixed_tables, sample, sample_pools,
+    sample_tables,
+};
 
 fn write(directory: &Path, name: &str, text: &str) {
     std::fs::write(directory.join(name), text).unwrap_or_else(|error| panic!("{name}: {error}"));
@@ -84,14 +88,32 @@ fn pools_readme(fixed: &List<PoolVector>, sample: &List<PoolVector>) -> String {
     )
 }
 
+fn tables_readme(fixed: &List<TableVector>, sample: &List<TableVector>) -> String {
+    let count = |number: u8| lines_where(fixed, |refusal, _| refusal == number).len();
+    format!(
+        include_str!("tables-readme.txt"),
+        count = fixed.vectors.len(),
+        sample = sample.vectors.len(),
+        sections = sections(fixed),
+        accepted = count(0),
+        broken = count(16),
+        unfitting = count(17),
+    )
+}
+
 fn main() {
     let directory = std::env::args().nth(1).expect("make-vectors DIRECTORY");
     let directory = Path::new(&directory);
     let (fixed, sample) = (fixed(SEED), sample(SEED));
     let (pools, tiny) = (fixed_pools(SEED), sample_pools(SEED));
+    let (tables, short) = (fixed_tables(SEED), sample_tables(SEED));
     write(directory, "fixed.txt", &fixed.text());
     write(directory, "sample.txt", &sample.text());
     write(directory, "fixed-pools.txt", &pools.text());
     write(directory, "pools.txt", &tiny.text());
-    write(directory, "README.md", &(readme(&fixed, &sample) + &pools_readme(&pools, &tiny)));
+    write(directory, "fixed-tables.txt", &tables.text());
+    write(directory, "tables.txt", &short.text());
+    let parts =
+        [readme(&fixed, &sample), pools_readme(&pools, &tiny), tables_readme(&tables, &short)];
+    write(directory, "README.md", &parts.concat());
 }

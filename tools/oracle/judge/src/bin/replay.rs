@@ -1,8 +1,9 @@
 //! replay FILE: runs every vector of a list on the model.
 
 use inputs::pool_vectors::PoolVector;
+use inputs::table_vectors::TableVector;
 use inputs::vectors::Vector;
-use judge::sides::{model_answers, model_pools};
+use judge::sides::{model_answers, model_imports, model_pools};
 use model::Citing;
 
 /// A vector as it prints, and as it would with what the model finds.
@@ -10,6 +11,10 @@ fn printed_and_found(line: &str) -> Option<(String, String)> {
     if let Some(vector) = PoolVector::parse(line) {
         let expected = model_pools(&vector.call);
         return Some((vector.print(), PoolVector { expected, ..vector }.print()));
+    }
+    if let Some(vector) = TableVector::parse(line) {
+        let expected = model_imports(&vector.call);
+        return Some((vector.print(), TableVector { expected, ..vector }.print()));
     }
     let vector = Vector::parse(line)?;
     let expected = model_answers(Citing::ByBlock, &vector.call);

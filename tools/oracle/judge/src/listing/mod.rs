@@ -6,10 +6,12 @@ mod pools;
 mod random;
 mod spaces;
 mod starred;
+mod tables;
 
 use std::collections::HashSet;
 
 use inputs::pool_vectors::PoolVector;
+use inputs::table_vectors::TableVector;
 use inputs::vectors::{Call, Expected, Op, Vector};
 use model::Citing;
 
@@ -56,6 +58,16 @@ impl Listed for PoolVector {
 
     fn refusal(&self) -> u8 {
         self.expected.answer.refusal
+    }
+}
+
+impl Listed for TableVector {
+    fn print(&self) -> String {
+        TableVector::print(self)
+    }
+
+    fn refusal(&self) -> u8 {
+        self.expected.refusal
     }
 }
 
@@ -205,6 +217,7 @@ fn refused_source(vector: &Vector) -> Source {
 }
 
 pub use pools::{fixed as fixed_pools, sample as sample_pools};
+pub use tables::{fixed as fixed_tables, sample as sample_tables};
 
 /// The list for the repository's own tests.
 pub fn fixed(seed: u64) -> List {

@@ -3,6 +3,7 @@
 mod check;
 mod circle;
 mod explain;
+mod import;
 mod list;
 mod pool;
 mod show;
@@ -29,8 +30,15 @@ impl std::fmt::Debug for Command {
     }
 }
 
-pub const COMMANDS: [Command; 7] = [
+pub const COMMANDS: [Command; 8] = [
     Command { name: "check", help: help::CHECK, flags: &["--json"], valued: &[], run: check::run },
+    Command {
+        name: "import",
+        help: help::IMPORT,
+        flags: &["--check", "--json", "--line-ends"],
+        valued: &[],
+        run: import::run,
+    },
     Command { name: "list", help: help::LIST, flags: &["--json"], valued: &[], run: list::run },
     Command {
         name: "explain",

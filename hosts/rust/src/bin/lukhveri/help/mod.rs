@@ -3,6 +3,7 @@
 
 pub const MAIN: &str = include_str!("main.txt");
 pub const CHECK: &str = include_str!("check.txt");
+pub const IMPORT: &str = include_str!("import.txt");
 pub const LIST: &str = include_str!("list.txt");
 pub const EXPLAIN: &str = include_str!("explain.txt");
 pub const SHOW: &str = include_str!("show.txt");

@@ -1,0 +1,9 @@
+pub mod RowsMove
+pub mod MadeRules
+pub mod TabledSound
+pub mod TabledRows
+pub mod Numerals
+pub mod QuotedBack
+pub mod DraftedLength
+pub mod ImportLaws
+pub mod Importing

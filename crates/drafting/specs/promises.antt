@@ -1,0 +1,3 @@
+-- The words in which promises speak.
+pub mod RowByRow
+pub mod InQuotes

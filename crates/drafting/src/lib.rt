@@ -1,0 +1,2 @@
+// Plans made: out of a table.
+pub mod import;

@@ -1,0 +1,3 @@
+-- What the code's parts stand for.
+pub mod Written
+pub mod Made

@@ -1,0 +1,2 @@
+-- The words in which promises speak.
+pub mod TooLong

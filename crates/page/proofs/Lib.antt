@@ -1,0 +1,3 @@
+pub mod ZeroLaws
+pub mod PageLaws
+pub mod DecimalLaws

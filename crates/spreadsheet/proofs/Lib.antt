@@ -1,0 +1,9 @@
+pub mod FieldLaws
+pub mod RowLaws
+pub mod CleanLaws
+pub mod BetweenLaws
+pub mod NumeralLaws
+pub mod WordLaws
+pub mod RuleLaws
+pub mod DraftLaws
+pub mod RfcLaws

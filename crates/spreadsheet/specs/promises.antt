@@ -1,0 +1,2 @@
+-- What is promised: the statements of theorems, and what they are about.
+pub mod Rfc
