@@ -227,6 +227,7 @@ fn headers() {
         "the header has one field: 'kind,left,right,citation'",
         cells,
     );
+    header("\"kind;left\"\r\n", "the header has one field: 'kind;left'", cells);
     header(
         "\"kind,left\",right,citation\r\n",
         "the header has three fields: 'kind,left,right,citation'",
@@ -275,7 +276,9 @@ fn counts_of_fields() {
         "write two commas behind the person, as in status,5,,3: a status has an empty right field",
     );
     whole("base", "it has one field: 'base'", cells);
+    whole("\"\"", "it has one field: ''", cells);
     whole("\"base,0,1,5\"", "it has one field: 'base,0,1,5'", cells);
+    whole("\"base;0;1;5\"", "it has one field: 'base;0;1;5'", cells);
     let comma = "choose the comma as field separator where the table is exported";
     whole("base;0;1;5", "the fields are parted by semicolons", comma);
     whole(

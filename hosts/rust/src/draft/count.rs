@@ -7,10 +7,11 @@ use super::{Advice, COLUMNS, HEADER, fields_in_words, may_go_on, shown};
 
 /// None where there are four, or none.
 pub(crate) fn advice(table: &[u8], row: &Row) -> Option<Advice> {
+    let line = table.get(row.at..row.end).unwrap_or_default();
     match row.fields.as_slice() {
         [] | [_, _, _, _] => None,
-        [field] if field.bytes.is_empty() => Some(empty_line(table, row)),
-        [field] => Some(one(field)),
+        [field] if field.bytes.is_empty() && !line.contains(&b'"') => Some(empty_line(table, row)),
+        [field] => Some(one(line, field)),
         fields if fields.len() < COLUMNS.len() => Some(fewer(fields)),
         fields => Some(more(fields)),
     }
@@ -28,8 +29,9 @@ fn empty_line(table: &[u8], row: &Row) -> Advice {
     }
 }
 
-fn one(field: &Field) -> Advice {
-    match other_marks(&field.bytes) {
+/// `line` is the field as it stands, with its quotation marks.
+fn one(line: &[u8], field: &Field) -> Advice {
+    match other_marks(line) {
         Some(marks) => Advice::new(format!("the fields are parted by {marks}"), COMMAS),
         None => Advice::new(
             format!("it has one field: '{}'", shown(&field.text())),

@@ -37,10 +37,21 @@ pub(crate) fn other_form(table: &[u8]) -> Option<Advice> {
     other.or_else(|| is_utf_16(table).then(wide))
 }
 
+/// What stands outside quotation marks.
+fn unquoted(line: &[u8]) -> Vec<u8> {
+    let mut inside = false;
+    let outside = line.iter().filter(|byte| {
+        inside ^= **byte == b'"';
+        !inside
+    });
+    outside.copied().collect()
+}
+
 /// What parts the fields of a line that has no comma.
 pub(crate) fn other_marks(line: &[u8]) -> Option<&'static str> {
     let marks = [(b';', "semicolons"), (b'\t', "tabs")];
-    let found = marks.iter().find(|(mark, _)| line.contains(mark));
+    let outside = unquoted(line);
+    let found = marks.iter().find(|(mark, _)| outside.contains(mark));
     found.map(|(_, marks)| *marks).filter(|_| !line.contains(&b','))
 }
 
