@@ -48,10 +48,34 @@ impl Style {
     }
 }
 
+/// How many there are in the answer of a case, or in those of several.
+#[derive(Clone, Copy, Debug, Default, PartialEq, Eq)]
+pub struct Counts {
+    pub persons: u64,
+    pub units: u64,
+    pub households: u64,
+}
+
+impl Counts {
+    pub fn of(answered: &Answered) -> Counts {
+        Counts {
+            persons: answered.lines().count() as u64,
+            units: answered.units().count() as u64,
+            households: answered.households().count() as u64,
+        }
+    }
+
+    pub fn add(&mut self, more: Counts) {
+        self.persons += more.persons;
+        self.units += more.units;
+        self.households += more.households;
+    }
+}
+
 /// What became of a case.
 #[derive(Clone, Copy, Debug, PartialEq, Eq)]
 pub enum Fate {
-    Answered { persons: usize },
+    Answered(Counts),
     Refused,
     Unreadable,
 }
@@ -106,12 +130,9 @@ impl CaseFile<'_> {
     }
 
     fn answered(&self, answered: &Answered) -> Rows {
-        let (mut text, mut persons) = (Vec::new(), 0);
-        for line in answered.lines() {
-            self.person(&line, &mut text);
-            persons += 1;
-        }
-        Rows::new(text, Fate::Answered { persons })
+        let mut text = Vec::new();
+        answered.lines().for_each(|line| self.person(&line, &mut text));
+        Rows::new(text, Fate::Answered(Counts::of(answered)))
     }
 
     pub fn object(&self) -> Json {
