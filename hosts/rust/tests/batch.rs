@@ -567,13 +567,20 @@ fn units_that_are_no_households() {
             assert_eq!((counts(&done), done.status), (said, Some(0)), "{options:?}");
         }
     }
+}
+
+/// The column and the member are of units alone.
+#[test]
+fn whether_a_unit_is_a_household() {
+    let folder = Folder::new("batch-household");
+    let [none, open, mixed] = ["ee e", "oe", "m e mm"].map(|words| club(&folder, words));
     let case = format!("{mixed}/case.bin");
-    let rows = run(&["batch", "--rows", "--amounts", mixed]).out;
+    let rows = run(&["batch", "--rows", "--amounts", &mixed]).out;
     let wanted = format!(
         "{case},unit,0,,1,no,yes,,,\r\n{case},unit,1,,0,no,no,,,\r\n{case},unit,2 3,,2,no,yes,,,\r\n{case},unplaced,1,,1,,,,,\r\n"
     );
     assert_eq!(rows, wanted);
-    let rows = run(&["batch", "--json", "--amounts", none, open]).out;
+    let rows = run(&["batch", "--json", "--amounts", &none, &open]).out;
     let households = rows.split_inclusive('\n').map(|row| json::read(row).at("household").clone());
     let (yes, no) = (Value::Bool(true), Value::Bool(false));
     assert_eq!(households.collect::<Vec<_>>(), [no.clone(), no, Value::Null, yes, Value::Null]);

@@ -83,48 +83,41 @@ fn officer(words: &str) -> Vec<String> {
 /// Units that are no households are counted and named for officers; no paragraph speaks of them.
 #[test]
 fn units_that_are_no_households() {
-    let why = "is no household, as everybody in it is excluded.";
-    assert_eq!(
-        officer("e ee eo b"),
-        [
-            "6 persons, 1 of them not decided; 4 units, 2 of them households; 2 worlds."
-                .to_string(),
-            format!("The unit of rezo {why}"),
-            format!("The unit of Nato (person 1) and Nato (person 2) {why}"),
-        ]
-    );
-    assert_eq!(
-        officer("m m m e"),
-        [
-            "4 persons, 0 of them not decided; 4 units, 3 of them households; 1 world.".to_string(),
-            format!("The unit of Otar; Soso {why}"),
-        ]
-    );
-    assert_eq!(
-        officer("eee e"),
-        [
-            "4 persons, 0 of them not decided; 2 units, none of them a household; 1 world."
-                .to_string(),
-            format!("The unit of rezo, Nato (person 1) and Nato (person 2) {why}"),
-            format!("The unit of Otar; Soso {why}"),
-        ]
-    );
-    assert_eq!(
-        officer("mm ee"),
-        [
-            "4 persons, 0 of them not decided; 2 units, 1 of them a household; 1 world."
-                .to_string(),
-            format!("The unit of Nato (person 2) and Otar; Soso {why}"),
-        ]
-    );
-    assert_eq!(
-        officer("ee"),
-        [
-            "2 persons, 0 of them not decided; 1 unit, which is no household; 1 world.".to_string(),
-            format!("The unit of rezo and Nato (person 1) {why}"),
-        ]
-    );
-    assert_eq!(officer("me b o"), ["4 persons, 1 of them not decided; 3 units; 2 worlds."]);
+    let nato = "Nato (person 1) and Nato (person 2)";
+    for (words, counts, named) in [
+        (
+            "e ee eo b",
+            "6 persons, 1 of them not decided; 4 units, 2 of them households; 2 worlds.",
+            vec!["rezo", nato],
+        ),
+        (
+            "m m m e",
+            "4 persons, 0 of them not decided; 4 units, 3 of them households; 1 world.",
+            vec!["Otar; Soso"],
+        ),
+        (
+            "eee e",
+            "4 persons, 0 of them not decided; 2 units, none of them a household; 1 world.",
+            vec!["rezo, Nato (person 1) and Nato (person 2)", "Otar; Soso"],
+        ),
+        (
+            "mm ee",
+            "4 persons, 0 of them not decided; 2 units, 1 of them a household; 1 world.",
+            vec!["Nato (person 2) and Otar; Soso"],
+        ),
+        (
+            "e",
+            "1 person, 0 of them not decided; 1 unit, which is no household; 1 world.",
+            vec!["rezo"],
+        ),
+        ("me b o", "4 persons, 1 of them not decided; 3 units; 2 worlds.", vec![]),
+    ] {
+        let why =
+            |unit| format!("The unit of {unit} is no household, as everybody in it is excluded.");
+        let wanted: Vec<String> =
+            [counts.to_string()].into_iter().chain(named.into_iter().map(why)).collect();
+        assert_eq!(officer(words), wanted, "{words}");
+    }
 }
 
 /// Kinds 5 and 6: there are no units, and nothing is said of households.

@@ -49,7 +49,7 @@ impl<'a> Telling<'a> {
     }
 }
 
-/// 1 unit, 2 units.
+/// A count and its word: 1 unit, 2 units.
 pub fn counted(count: u64, what: &str) -> String {
     if count == 1 { format!("1 {what}") } else { format!("{count} {what}s") }
 }

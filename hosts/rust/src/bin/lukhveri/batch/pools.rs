@@ -3,7 +3,8 @@
 use lukhveri::amounts::{Amounts, AmountsError, TableFault};
 use lukhveri::{Buffers, Persons, Pooled};
 
-use crate::batch::rows::{CaseFile, Counts, Fate, Rows, Style, cell};
+use crate::batch::counts::Counts;
+use crate::batch::rows::{CaseFile, Fate, Rows, Style, cell};
 use crate::json::Json;
 
 /// The columns of the table of units.

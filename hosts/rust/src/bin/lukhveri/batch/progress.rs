@@ -7,9 +7,10 @@ use std::time::{Duration, Instant};
 
 use lukhveri::words::{self, counted};
 
+use crate::batch::counts::Counts;
 use crate::batch::folder::{Common, Contents};
 use crate::batch::names_of_folders::is_input;
-use crate::batch::rows::{Counts, Fate};
+use crate::batch::rows::Fate;
 use crate::output::complain;
 
 /// How often the bar is drawn.
