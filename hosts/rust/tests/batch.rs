@@ -47,7 +47,7 @@ fn the_examples() {
     let said = run(&all);
     assert_eq!(said.status, Some(0));
     let wanted =
-        "7 cases: 7 answered, 0 refused, 0 unreadable; 39 persons; 16 units, 13 of them households";
+        "8 cases: 8 answered, 0 refused, 0 unreadable; 45 persons; 20 units, 16 of them households";
     assert_eq!(counts(&said), wanted);
     assert!(said.out.starts_with(HEADING));
     for row in [
@@ -158,7 +158,7 @@ fn folders_without_cases() {
     assert_eq!(said.status, Some(2));
     assert_eq!(said.out.lines().count(), 3, "the folder that has cases is done: {}", said.out);
     let complaints = [
-        "lukhveri: examples: no cases in this folder; it has 01, allotments, choir, club and 3 more: try examples/*\n",
+        "lukhveri: examples: no cases in this folder; it has 01, allotments, camp, choir and 4 more: try examples/*\n",
         "lukhveri: nowhere: there is no such folder\n",
         "lukhveri: examples/01/plan.bin: this is a file; a folder of cases is wanted\n",
     ];

@@ -9,13 +9,16 @@ use program::json::{self, Value};
 use program::{EXAMPLES, Random, Said, example, example_file, on, run};
 use roster::{households, roster, units, without_units};
 
-/// examples/*/printed.txt is what the lister prints. The choir and the rowing club have units that are no households, and the standard error says so.
+/// examples/*/printed.txt is what the lister prints. Where an example has units that are no households, the standard error says so.
 #[test]
 fn the_rows_of_the_lister() {
     for name in EXAMPLES {
         let said = on("list", &example(name), &[]);
         assert_eq!(said.out.as_bytes(), example_file(name, "printed.txt"), "{name}");
         let note = match name {
+            "camp" => {
+                "lukhveri: examples/camp: the last row counts 3 households; there are 4 units, but in 1 of them everybody is excluded: block 0,1\n"
+            }
             "choir" => {
                 "lukhveri: examples/choir: the last row counts 2 households; there are 3 units, but in 1 of them everybody is excluded: block 2\n"
             }
