@@ -179,12 +179,11 @@ fn barred_alone(persons: &[Fields]) -> bool {
     roles().any(|role| role == BARRED) && roles().all(|role| role == BARRED || role == EXCLUDED)
 }
 
-/// Somebody is of kind 2, somebody excluded, and nobody else is there.
+/// Somebody is of kind 2, and all others, of whom there are some, are excluded.
 fn open_beside_excluded(persons: &[Fields]) -> bool {
-    let (open, others): (Vec<_>, Vec<_>) = persons
-        .iter()
-        .partition(|line: &&Fields| line.kind == ROLE_OPEN);
-    !open.is_empty() && !others.is_empty() && others.iter().all(|line| line.role == EXCLUDED)
+    let open = persons.iter().filter(|line| line.kind == ROLE_OPEN).count();
+    let excluded = persons.iter().filter(|line| line.role == EXCLUDED).count();
+    open > 0 && excluded > 0 && open + excluded == persons.len()
 }
 
 impl fmt::Display for Tally {
@@ -240,11 +239,12 @@ fn rooms(wanted: &Wanted, random: &mut Random) -> (usize, usize) {
 
 /// The smallest input found that differs, or the one given if only its own lengths show it.
 fn smallest_text(sample: Sample, first: String, lister: &Lister) -> String {
-    let files = |plan, case| Files { plan, case };
-    let (plan, case) = smallest(sample, |plan, case| {
-        files(plan, case).difference(lister).is_some()
-    });
-    let files = files(&plan, &case);
+    let differs = |plan: &[u8], case: &[u8]| Files { plan, case }.difference(lister).is_some();
+    let (plan, case) = smallest(sample, differs);
+    let files = Files {
+        plan: &plan,
+        case: &case,
+    };
     match files.difference(lister) {
         Some(what) => format!("{what} differs: {files}"),
         None => first,
