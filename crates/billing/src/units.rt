@@ -18,7 +18,7 @@ pub struct Units {
 }
 
 impl Units {
-    fn none() -> Units
+    pub fn none() -> Units
         ensures { λ r. ⌜ IsUnits [] r ⌝ }
         ensures { λ r. ⌜ r .count ≡ 0 ⌝ }
     {
@@ -44,7 +44,7 @@ impl Units {
     }
 
     // With this block, if it is one and is not there yet.
-    fn join(mut self, block: u64) -> Units
+    pub fn join(mut self, block: u64) -> Units
         requires { ⌜ (self .count < 64) × (length (self .blocks) ≡ 64) ⌝ }
         ensures { λ r. ⌜ IsUnits (joinUnit (take (self .count) (self .blocks)) block) r ⌝ }
         ensures { λ r. ⌜ r .count ≤ self .count + 1 ⌝ }

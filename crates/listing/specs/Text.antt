@@ -1,11 +1,10 @@
--- The lister's rows as bytes, in ASCII. Document 01, "Line and event": "a line feed ends rows".
+-- The lister's rows as bytes, in ASCII. Document 01, "Line and event": "a line feed ends rows"; the last row by document 02, Ticket 3.
 use mathlib.Core.List.{List, [], _∷_, _++_}
 use Prim.Native.Nat.{ℕ}
-use lib.ListN.{length}
 use Rattle.sets.specs.paper.Sets.{members}
 use Rattle.page.specs.Decimal.{decimal}
 use Rattle.report.specs.paper.Line.{Line}
-use Rattle.report.specs.paper.Units.{units}
+use Rattle.billing.specs.paper.Households.{households}
 
 -- ---- the row of a line
 
@@ -51,12 +50,13 @@ header =
 abbrev pub unitsWord : List ℕ
 unitsWord = 117 ∷ 110 ∷ 105 ∷ 116 ∷ 115 ∷ space ∷ []
 
--- and how many there are
-unfoldable pub lastRow : List ℕ → List ℕ
-lastRow us = unitsWord ++ (decimal (length us) ++ (feed ∷ []))
+-- and so many
+unfoldable pub lastRow : ℕ → List ℕ
+lastRow n = unitsWord ++ (decimal n ++ (feed ∷ []))
 
+-- "The last row of the lister counts" the households (document 02, Ticket 3)
 unfoldable pub table : List Line → List ℕ
-table ls = header ++ (rows ls ++ lastRow (units ls))
+table ls = header ++ (rows ls ++ lastRow (households ls))
 
 -- "refused"
 abbrev pub refusedWord : List ℕ

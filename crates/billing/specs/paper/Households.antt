@@ -16,7 +16,7 @@ makesHousehold kind role = eqb kind 2 || pooledAs kind role
 -- some line with the block is so. "all excluded" is never said of nobody: whoever has a block has kind 0 or 2 (`answered-partition`), so a block without
 -- persons of kind 0 has one of kind 2
 unfoldable pub household : List Line → ℕ → Bool
-household ls b = anyOf (λ l. makesHousehold (l .kind) (l .role) && eqb (l .block) b) ls
+household ls b = anyOf (λ l. eqb (l .block) b && makesHousehold (l .kind) (l .role)) ls
 
 -- "The last row of the lister counts the other blocks only": units that are households
 unfoldable pub households : List Line → ℕ

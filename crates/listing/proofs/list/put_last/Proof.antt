@@ -1,12 +1,11 @@
--- `list::put_last`: the word and the number of units.
-use Rattle.billing.proofs.UnitLaws.{units-count}
+-- `list::put_last`: the word and the number of households.
 use Rattle.listing.proofs.RowLaws.{last-put}
 use borrow.Author.Needs.{needs}
 use Rattle.listing.proofs.list.put_last.Statement.{statement}
 use Rattle.listing.proofs.list.put_last.Tie as tie
 
 returns : tie.Need-returns
-returns c = last-put _ _ _ _ _ _ (units-count _ _ (c .before .before .before .before .before .before .before .before .before .before .before .before .before .units-of .ensures)) (c .before .before .before .before .before .before .before .before .before .before .put-all .ensures) (c .before .before .before .before .before .before .put-number .ensures) (c .before .before .put .ensures)
+returns c = last-put _ _ _ _ _ _ (c .before .before .before .before .before .before .before .before .before .before .before .before .before .households-of .ensures) (c .before .before .before .before .before .before .before .before .before .before .put-all .ensures) (c .before .before .before .before .before .before .put-number .ensures) (c .before .before .put .ensures)
 
 pub put-last-spec : {M : Type 1} → statement M
 put-last-spec =
