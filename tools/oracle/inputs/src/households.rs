@@ -1,4 +1,5 @@
-//! Inputs for counting households: blocks of a few persons, many of whom are excluded or barred, for certain or perhaps.
+//! Inputs for counting households: blocks of a few persons, now and then of many, some or all of whom are excluded or barred, for certain or
+//! perhaps.
 
 use crate::build;
 use crate::generate::{Input, choose_persons};
@@ -17,7 +18,8 @@ pub fn input(random: &mut Random) -> Input {
     let case = case(random, &persons, plan.facts.len());
     let mut rest = &persons[..];
     while !rest.is_empty() {
-        let (block, others) = rest.split_at(random.between(1, rest.len().min(4)));
+        let most = if random.percent(95) { rest.len().min(4) } else { rest.len() };
+        let (block, others) = rest.split_at(random.between(1, most));
         add_block(random, &mut plan, block);
         rest = others;
     }

@@ -44,10 +44,13 @@ fn one_person_alone() {
     expect(&never, &one, &["0 0 1 0"], 1);
 }
 
+/// Makes a person of a plan one of some sort.
+type Make = fn(&mut Plan, u8);
+
 /// Two in a block, in every pair of roles that are certain, or open.
 #[test]
 fn two_in_a_block() {
-    let sorts: [(&str, fn(&mut Plan, u8)); 4] = [
+    let sorts: [(&str, Make); 4] = [
         ("0 1", |_, _| {}),
         ("0 2", |plan, person| plan.statuses.push(status(person, 0))),
         ("0 3", |plan, person| plan.bars.push(bar(&[person], 0))),
