@@ -1,5 +1,7 @@
-// Runs the vectors of vectors.txt, of pools.txt and of tables.txt, one a line, and says of each list how many agree: what an operation answers, and what
-// it writes in the buffers lent to it, is compared with what the line expects. A line that is no vector differs.
+// Runs the vectors of vectors.txt, pools.txt, tables.txt and lists.txt, one a line, and says of each list how many agree: what an operation answers, and
+// what it writes in the buffers lent to it, is compared with what the line expects. A line that is no vector differs.
+mod lent;
+mod listed;
 mod pooled;
 mod scan;
 mod tally;
@@ -117,6 +119,13 @@ fn main() {
     replay_list(
         b"tables.txt",
         b"tables: ",
+        &mut store,
+        &mut lines,
+        &mut events,
+    );
+    replay_list(
+        b"lists.txt",
+        b"lists: ",
         &mut store,
         &mut lines,
         &mut events,

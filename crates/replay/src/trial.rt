@@ -1,8 +1,12 @@
 // One vector run: its operation on buffers that are lent full of dirt, and what came of it compared with what is expected.
+use crate::lent::holds;
+use crate::lent::soil;
+use crate::listed::lists;
 use crate::pooled::amounts_of;
 use crate::pooled::page_of;
 use crate::vector::ANSWER;
 use crate::vector::IMPORT;
+use crate::vector::LIST;
 use crate::vector::Outcome;
 use crate::vector::POOL;
 use crate::vector::SHOW;
@@ -20,34 +24,6 @@ use report::operations::check;
 use report::operations::show;
 ghost use Prim.Native.Nat.{_≤_};
 ghost use lib.ListN.{length};
-
-// Bytes that no operation may leave.
-fn soil(out: &mut [u8]) {
-    let mut i: usize = 0;
-    while i < out.len() {
-        out[i] = 170;
-        i = i + 1;
-    }
-}
-
-// Whether a buffer is the expected bytes and zeros past them.
-fn holds(out: &[u8], expected: &[u8]) -> bool {
-    if expected.len() > out.len() {
-        return false;
-    }
-    let mut i: usize = 0;
-    while i < out.len() {
-        let mut byte = 0;
-        if i < expected.len() {
-            byte = expected[i];
-        }
-        if out[i] != byte {
-            return false;
-        }
-        i = i + 1;
-    }
-    true
-}
 
 // A table stands in the plan's place of a line, its plan's bytes and length in those of the lines.
 fn imported(table: &[u8], plan: &mut [u8]) -> Answer {
@@ -123,10 +99,10 @@ fn pooled_so(found: Pools, unplaced: u64, expected: &[u8]) -> bool {
         return false;
     }
     let page = page_of(found);
-    holds(&page, expected)
+    holds(&page, expected, 0)
 }
 
-// Whether the operation, on these buffers, answers the numbers and the pools of the line and leaves its bytes in them.
+// Whether the operation, on these buffers, answers the numbers and the pools of the line and leaves its bytes in them; of a list, whether it is the line's.
 fn answers(
     vector: Vector,
     plan: &[u8],
@@ -142,12 +118,15 @@ fn answers(
 {
     soil(lines);
     soil(events);
+    if vector.op == LIST {
+        return event_bytes.len() == 0 && lists(vector.expected, plan, case, line_bytes, lines, events);
+    }
     let found = operate(vector.op, vector.world, plan, case, amounts, lines, events);
     let answer = found.answer;
     same(Outcome::of(answer), vector.expected)
         && pooled_so(found.pools, vector.unplaced, pools)
-        && holds(lines, line_bytes)
-        && holds(events, event_bytes)
+        && holds(lines, line_bytes, 0)
+        && holds(events, event_bytes, 0)
 }
 
 // The buffers are lent with just the lengths of the line; a line that wants longer ones than there are differs, and one with more amounts than there is

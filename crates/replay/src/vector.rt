@@ -12,6 +12,8 @@ pub const POOL: u64 = 0x706f6f6c;
 
 pub const IMPORT: u64 = 0x696d706f7274;
 
+pub const LIST: u64 = 0x6c697374;
+
 // What an operation answers, as the numbers of a line.
 pub struct Outcome {
     pub refusal: u64,
@@ -72,7 +74,7 @@ impl Outcome {
         outcome
     }
 
-    fn answered(lines: u64, events: u64, worlds: u64) -> Outcome {
+    pub fn answered(lines: u64, events: u64, worlds: u64) -> Outcome {
         let mut outcome = Outcome::new();
         outcome.lines = lines;
         outcome.events = events;
@@ -119,7 +121,7 @@ pub fn same(a: Outcome, b: Outcome) -> bool {
 }
 
 pub fn known(op: u64) -> bool {
-    op == CHECK || op == ANSWER || op == SHOW || op == POOL || op == IMPORT
+    op == CHECK || op == ANSWER || op == SHOW || op == POOL || op == IMPORT || op == LIST
 }
 
 // How many fields a line with this operation has.

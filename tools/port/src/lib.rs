@@ -4,7 +4,7 @@ pub mod alike;
 pub mod clock;
 pub mod drafted;
 pub mod import_times;
-pub mod listed;
+pub mod lister;
 pub mod pools;
 pub mod promised;
 pub mod settings;

@@ -609,7 +609,7 @@ impl<'a> Maker<'a> {
 }
 
 /// Low numbers, high ones with 63 among them, or anything between.
-fn choose_persons(random: &mut Random, most: usize) -> Vec<u8> {
+pub fn choose_persons(random: &mut Random, most: usize) -> Vec<u8> {
     let count = random.between(1, most);
     let mut persons: Vec<u8> = match random.below(4) {
         0 | 1 => (0..count as u8).collect(),

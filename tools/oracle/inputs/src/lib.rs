@@ -8,6 +8,8 @@ pub mod calls;
 pub mod classes;
 pub mod families;
 pub mod generate;
+pub mod households;
+pub mod list_vectors;
 pub mod mutate;
 pub mod pool_vectors;
 pub mod random;

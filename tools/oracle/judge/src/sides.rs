@@ -91,6 +91,13 @@ pub fn model_imports(call: &TableCall) -> TableExpected {
     TableExpected { refusal: made.refusal, row: made.row, plan }
 }
 
+/// The text of the model's answer to a call.
+pub fn model_lists(call: &Call) -> Vec<u8> {
+    let (mut lines, mut events) = (vec![DIRT; call.lines_len], vec![DIRT; call.events_len]);
+    let outcome = model::answer(&call.plan, &call.case, &mut lines, &mut events);
+    model::lister::text(&outcome, &lines).into_bytes()
+}
+
 /// What two sides answer, if it is not the same.
 pub fn difference(left: &dyn Side, right: &dyn Side, call: &Call) -> Option<(Expected, Expected)> {
     let (left, right) = (run(left, call), run(right, call));

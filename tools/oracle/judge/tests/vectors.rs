@@ -1,9 +1,12 @@
 //! The committed lists agree with the model, and are what their maker makes.
 
+use std::collections::BTreeSet;
+
+use inputs::list_vectors::ListVector;
 use inputs::pool_vectors::PoolVector;
 use inputs::table_vectors::TableVector;
 use inputs::vectors::Vector;
-use judge::sides::{model_answers, model_imports, model_pools};
+use judge::sides::{model_answers, model_imports, model_lists, model_pools};
 use model::Citing;
 
 const LISTS: [&str; 2] = [
@@ -19,6 +22,11 @@ const POOLS: [&str; 2] = [
 const TABLES: [&str; 2] = [
     include_str!("../../../../crates/replay/data/tables.txt"),
     include_str!("../../../../vectors/tables.txt"),
+];
+
+const TEXTS: [&str; 2] = [
+    include_str!("../../../../crates/replay/data/lists.txt"),
+    include_str!("../../../../vectors/lists.txt"),
 ];
 
 #[test]
@@ -38,6 +46,11 @@ fn the_lists_agree_with_the_model() {
         assert_eq!(vector.print(), line);
         assert_eq!(model_imports(&vector.call), vector.expected, "{line}");
     }
+    for line in TEXTS.iter().flat_map(|list| list.lines()) {
+        let vector = ListVector::parse(line).expect("a vector");
+        assert_eq!(vector.print(), line);
+        assert_eq!(model_lists(&vector.call), vector.text, "{line}");
+    }
 }
 
 #[test]
@@ -47,6 +60,8 @@ fn the_lists_are_what_their_maker_makes() {
     assert!(judge::listing::sample_pools(seed).text() == POOLS[1], "run tools/make-vectors");
     assert!(judge::listing::fixed_tables(seed).text() == TABLES[0], "run tools/make-vectors");
     assert!(judge::listing::sample_tables(seed).text() == TABLES[1], "run tools/make-vectors");
+    assert!(judge::listing::fixed_lists(seed).text() == TEXTS[0], "run tools/make-vectors");
+    assert!(judge::listing::sample_lists(seed).text() == TEXTS[1], "run tools/make-vectors");
     assert!(judge::listing::fixed(seed).text() == LISTS[0], "run tools/make-vectors");
     assert!(judge::listing::sample(seed).text() == LISTS[1], "run tools/make-vectors");
 }
@@ -97,6 +112,50 @@ fn the_list_of_tables_covers_all_kinds() {
     }
     assert!(expected.iter().any(|found| found.plan.len() == 550));
     assert!(expected.iter().filter(|found| found.refusal == 0).count() > 60);
+}
+
+/// Every line kind and role that can stand side by side, each refusal that an answer has, and as many units as there may be, households or not.
+#[test]
+fn the_list_of_texts_covers_all_kinds() {
+    let vectors = TEXTS[0].lines().map(|line| ListVector::parse(line).expect("a vector"));
+    let vectors: Vec<ListVector> = vectors.collect();
+    let refusals: BTreeSet<u8> = vectors.iter().map(ListVector::refusal).collect();
+    assert_eq!(refusals, (0..=13).collect());
+    let texts = || vectors.iter().map(|vector| str::from_utf8(&vector.text).expect("a text"));
+    let rows = || texts().flat_map(|text| text.lines().skip(1));
+    let persons = rows().filter(|row| !row.starts_with("units "));
+    let kinds: BTreeSet<&str> = persons.filter_map(|row| row.split(' ').nth(1)).collect();
+    assert_eq!(kinds, ["0", "1", "2", "3", "4", "5", "6"].into());
+    for units in [0, 1, 2, 16, 32, 64] {
+        assert!(rows().any(|row| row == format!("units {units}")), "{units}");
+    }
+    let sorts = ["0 1", "0 2", "0 3", "2 0"];
+    for (first, second) in sorts.iter().flat_map(|first| sorts.map(|second| (first, second))) {
+        let rows = format!("\n0 {first} 0,1\n1 {second} 0,1\nunits ");
+        assert!(texts().any(|text| text.contains(&rows)), "{rows}");
+    }
+}
+
+/// A line of another form is no vector.
+#[test]
+fn lines_of_another_form_are_no_texts() {
+    let line = TEXTS[0].lines().next().expect("a line");
+    let fields: Vec<&str> = line.split(' ').collect();
+    let with = |at: usize, text: &str| {
+        let mut fields = fields.clone();
+        fields[at] = text;
+        ListVector::parse(&fields.join(" "))
+    };
+    assert!(with(0, "list").is_some() && with(1, "-").is_some() && with(2, "-").is_some());
+    assert!(with(4, "0").is_some() && with(5, "99").is_some());
+    for (at, text) in [(0, "answer"), (3, "1"), (6, "1"), (7, "1"), (8, "1"), (9, "1")] {
+        assert_eq!(with(at, text), None);
+    }
+    for (at, text) in [(10, "0"), (11, "1"), (12, "1"), (13, "-"), (14, "00"), (4, "x")] {
+        assert_eq!(with(at, text), None);
+    }
+    assert_eq!(ListVector::parse(&fields[..14].join(" ")), None);
+    assert_eq!(Vector::parse(line), None);
 }
 
 /// A line of another form is no vector.

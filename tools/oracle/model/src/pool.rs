@@ -2,11 +2,10 @@
 
 use std::collections::BTreeMap;
 
-use crate::report::{LINE, Outcome, answer};
+use crate::fields::{DECIDED, Fields, ROLE_OPEN};
+use crate::report::{Outcome, answer};
+use crate::world::EXCLUDED;
 
-const DECIDED: u8 = 0;
-const ROLE_OPEN: u8 = 2;
-const EXCLUDED: u8 = 2;
 const WRONG_LENGTH: u8 = 15;
 
 /// A block with its pool; open if somebody of kind 2 is in it.
@@ -53,24 +52,10 @@ pub fn pool(
         return Outcome { refusal: WRONG_LENGTH, ..Outcome::default() }.into();
     }
     let mut sums = Sums::default();
-    for (line, &cents) in lines.chunks_exact(LINE).zip(amounts) {
-        sums.take(Line::read(line), u64::from(cents));
+    for (line, &cents) in Fields::each(lines).zip(amounts) {
+        sums.take(line, u64::from(cents));
     }
     PoolOutcome { answer, unplaced: sums.unplaced, units: sums.units() }
-}
-
-/// What pooling reads of a line.
-struct Line {
-    kind: u8,
-    role: u8,
-    block: u64,
-}
-
-impl Line {
-    fn read(bytes: &[u8]) -> Line {
-        let block = bytes[3..11].try_into().expect("eight bytes");
-        Line { kind: bytes[1], role: bytes[2], block: u64::from_le_bytes(block) }
-    }
 }
 
 /// The lines taken so far: a sum for each block, and the rest.
@@ -81,7 +66,7 @@ struct Sums {
 }
 
 impl Sums {
-    fn take(&mut self, line: Line, cents: u64) {
+    fn take(&mut self, line: Fields, cents: u64) {
         let pooled = line.kind == DECIDED && line.role != EXCLUDED;
         if !pooled {
             self.unplaced += cents;

@@ -1,12 +1,15 @@
-//! make-vectors DIRECTORY: writes fixed.txt, sample.txt, fixed-pools.txt, pools.txt, fixed-tables.txt, tables.txt and README.md there.
+//! make-vectors DIRECTORY: writes fixed.txt and sample.txt, the same of pools, tables and lists (fixed-pools.txt and pools.txt, and so on), and
+//! README.md there.
 
+use std::collections::BTreeSet;
 use std::path::Path;
 
+use inputs::list_vectors::ListVector;
 use inputs::pool_vectors::PoolVector;
 use inputs::table_vectors::TableVector;
 use judge::listing::{
-    List, Listed, SEED, Source, fixed, fixed_pools, fixed_tables, sample, sample_pools,
-    sample_tables,
+    List, Listed, SEED, Source, fixed, fixed_lists, fixed_pools, fixed_tables, sample,
+    sample_lists, sample_pools, sample_tables,
 };
 
 fn write(directory: &Path, name: &str, text: &str) {
@@ -101,19 +104,55 @@ fn tables_readme(fixed: &List<TableVector>, sample: &List<TableVector>) -> Strin
     )
 }
 
+/// The blocks of a table, and the number in its last row.
+fn units_and_households(vector: &ListVector) -> (usize, usize) {
+    let text = String::from_utf8_lossy(&vector.text);
+    let last = text.lines().find_map(|row| row.strip_prefix("units "));
+    let rows = text.lines().skip(1).filter_map(|row| row.split(' ').nth(3));
+    let blocks: BTreeSet<&str> = rows.filter(|&block| block != "-").collect();
+    (blocks.len(), last.map_or(0, |number| number.parse().expect("a number")))
+}
+
+fn lists_readme(fixed: &List<ListVector>, sample: &List<ListVector>) -> String {
+    let count = |holds: fn(u8, Source) -> bool| lines_where(fixed, holds).len();
+    let counts: Vec<(usize, usize)> =
+        fixed.vectors.iter().map(|(vector, _)| units_and_households(vector)).collect();
+    format!(
+        include_str!("lists-readme.txt"),
+        count = fixed.vectors.len(),
+        sample = sample.vectors.len(),
+        sections = sections(fixed),
+        answered = count(|refusal, _| refusal == 0),
+        units = counts.iter().map(|(units, _)| units).sum::<usize>(),
+        households = counts.iter().map(|(_, households)| households).sum::<usize>(),
+        fewer = counts.iter().filter(|(units, households)| households < units).count(),
+        rust = count(|_, source| source == Source::Rust),
+        evaluate = count(|_, source| source == Source::Evaluate),
+        refused = count(|_, source| source == Source::RustRefusal),
+        other = count(|refusal, source| refusal != 0 && source == Source::Model),
+    )
+}
+
 fn main() {
     let directory = std::env::args().nth(1).expect("make-vectors DIRECTORY");
     let directory = Path::new(&directory);
     let (fixed, sample) = (fixed(SEED), sample(SEED));
     let (pools, tiny) = (fixed_pools(SEED), sample_pools(SEED));
     let (tables, short) = (fixed_tables(SEED), sample_tables(SEED));
+    let (lists, little) = (fixed_lists(SEED), sample_lists(SEED));
     write(directory, "fixed.txt", &fixed.text());
     write(directory, "sample.txt", &sample.text());
     write(directory, "fixed-pools.txt", &pools.text());
     write(directory, "pools.txt", &tiny.text());
     write(directory, "fixed-tables.txt", &tables.text());
     write(directory, "tables.txt", &short.text());
-    let parts =
-        [readme(&fixed, &sample), pools_readme(&pools, &tiny), tables_readme(&tables, &short)];
+    write(directory, "fixed-lists.txt", &lists.text());
+    write(directory, "lists.txt", &little.text());
+    let parts = [
+        readme(&fixed, &sample),
+        pools_readme(&pools, &tiny),
+        tables_readme(&tables, &short),
+        lists_readme(&lists, &little),
+    ];
     write(directory, "README.md", &parts.concat());
 }

@@ -1,9 +1,10 @@
 //! replay FILE: runs every vector of a list on the model.
 
+use inputs::list_vectors::ListVector;
 use inputs::pool_vectors::PoolVector;
 use inputs::table_vectors::TableVector;
 use inputs::vectors::Vector;
-use judge::sides::{model_answers, model_imports, model_pools};
+use judge::sides::{model_answers, model_imports, model_lists, model_pools};
 use model::Citing;
 
 /// A vector as it prints, and as it would with what the model finds.
@@ -15,6 +16,10 @@ fn printed_and_found(line: &str) -> Option<(String, String)> {
     if let Some(vector) = TableVector::parse(line) {
         let expected = model_imports(&vector.call);
         return Some((vector.print(), TableVector { expected, ..vector }.print()));
+    }
+    if let Some(vector) = ListVector::parse(line) {
+        let text = model_lists(&vector.call);
+        return Some((vector.print(), ListVector { text, ..vector }.print()));
     }
     let vector = Vector::parse(line)?;
     let expected = model_answers(Citing::ByBlock, &vector.call);

@@ -2,6 +2,7 @@
 //! each expected value.
 
 mod limits;
+mod lists;
 mod pools;
 mod random;
 mod spaces;
@@ -10,6 +11,7 @@ mod tables;
 
 use std::collections::HashSet;
 
+use inputs::list_vectors::ListVector;
 use inputs::pool_vectors::PoolVector;
 use inputs::table_vectors::TableVector;
 use inputs::vectors::{Call, Expected, Op, Vector};
@@ -68,6 +70,16 @@ impl Listed for TableVector {
 
     fn refusal(&self) -> u8 {
         self.expected.refusal
+    }
+}
+
+impl Listed for ListVector {
+    fn print(&self) -> String {
+        ListVector::print(self)
+    }
+
+    fn refusal(&self) -> u8 {
+        ListVector::refusal(self)
     }
 }
 
@@ -216,6 +228,7 @@ fn refused_source(vector: &Vector) -> Source {
     Source::RustRefusal
 }
 
+pub use lists::{fixed as fixed_lists, sample as sample_lists};
 pub use pools::{fixed as fixed_pools, sample as sample_pools};
 pub use tables::{fixed as fixed_tables, sample as sample_tables};
 

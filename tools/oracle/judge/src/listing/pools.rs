@@ -77,13 +77,13 @@ fn add_by_hand(list: &mut List<PoolVector>) {
 }
 
 /// Node 0 is true, node 1 false, node 2 a fact of which nothing is known.
-fn asked() -> Plan {
+pub(super) fn asked() -> Plan {
     let nodes = vec![Node::Literal(1), Node::Literal(0), Node::Fact(0)];
     Plan { facts: vec![None], nodes, ..Plan::default() }
 }
 
 /// A unit with an open role, one excluded, one barred.
-fn whole() -> (Plan, Case) {
+pub(super) fn whole() -> (Plan, Case) {
     let plan = Plan {
         edges: vec![base(0, 1, 0)],
         statuses: vec![status(0, 2), status(2, 0)],
@@ -116,7 +116,7 @@ fn roles() -> Vec<(Plan, Case)> {
 }
 
 /// Kinds 1, 3, 4, 5 and 6, all beside a person of kind 0 but the last two.
-fn kinds() -> Vec<(Plan, Case)> {
+pub(super) fn kinds() -> Vec<(Plan, Case)> {
     let perhaps = Plan { edges: vec![base(0, 1, 2)], ..asked() };
     let cuts = vec![cut(&[0, 1], 0), cut(&[1, 2], 0)];
     let never = Case { constraints: vec![1], ..case(7) };
@@ -131,7 +131,7 @@ fn kinds() -> Vec<(Plan, Case)> {
 }
 
 /// The lowest person decides, not the mask's number.
-fn orders_of_units() -> Vec<(Plan, Case)> {
+pub(super) fn orders_of_units() -> Vec<(Plan, Case)> {
     let with = |edges: Vec<Edge>| Plan { edges, ..asked() };
     vec![
         (with(vec![base(0, 3, 0)]), case(15)),
@@ -140,9 +140,9 @@ fn orders_of_units() -> Vec<(Plan, Case)> {
     ]
 }
 
-/// One fault or none, a complete roster or not, a list that is right or one short, buffers that fit or are a byte short.
-fn add_orders(list: &mut List<PoolVector>) {
-    let faults: [fn(&mut Case); 10] = [
+/// What a case may be turned away for, and nothing first.
+pub(super) fn faults() -> [fn(&mut Case); 10] {
+    [
         |_| {},
         |case| case.constraints = vec![1],
         |case| case.families = vec![Family { number: 3, scope: Some(1), complete: None }; 2],
@@ -156,9 +156,13 @@ fn add_orders(list: &mut List<PoolVector>) {
         |case| case.relation = 1,
         |case| case.roster = 3,
         |case| case.constraints = vec![200],
-    ];
+    ]
+}
+
+/// One fault or none, a complete roster or not, a list that is right or one short, buffers that fit or are a byte short.
+fn add_orders(list: &mut List<PoolVector>) {
     let plan = Plan { edges: vec![base(0, 1, 0)], statuses: vec![status(2, 2)], ..asked() };
-    for fault in faults {
+    for fault in faults() {
         for complete in [Some(0), None] {
             let mut case = Case { complete, ..case(7) };
             fault(&mut case);

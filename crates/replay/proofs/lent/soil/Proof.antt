@@ -3,8 +3,8 @@ use mathlib.Core.Path.{_≡_}
 use Prim.Native.Nat.{_≤_, _-_}
 use lib.ListN.{length}
 use borrow.Author.Needs.{needs}
-use Rattle.replay.proofs.trial.soil.Statement.{statement}
-use Rattle.replay.proofs.trial.soil.Tie as tie
+use Rattle.replay.proofs.lent.soil.Statement.{statement}
+use Rattle.replay.proofs.lent.soil.Tie as tie
 
 abbrev Inv-loop : tie.InvT-loop
 Inv-loop out₀ i₀ out i = (i ≤ length out₀) × (length out ≡ length out₀)
