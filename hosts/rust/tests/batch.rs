@@ -47,7 +47,7 @@ fn the_examples() {
     let said = run(&all);
     assert_eq!(said.status, Some(0));
     let wanted =
-        "8 cases: 8 answered, 0 refused, 0 unreadable; 45 persons; 20 units, 16 of them households";
+        "8 cases: 8 answered, 0 refused, 0 unreadable; 46 persons; 20 units, 16 of them households";
     assert_eq!(counts(&said), wanted);
     assert!(said.out.starts_with(HEADING));
     for row in [
