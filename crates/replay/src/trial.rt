@@ -102,7 +102,7 @@ fn pooled_so(found: Pools, unplaced: u64, expected: &[u8]) -> bool {
     holds(&page, expected, 0)
 }
 
-// Whether the operation, on these buffers, answers the numbers and the pools of the line and leaves its bytes in them; of a list, whether it is the line's.
+// Whether the operation, on these buffers, answers the numbers and the pools of the line and leaves its bytes in them.
 fn answers(
     vector: Vector,
     plan: &[u8],
@@ -118,10 +118,6 @@ fn answers(
 {
     soil(lines);
     soil(events);
-    if vector.op == LIST {
-        return event_bytes.len() == 0
-            && lists(vector.expected, plan, case, line_bytes, lines, events);
-    }
     let found = operate(vector.op, vector.world, plan, case, amounts, lines, events);
     let answer = found.answer;
     same(Outcome::of(answer), vector.expected)
@@ -150,6 +146,17 @@ fn lend(
     }
     if n > events.len() {
         return false;
+    }
+    if vector.op == LIST {
+        return lists(
+            vector.expected,
+            plan,
+            case,
+            line_bytes,
+            event_bytes,
+            &mut lines[0..m],
+            &mut events[0..n],
+        );
     }
     if amounts.len() > 1024 || amounts.len() % 4 != 0 {
         return false;
