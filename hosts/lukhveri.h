@@ -157,18 +157,21 @@ uint8_t lukhveri_show(const uint8_t *plan, size_t plan_length, const uint8_t *ca
 /* Answers a case and pools amounts by unit: cents, one amount for each person of the roster, in rising order. A unit's pool is the sum over its
  * persons of kind LUKHVERI_DECIDED whose role is not LUKHVERI_EXCLUDED; told[LUKHVERI_TOLD_UNPLACED] is the sum over everyone else, and all
  * together is the sum of the list. Unit i, in order of the units' lowest persons, has the mask blocks[i] and the pool pools[i]; open[i] is 1 if
- * somebody in it has kind LUKHVERI_ROLE_OPEN, whose amount is unplaced, so that the pool is not final, else 0. Entries past the count of units
- * are 0. Lines and events are those of lukhveri_answer, and so are the refusals; after them comes LUKHVERI_AMOUNTS_DO_NOT_FIT. After a refusal
- * the three arrays are 0. */
+ * somebody in it has kind LUKHVERI_ROLE_OPEN, whose amount is unplaced, so that the pool is not final, else 0. A unit that is no household (see
+ * lukhveri_list) is listed like the others, with pools[i] and open[i] 0. Entries past the count of units are 0. Lines and events are those of
+ * lukhveri_answer, and so are the refusals; after them comes LUKHVERI_AMOUNTS_DO_NOT_FIT. After a refusal the three arrays are 0. */
 uint8_t lukhveri_pool(const uint8_t *plan, size_t plan_length, const uint8_t *case_bytes, size_t case_length, const uint32_t *amounts,
                       size_t amount_count, uint8_t *lines, size_t lines_length, uint8_t *events, size_t events_length,
                       uint64_t blocks[LUKHVERI_UNITS], uint64_t pools[LUKHVERI_UNITS], uint8_t open[LUKHVERI_UNITS],
                       uint64_t told[LUKHVERI_POOL_TOLD]);
 
 /* Writes what the lister prints of a plan and a case to the start of text, in ASCII, without a zero at its end, and returns how many bytes it
- * wrote: a heading, a row for each line and the count of units; or a single row, which begins with "refused", with the refusal's number and
- * record. A line feed ends each row. Of a text that is longer than its buffer it writes and counts what fits; bytes past the text stay as they
- * are. Lines and events are answered into their buffers, which decide whether 12 or 13 comes. */
+ * wrote: a heading, a row for each line and a last row, "units" with the count of households; or a single row, which begins with "refused", with
+ * the refusal's number and record. A line feed ends each row. Of a text that is longer than its buffer it writes and counts what fits; bytes past
+ * the text stay as they are. Lines and events are answered into their buffers, which decide whether 12 or 13 comes.
+ *
+ * A unit is a household if somebody in it has kind LUKHVERI_ROLE_OPEN, or kind LUKHVERI_DECIDED and another role than LUKHVERI_EXCLUDED. So a unit in
+ * which everybody is excluded is none: the last row does not count it, though its persons have their rows, with their block. */
 size_t lukhveri_list(const uint8_t *plan, size_t plan_length, const uint8_t *case_bytes, size_t case_length, uint8_t *lines,
                      size_t lines_length, uint8_t *events, size_t events_length, uint8_t *text, size_t text_length);
 

@@ -1,20 +1,20 @@
 -- Households are the units of those lines whose persons make one: counted so, line after line, they are as many.
-use mathlib.Core.Path.{_≡_, refl, sym, ap, ap₂, _∙_, subst}
+use mathlib.Core.Path.{_≡_, refl, sym, ap, ap₂, _∙_}
 use mathlib.Core.Bool.{Bool, true, false, _&&_, _||_, not, and-true, and-false}
 use mathlib.Core.List.{List, [], _∷_, map}
 use mathlib.Core.Logic.{_≢_}
 use Prim.Native.Nat.{ℕ, _+_, _-_, _≤_, _<_}
 use lib.ListN.{length, getD}
 use lib.Dec.{eqb}
-use borrow.Author.Tests.{eqb-true, eqb-false, eq-eqb, ne-eqb, not-true}
-use Rattle.sets.specs.paper.Sets.{only, anyOf, sumOf, countOf, All}
+use borrow.Author.Tests.{eqb-false, eq-eqb, ne-eqb, not-true}
+use Rattle.sets.specs.paper.Sets.{only, anyOf, countOf, All}
 use Rattle.sets.proofs.Every.{all-then}
-use Rattle.sets.proofs.SetLaws.{and-parts}
+use Rattle.sets.proofs.SetLaws.{and-parts, eqb-swap}
 use Rattle.sets.proofs.SumLaws.{sum-where, sum-by, count-agree, count-all}
 use Rattle.report.specs.paper.Line.{Line}
 use Rattle.report.specs.paper.LineAt.{lineAt, decoded, linesFrom}
 use Rattle.report.specs.paper.Units.{joinUnit, unitsWith, units}
-use Rattle.billing.specs.paper.Households.{makesHousehold, household, households}
+use Rattle.billing.specs.paper.Households.{makesHousehold, household, householdCount}
 use Rattle.billing.specs.Shown.{Shows}
 use Rattle.billing.specs.declared.fields.Fields.{Fields}
 use Rattle.billing.proofs.UnitLaws.{lines-next, lines-none}
@@ -60,15 +60,6 @@ any-then (l ∷ ls) b e = go (eqb (l .block) b) (makesHousehold (l .kind) (l .ro
 
 -- ---- as many as there are households
 
-eqb-swap : (a b : ℕ) → eqb a b ≡ eqb b a
-eqb-swap a b = pick (eqb a b) (eqb b a) refl refl
-  where
-    pick : (x y : Bool) → eqb a b ≡ x → eqb b a ≡ y → x ≡ y
-    pick true true e f = refl
-    pick true false e f = absurd (eqb-false b a f (sym (eqb-true a b e)))
-    pick false true e f = absurd (eqb-false a b e (sym (eqb-true b a f)))
-    pick false false e f = refl
-
 -- each number of a list is in it
 in-itself : (ns : List ℕ) → All (λ n. anyOf (eqb n) ns ≡ true) ns
 in-itself ns = at-all 0 _ ns (λ i l. let n = getD ns i 0 in any-at 0 (eqb n) ns i l (eq-eqb n n refl))
@@ -89,8 +80,8 @@ making-once ls =
     ∙ ap (λ (x : Bool). only x 1) (units-any ls b ∙ ap₂ _&&_ (t .0) (any-then ls b (sym (making-any ls b (eqb-false b 0 (not-true (eqb b 0) (t .0)))) ∙ t .1)))) (makingUnits ls) (in-itself (makingUnits ls))
 
 -- SO MANY UNITS ARE HOUSEHOLDS
-pub households-made : (ls : List Line) → length (makingUnits ls) ≡ households ls
-unfolding households countOf
+pub households-made : (ls : List Line) → length (makingUnits ls) ≡ householdCount ls
+unfolding householdCount countOf
 households-made ls =
     sym (sum-where _ _ (makingUnits ls) (making-once ls) ∙ count-all (makingUnits ls))
     ∙ sum-by (λ u. u) (λ u. true) (λ u. 1) (makingUnits ls) (units ls) (all-then _ _ (λ u e. units-once (map making ls) u) (units ls) (units-making ls))

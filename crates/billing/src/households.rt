@@ -8,7 +8,7 @@ ghost use lib.ListN.{length};
 ghost use Rattle.sets.specs.paper.Sets.{only};
 ghost use Rattle.report.specs.paper.Line.{lineLength};
 ghost use Rattle.report.specs.paper.LineAt.{linesFrom};
-ghost use Rattle.billing.specs.paper.Households.{makesHousehold, households};
+ghost use Rattle.billing.specs.paper.Households.{makesHousehold, householdCount};
 
 // Whether a line's person makes the block a household: of kind 0 and not excluded, or of kind 2.
 fn makes_household(line: Fields) -> bool
@@ -31,9 +31,9 @@ fn household_of(line: Fields) -> u64
 }
 
 // How many units of the first n lines are households.
-pub fn households_of(lines: &[u8], n: usize) -> usize
+pub fn household_count(lines: &[u8], n: usize) -> usize
     requires { ⌜ (n ≤ 64) × (lineLength * n ≤ length (now lines)) ⌝ }
-    ensures { λ r. ⌜ r ≡ households (linesFrom (now (lines .entry)) 0 n) ⌝ }
+    ensures { λ r. ⌜ r ≡ householdCount (linesFrom (now (lines .entry)) 0 n) ⌝ }
 {
     let mut found = Units::none();
     let mut k: usize = 0;

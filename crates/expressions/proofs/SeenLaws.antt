@@ -6,8 +6,9 @@ use Prim.Native.Nat.{ℕ, _+_, _≤_, _<_, min}
 use native.Mathlib.Omega.{arith}
 use lib.ListN.{length, getD, take, drop, set, length-set}
 use lib.Dec.{eqb, eqb·suc-zero}
-use borrow.Author.Tests.{eqb-true, eqb-false, eq-eqb, ne-eqb}
+use borrow.Author.Tests.{ne-eqb}
 use Rattle.sets.specs.paper.Sets.{allOf, below}
+use Rattle.sets.proofs.SetLaws.{eqb-swap}
 use Rattle.records.specs.paper.Case as paper
 use Rattle.records.specs.paper.Case.{Observation}
 use Rattle.records.specs.code.Decoded.{booleanOf}
@@ -132,13 +133,6 @@ unfolding unknownIn flatMap
 said-none items n f i h = ap (λ (bs : List paper.Boolean). said bs f) (made-none booleanOf items n i h)
 
 -- ---- what was seen binds as the definition weighs it
-
-eqb-swap : (a b : ℕ) → eqb a b ≡ eqb b a
-eqb-swap a b = pick (eqb a b) refl
-  where
-    pick : (t : Bool) → eqb a b ≡ t → eqb a b ≡ eqb b a
-    pick true e = e ∙ sym (eq-eqb b a (sym (eqb-true a b e)))
-    pick false e = e ∙ sym (ne-eqb b a (λ k. eqb-false a b e (sym k)))
 
 module _ (v e : ℕ) where
   -- what is kept once the first pair was value v with evidence e

@@ -6,3 +6,4 @@ pub mod Short
 pub mod PersonLaws
 pub mod RowLaws
 pub mod ListedLaws
+pub mod LastRow

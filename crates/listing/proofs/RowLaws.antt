@@ -9,7 +9,7 @@ use Rattle.page.specs.Decimal.{decimal}
 use Rattle.page.proofs.PageLaws.{puts-append, put-last, puts-then}
 use Rattle.report.specs.paper.Line.{Line}
 use Rattle.report.specs.paper.LineAt.{lineAt, decoded, linesFrom}
-use Rattle.billing.specs.paper.Households.{households}
+use Rattle.billing.specs.paper.Households.{householdCount}
 use Rattle.listing.specs.Text.{feed, space, persons, cell, row, rowOf, rows, header, unitsWord, lastRow, table, refusedWord, refusedRow}
 use Rattle.billing.specs.Shown.{Shows}
 use Rattle.billing.specs.declared.fields.Fields.{Fields}
@@ -27,7 +27,7 @@ pub last-put : (p a b c : Page) (m n : ℕ) → m ≡ n → a ≡ puts p unitsWo
 unfolding lastRow
 last-put p a b c m n i e f g = puts-then p a c unitsWord _ e (put-last a b c (decimal n) feed (f ∙ ap (λ (n : ℕ). puts a (decimal n)) i) g)
 
-pub table-put : (p a b c : Page) (ls : List Line) → a ≡ puts p header → b ≡ puts a (rows ls) → c ≡ puts b (lastRow (households ls)) → c ≡ puts p (table ls)
+pub table-put : (p a b c : Page) (ls : List Line) → a ≡ puts p header → b ≡ puts a (rows ls) → c ≡ puts b (lastRow (householdCount ls)) → c ≡ puts p (table ls)
 unfolding table
 table-put p a b c ls e f g = puts-then p a c header _ e (puts-then a b c (rows ls) _ f g)
 

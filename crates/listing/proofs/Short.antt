@@ -15,7 +15,7 @@ use Rattle.page.proofs.DecimalLaws.{digits-more, two-digits, three-digits}
 use Rattle.report.specs.paper.Line.{Line, lineLength}
 use Rattle.report.specs.paper.LineAt.{lineAt, decoded, linesFrom}
 use Rattle.report.specs.paper.Units.{joinUnit, unitsWith, units}
-use Rattle.billing.specs.paper.Households.{household, households}
+use Rattle.billing.specs.paper.Households.{household, householdCount}
 use Rattle.billing.proofs.LinePlaces.{lines-count}
 use Rattle.listing.specs.Text.{further, persons, cell, row, rowOf, rows, lastRow, table, refusedRow}
 use Rattle.listing.specs.Listing.{longest}
@@ -94,8 +94,8 @@ units-few us [] = omega arith
 units-few us (l ∷ ls) = let j = join-few us (l .block) in let r = units-few (joinUnit us (l .block)) ls in omega arith
 
 -- and households no more than units
-households-few : (ls : List Line) → households ls ≤ length ls
-unfolding households units
+households-few : (ls : List Line) → householdCount ls ≤ length ls
+unfolding householdCount units
 households-few ls = let c = count-le (household ls) (units ls) in let u = units-few [] ls in omega arith
 
 pub table-short : (s : List ℕ) → ((i : ℕ) → getD s i 0 < 256) → (n : ℕ) → n ≤ 64 → length (table (linesFrom s 0 n)) ≤ longest
@@ -104,7 +104,7 @@ table-short s h n l =
     let r = rows-short s h n 0 in
     let u = households-few (linesFrom s 0 n) in
     let c = lines-count s 0 n in
-    let d = two-digits (households (linesFrom s 0 n)) (omega arith) in
+    let d = two-digits (householdCount (linesFrom s 0 n)) (omega arith) in
     simp length-append (omega arith)
 
 -- ---- a refusal

@@ -4,7 +4,7 @@ use Prim.Native.Nat.{ℕ}
 use Rattle.sets.specs.paper.Sets.{members}
 use Rattle.page.specs.Decimal.{decimal}
 use Rattle.report.specs.paper.Line.{Line}
-use Rattle.billing.specs.paper.Households.{households}
+use Rattle.billing.specs.paper.Households.{householdCount}
 
 -- ---- the row of a line
 
@@ -56,7 +56,7 @@ lastRow n = unitsWord ++ (decimal n ++ (feed ∷ []))
 
 -- "The last row of the lister counts" the households (document 02, Ticket 3)
 unfoldable pub table : List Line → List ℕ
-table ls = header ++ (rows ls ++ lastRow (households ls))
+table ls = header ++ (rows ls ++ lastRow (householdCount ls))
 
 -- "refused"
 abbrev pub refusedWord : List ℕ

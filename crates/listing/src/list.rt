@@ -1,7 +1,7 @@
 // The lister's work, on slices.
 use crate::rows::put_refused;
 use crate::rows::put_rows;
-use billing::households::households_of;
+use billing::households::household_count;
 use page::number::put_number;
 use page::put;
 use page::put_all;
@@ -14,7 +14,7 @@ ghost use Rattle.page.specs.Page.{puts};
 ghost use Rattle.report.specs.paper.Line.{lineLength};
 ghost use Rattle.report.specs.paper.Operations.{told as toldOf};
 ghost use Rattle.report.specs.paper.LineAt.{linesFrom};
-ghost use Rattle.billing.specs.paper.Households.{households};
+ghost use Rattle.billing.specs.paper.Households.{householdCount};
 ghost use Rattle.listing.specs.Text.{table, lastRow};
 ghost use Rattle.listing.specs.Listing.{longest};
 ghost use Rattle.listing.specs.Shown.{TellsAnswer, Listed};
@@ -56,9 +56,9 @@ fn tell(found: Answer) -> Told
 // The word "units" and how many of them are households.
 fn put_last(out: &mut [u8], at: usize, lines: &[u8], n: usize) -> usize
     requires { ⌜ (n ≤ 64) × (lineLength * n ≤ length (now lines)) ⌝ }
-    ensures { λ r. ⌜ record { count = r; out = now (out .exit) } ≡ puts (record { count = at; out = now (out .entry) }) (lastRow (households (linesFrom (now (lines .entry)) 0 n))) ⌝ }
+    ensures { λ r. ⌜ record { count = r; out = now (out .exit) } ≡ puts (record { count = at; out = now (out .entry) }) (lastRow (householdCount (linesFrom (now (lines .entry)) 0 n))) ⌝ }
 {
-    let count = households_of(lines, n);
+    let count = household_count(lines, n);
     let mut next = put_all(out, at, b"units ");
     next = put_number(out, next, count);
     put(out, next, b'\n')

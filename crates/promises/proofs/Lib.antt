@@ -19,3 +19,6 @@ pub mod Unlisted
 pub mod PooledLines
 pub mod PoolRefusals
 pub mod PooledAnswers
+pub mod HouseholdLines
+pub mod IdleUnits
+pub mod HouseholdAnswers

@@ -185,6 +185,14 @@ once parts i j l m e =
     ⊎-elim (λ h. let r = parts .rising i j h m in absurd (omega arith))
     (λ h. ⊎-elim (λ k. let r = parts .rising j i k l in absurd (omega arith)) (λ k. omega arith) (lt-or-le j i)) (lt-or-le i j)
 
+-- A LINE'S PERSON IS IN ANOTHER'S BLOCK EXACTLY IF THE LINE HAS IT AS BLOCK
+pub block-persons : {Blocked : ℕ → Type 0} {roster : ℕ} {s : List ℕ} {n : ℕ} → Partitioned Blocked roster s n
+    → (i k : ℕ) → i < n → k < n → blockAt s i ≢ 0 → (has (blockAt s i) (personAt s k) ≡ true) ↔ (blockAt s k ≡ blockAt s i)
+block-persons {s = s} parts i k l m z = (
+  λ h. let r = parts .members i l (personAt s k) h in ap (blockAt s) (sym (once parts (r .0) k (r .1) m (r .2))) ∙ r .4,
+  λ e. ap (λ (b : ℕ). has b (personAt s k)) (sym e) ∙ parts .own k m (subst (λ (b : ℕ). b ≢ 0) (sym e) z),
+)
+
 -- ---- what an operation gives back, over a roster
 
 pub record Claimed (Blocked : ℕ → Type 0) (roster : ℕ) (o : Outcome) : Type 0 where

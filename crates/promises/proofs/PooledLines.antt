@@ -23,7 +23,7 @@ use Rattle.billing.proofs.LinePlaces.{at-any, lines-count, any-line, line-any, 
 use Rattle.billing.proofs.UnitOrder.{Grouped, units-rise}
 use Rattle.promises.specs.Partitioned.{personAt, kindAt, blockAt, Partitioned, InAll}
 use Rattle.promises.specs.Pooled.{unitAt, pooledAt, amountsWhere, Pooled}
-use Rattle.promises.proofs.PartedLines.{within-le, once}
+use Rattle.promises.proofs.PartedLines.{within-le, block-persons}
 
 module _ (roster : ℕ) (s : List ℕ) (n : ℕ) (parts : Partitioned InAll roster s n) (fits : roster < 2 ^ 64) (amounts : List ℕ) (long : length amounts ≡ n) where
   abbrev ls : List Line
@@ -70,15 +70,10 @@ module _ (roster : ℕ) (s : List ℕ) (n : ℕ) (parts : Partitioned InAll rost
       (r .0, r .1, r .2 ∙ sym (block-is i l), subst (λ (b : ℕ). b ≢ 0) (sym (block-is i l)) (r .3))
 
   its-persons : (i k : ℕ) → i < length us → k < n → (has (unitAt us i .block) (personAt s k) ≡ true) ↔ (blockAt s k ≡ unitAt us i .block)
-  its-persons i k l m = (λ h. inside h, λ e. ap (λ (b : ℕ). has b (personAt s k)) (sym e) ∙ parts .own k m (subst (λ (b : ℕ). b ≢ 0) (sym e) (t .3)))
-    where
-      t : (k : ℕ) × (k < n) × (blockAt s k ≡ unitAt us i .block) × (unitAt us i .block ≢ 0)
-      t = its-line i l
-
-      inside : has (unitAt us i .block) (personAt s k) ≡ true → blockAt s k ≡ unitAt us i .block
-      inside h =
-          let r = parts .members (t .0) (t .1) (personAt s k) (ap (λ (b : ℕ). has b (personAt s k)) (t .2) ∙ h) in
-          ap (blockAt s) (sym (once parts (r .0) k (r .1) m (r .2))) ∙ r .4 ∙ t .2
+  its-persons i k l m =
+      let t = its-line i l in
+      subst (λ (b : ℕ). (has b (personAt s k) ≡ true) ↔ (blockAt s k ≡ b)) (t .2)
+      (block-persons parts (t .0) k (t .1) m (subst (λ (b : ℕ). b ≢ 0) (sym (t .2)) (t .3)))
 
   -- the two tests of a line agree
   its-test : (i k : ℕ) → i < length us → k < n → eqb (blockAt s k) (getD (report.units ls) i 0) ≡ has (unitAt us i .block) (personAt s k)

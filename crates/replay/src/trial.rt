@@ -119,7 +119,8 @@ fn answers(
     soil(lines);
     soil(events);
     if vector.op == LIST {
-        return event_bytes.len() == 0 && lists(vector.expected, plan, case, line_bytes, lines, events);
+        return event_bytes.len() == 0
+            && lists(vector.expected, plan, case, line_bytes, lines, events);
     }
     let found = operate(vector.op, vector.world, plan, case, amounts, lines, events);
     let answer = found.answer;

@@ -196,6 +196,13 @@ pub and-parts : (x y : Bool) → (x && y) ≡ true → (x ≡ true) × (y ≡ tr
 and-parts true y e = (refl, e)
 and-parts false y e = absurd (false≢true e)
 
+pub eqb-swap : (a b : ℕ) → eqb a b ≡ eqb b a
+eqb-swap a b = pick (eqb a b) refl
+  where
+    pick : (t : Bool) → eqb a b ≡ t → eqb a b ≡ eqb b a
+    pick true e = e ∙ sym (eq-eqb b a (sym (eqb-true a b e)))
+    pick false e = e ∙ sym (ne-eqb b a (λ k. eqb-false a b e (sym k)))
+
 and-not-parts : (x y : Bool) → (x && not y) ≡ true → (x ≡ true) × (y ≡ false)
 and-not-parts true true e = absurd (false≢true e)
 and-not-parts true false e = (refl, refl)

@@ -70,6 +70,8 @@
 //! # }
 //! ```
 //!
+//! [`Answer::units`] has every unit, [`Answer::households`] those that draw service: all but the units in which everybody is excluded.
+//!
 //! [`list`] gives the lister's text, [`circle`] the persons with whom somebody is joined, directly or through others. [`words`] says in sentences what
 //! a person's line says and why, from what belongs to the person's circle alone ([`near`]).
 //!
@@ -128,6 +130,7 @@ mod refused;
 mod renumber;
 mod rules;
 mod shown;
+mod units;
 mod unnamed;
 mod warning;
 mod warnings;

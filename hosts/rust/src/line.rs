@@ -138,6 +138,12 @@ impl Line {
         self.kind == LineKind::Decided && self.role != Role::Excluded
     }
 
+    /// Whether the person makes the block a household: the role is open, or the line is decided and not excluded. One such person is enough; a block
+    /// without any, as everybody in it is excluded, draws no service and is no household.
+    pub fn makes_household(&self) -> bool {
+        self.kind == LineKind::Role || self.is_pooled()
+    }
+
     /// Those with whom the person is counted together.
     pub fn others(&self) -> Persons {
         self.block.without(Persons::of(&[self.person]).unwrap_or(Persons::NOBODY))

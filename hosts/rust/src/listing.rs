@@ -8,12 +8,20 @@ use crate::operations::{EVENTS_LENGTH, LINES_LENGTH};
 /// Bytes that hold every text of the lister.
 pub const TEXT_LENGTH: usize = 13216;
 
-/// The lister's text: a heading, a row for each person and the count of units, or a single row of a refusal. A line feed ends each row.
+/// The lister's text: a heading, a row for each person and the count of households, behind the word `units`; or a single row of a refusal. A line
+/// feed ends each row.
 #[derive(Clone, Debug, PartialEq, Eq)]
 pub struct Listing {
     pub text: String,
     /// Whether the text is `refused`, number and record.
     pub refused: bool,
+}
+
+impl Listing {
+    /// The number of the last row: how many units are households. None for a refusal.
+    pub fn households(&self) -> Option<u64> {
+        self.text.lines().last()?.strip_prefix("units ")?.parse().ok()
+    }
 }
 
 impl fmt::Display for Listing {

@@ -121,17 +121,6 @@ impl Answer {
     pub fn line(&self, person: u8) -> Option<&Line> {
         self.lines.iter().find(|line| line.person == person)
     }
-
-    /// The different blocks, in order of their lowest persons.
-    pub fn units(&self) -> Vec<Persons> {
-        let mut units: Vec<Persons> = Vec::new();
-        for block in self.lines.iter().map(|line| line.block) {
-            if !block.is_empty() && !units.contains(&block) {
-                units.push(block);
-            }
-        }
-        units
-    }
 }
 
 /// Buffers to be used again and again, which always suffice: for the few cases with more than 4,096 events they lend more.

@@ -7,7 +7,7 @@ use crate::operations::{Answer, Answered, Buffers, answered};
 use crate::persons::Persons;
 use crate::refusal::{Given, Refusal};
 
-/// A unit and its pool.
+/// A unit and its pool. Whether it is a household, [`Answer::is_household`] tells of its persons; units that are none are listed all the same.
 #[derive(Clone, Copy, Debug, PartialEq, Eq, Hash)]
 pub struct Unit {
     pub persons: Persons,
@@ -63,7 +63,7 @@ impl<'a> Pooled<'a> {
         self.answered.events()
     }
 
-    /// The units, in order of their lowest persons.
+    /// The units, in order of their lowest persons; those that are no households, too.
     pub fn units(&self) -> impl Iterator<Item = Unit> + '_ {
         let Sums { blocks, cents, open, count, .. } = &self.sums;
         let count = usize::try_from(*count).unwrap_or(usize::MAX);
@@ -91,7 +91,7 @@ impl<'a> Pooled<'a> {
 #[derive(Clone, Debug, PartialEq, Eq)]
 pub struct Pools {
     pub answer: Answer,
-    /// In order of their lowest persons.
+    /// In order of their lowest persons; those that are no households, too.
     pub units: Vec<Unit>,
     /// The sum over all who are not pooled: everyone but those whose lines are decided and not excluded.
     pub unplaced: u64,
@@ -152,6 +152,7 @@ impl Buffers {
 /// let excluded = Unit { persons: Persons::of(&[2])?, cents: 0, open: false };
 /// assert_eq!(pools.units, [together, excluded]);
 /// assert_eq!((pools.unplaced, pools.sum()), (101, 111));
+/// assert!(pools.answer.is_household(together.persons) && !pools.answer.is_household(excluded.persons));
 ///
 /// let refusal = lukhveri::pool(plan.bytes(), case.bytes(), &[1, 10]).expect_err("two amounts");
 /// assert_eq!(refusal.reason, Reason::AmountsDoNotFit);

@@ -2,6 +2,7 @@
 
 mod folder;
 mod program;
+mod roster;
 
 use std::io::{BufRead, BufReader, Write};
 use std::path::Path;
@@ -10,6 +11,7 @@ use std::process::Stdio;
 use folder::Folder;
 use program::json::{self, Value};
 use program::{EXAMPLES, Random, Said, example, example_file, on, program, run, run_with};
+use roster::{roster, without_units};
 
 const HEADING: &str = "case,person,name,kind,role,block,open facts,open decisions,citations,refusal,record,reason\r\n";
 
@@ -44,7 +46,9 @@ fn the_examples() {
     all.extend(words);
     let said = run(&all);
     assert_eq!(said.status, Some(0));
-    assert_eq!(counts(&said), "7 cases: 7 answered, 0 refused, 0 unreadable; 39 persons");
+    let wanted =
+        "8 cases: 8 answered, 0 refused, 0 unreadable; 46 persons; 20 units, 16 of them households";
+    assert_eq!(counts(&said), wanted);
     assert!(said.out.starts_with(HEADING));
     for row in [
         "examples/01/case.bin,0,Ana,0,1,0 1,,,1,,,\r\n",
@@ -92,7 +96,7 @@ fn a_mixed_folder() {
     );
     assert!(last[2].starts_with(&format!("{here}/e.bin,,,,,,,,,9,0,\"case, record 0 ")));
     assert!(last[2].ends_with(": its relation is 9, the plan's is 7\""), "{}", last[2]);
-    assert_eq!(counts(&said), "5 cases: 2 answered, 2 refused, 1 unreadable; 5 persons");
+    assert_eq!(counts(&said), "5 cases: 2 answered, 2 refused, 1 unreadable; 5 persons; 3 units");
     assert!(said.err.starts_with(&format!("lukhveri: {here}: not taken for cases: notes.txt\n")));
     assert_eq!(said.status, Some(2));
     std::fs::remove_dir(folder.path().join("d.bin")).expect("a folder");
@@ -154,7 +158,7 @@ fn folders_without_cases() {
     assert_eq!(said.status, Some(2));
     assert_eq!(said.out.lines().count(), 3, "the folder that has cases is done: {}", said.out);
     let complaints = [
-        "lukhveri: examples: no cases in this folder; it has 01, allotments, choir, club and 3 more: try examples/*\n",
+        "lukhveri: examples: no cases in this folder; it has 01, allotments, camp, choir and 4 more: try examples/*\n",
         "lukhveri: nowhere: there is no such folder\n",
         "lukhveri: examples/01/plan.bin: this is a file; a folder of cases is wanted\n",
     ];
@@ -230,7 +234,7 @@ fn faulty_names_with_amounts() {
     let said = on("batch", folder.path(), &["--rows", "--amounts"]);
     let why = "amounts.csv: row 2: 'Anna' is no person's number, and names.txt is not used because of its fault; mend names.txt, or write the number (and 1 more fault)";
     let here = text(folder.path());
-    let row = format!("{here}/a.bin,,,,,,,,\"unreadable: {why}\"\r\n");
+    let row = format!("{here}/a.bin,,,,,,,,,\"unreadable: {why}\"\r\n");
     assert_eq!((said.out, said.status), (row, Some(2)));
     assert!(said.err.contains("names.txt: line 2: 'x' is no number of a person"), "{}", said.err);
 }
@@ -363,21 +367,23 @@ fn a_reader_who_goes_away() {
     drop(input);
 }
 
-const POOLS: &str = "case,part,persons,names,cents,open,refusal,record,reason\r\n";
+const POOLS: &str = "case,part,persons,names,cents,open,household,refusal,record,reason\r\n";
 
 #[test]
 fn pools_of_an_example() {
     let said = run(&["batch", "--amounts", "examples/choir"]);
     let wanted = format!(
         "{POOLS}\
-examples/choir/case.bin,unit,0 1,Nato; Gela,10,yes,,,\r
-examples/choir/case.bin,unit,2,Rezo,0,no,,,\r
-examples/choir/case.bin,unit,3,Soso,1000,no,,,\r
-examples/choir/case.bin,unplaced,0 2,Nato; Rezo,101,,,,\r
+examples/choir/case.bin,unit,0 1,Nato; Gela,10,yes,yes,,,\r
+examples/choir/case.bin,unit,2,Rezo,0,no,no,,,\r
+examples/choir/case.bin,unit,3,Soso,1000,no,yes,,,\r
+examples/choir/case.bin,unplaced,0 2,Nato; Rezo,101,,,,,\r
 "
     );
     assert_eq!((said.out.as_str(), said.status), (wanted.as_str(), Some(0)));
-    assert_eq!(counts(&said), "1 case: 1 answered, 0 refused, 0 unreadable; 4 persons");
+    let wanted_counts =
+        "1 case: 1 answered, 0 refused, 0 unreadable; 4 persons; 3 units, 2 of them households";
+    assert_eq!(counts(&said), wanted_counts);
     let rows = run(&["batch", "--amounts", "--rows", "examples/choir"]).out;
     assert_eq!(Some(rows.as_str()), wanted.strip_prefix(POOLS));
     assert!(said.err.contains("not taken for cases: README.md, printed.txt\n"), "{}", said.err);
@@ -400,11 +406,12 @@ fn pools_as_json_lines() {
     let rows: Vec<Value> = said.out.split_inclusive('\n').map(json::read).collect();
     let here = folder.path().display();
     let first = format!(
-        r#"{{"case":"{here}/a.bin","part":"unit","persons":[0,1],"names":[null,"Anna"],"cents":3,"open":false}}"#
+        r#"{{"case":"{here}/a.bin","part":"unit","persons":[0,1],"names":[null,"Anna"],"cents":3,"open":false,"household":true}}"#
     );
     assert_eq!(said.out.lines().next(), Some(first.as_str()));
     assert_eq!((rows[1].at("cents").number(), rows[1].at("part").text()), (4, "unit"));
     assert_eq!((rows[2].at("part").text(), rows[2].at("open")), ("unplaced", &Value::Null));
+    assert!(said.out.lines().nth(2).is_some_and(|row| row.ends_with(r#","household":null}"#)));
     assert_eq!((rows[2].at("persons").list().len(), rows[2].at("cents").number()), (0, 0));
     // The second case has nobody of the number 2; the third is refused before its amounts are looked at.
     let fault = "unreadable: amounts.csv: row 4: person 2 is not on the roster; take the row away, or correct the person";
@@ -447,7 +454,7 @@ fn folders_with_and_without_amounts() {
     let pooled = |name: &str| {
         let case = format!("{here}/{name}/case.bin");
         format!(
-            "{case},unit,0 1,,3,no,,,\r\n{case},unit,2,,256,no,,,\r\n{case},unplaced,,,0,,,,\r\n"
+            "{case},unit,0 1,,3,no,yes,,,\r\n{case},unit,2,,256,no,yes,,,\r\n{case},unplaced,,,0,,,,,\r\n"
         )
     };
     let none = "this folder has no amounts; write amounts.csv, with person,cents in its first row and then a row for each person of the roster, or amounts.bin";
@@ -455,24 +462,24 @@ fn folders_with_and_without_amounts() {
     let many = "amounts.bin says of no amount whose it is, and there are 2 cases; write amounts.csv, or give each case a folder";
     let wanted = [
         pooled("a"),
-        format!("{here}/b/case.bin,,,,,,,,\"unreadable: {none}\"\r\n"),
-        format!("{here}/c/case.bin,,,,,,,,\"unreadable: {two}\"\r\n"),
+        format!("{here}/b/case.bin,,,,,,,,,\"unreadable: {none}\"\r\n"),
+        format!("{here}/c/case.bin,,,,,,,,,\"unreadable: {two}\"\r\n"),
         format!(
-            "{here}/d/case.bin,,,,,,15,0,\"the list has 11 bytes, no multiple of 4; the roster has 3 persons, which makes 12 bytes\"\r\n"
+            "{here}/d/case.bin,,,,,,,15,0,\"the list has 11 bytes, no multiple of 4; the roster has 3 persons, which makes 12 bytes\"\r\n"
         ),
         format!(
-            "{here}/e/case.bin,,,,,,,,\"unreadable: amounts.csv: row 2: 'x' is no whole number of cents; write digits alone, from 0 to 4294967295: 1250 for 12.50 (and 1 more fault)\"\r\n"
+            "{here}/e/case.bin,,,,,,,,,\"unreadable: amounts.csv: row 2: 'x' is no whole number of cents; write digits alone, from 0 to 4294967295: 1250 for 12.50 (and 1 more fault)\"\r\n"
         ),
         format!(
-            "{here}/f/case.bin,,,,,,,,unreadable: amounts.csv: line 2 is no UTF-8 text; save the file as UTF-8\r\n"
+            "{here}/f/case.bin,,,,,,,,,unreadable: amounts.csv: line 2 is no UTF-8 text; save the file as UTF-8\r\n"
         ),
         pooled("g"),
-        format!("{here}/h/case.bin,,,,,,,,\"unreadable: {many}\"\r\n"),
-        format!("{here}/h/other.bin,,,,,,,,\"unreadable: {many}\"\r\n"),
+        format!("{here}/h/case.bin,,,,,,,,,\"unreadable: {many}\"\r\n"),
+        format!("{here}/h/other.bin,,,,,,,,,\"unreadable: {many}\"\r\n"),
     ];
     assert_eq!(said.out.replace("\r\n", "\n"), wanted.concat().replace("\r\n", "\n"));
     assert_eq!(said.status, Some(2));
-    assert_eq!(counts(&said), "9 cases: 2 answered, 1 refused, 6 unreadable; 6 persons");
+    assert_eq!(counts(&said), "9 cases: 2 answered, 1 refused, 6 unreadable; 6 persons; 4 units");
     for complaint in
         [format!("{here}/b: {none}"), format!("{here}/c: {two}"), format!("{here}/h: {many}")]
     {
@@ -486,7 +493,7 @@ fn folders_with_and_without_amounts() {
     assert_eq!(run(&["batch", "--amounts", &folders[0], &folders[3]]).status, Some(1));
     // Amounts are no case, with or without --amounts.
     let said = run(&["batch", "--rows", &folders[2]]);
-    let answered = "1 case: 1 answered, 0 refused, 0 unreadable; 3 persons";
+    let answered = "1 case: 1 answered, 0 refused, 0 unreadable; 3 persons; 2 units";
     assert_eq!((counts(&said), said.status), (answered, Some(0)));
     assert!(said.err.contains("not taken for cases: amounts.bin, amounts.csv\n"), "{}", said.err);
 }
@@ -504,7 +511,7 @@ fn pools_of_many_cases() {
         let case = format!("{number:03}.bin");
         folder.write(&case, &complete(3));
         wanted += &format!(
-            "{here}/{case},unit,0 1,,8589934590,no,,,\r\n{here}/{case},unit,2,,4294967295,no,,,\r\n{here}/{case},unplaced,,,0,,,,\r\n"
+            "{here}/{case},unit,0 1,,8589934590,no,yes,,,\r\n{here}/{case},unit,2,,4294967295,no,yes,,,\r\n{here}/{case},unplaced,,,0,,,,,\r\n"
         );
     }
     let said = on("batch", folder.path(), &["--amounts"]);
@@ -513,6 +520,83 @@ fn pools_of_many_cases() {
     let plan = folder.path().join("plan.bin");
     let said = on("batch", folder.path(), &["--amounts", "--plan", text(&plan)]);
     assert!(said.out == wanted);
+}
+
+/// Writes the roster of these words as a case of its own folder, in which everybody has one cent.
+fn club(folder: &Folder, words: &str) -> String {
+    let own = folder.path().join(words);
+    std::fs::create_dir(&own).expect("a folder");
+    let (plan, case) = roster(words);
+    let amounts = [1, 0, 0, 0].repeat(words.replace(' ', "").len());
+    for (name, bytes) in [("plan.bin", plan), ("case.bin", case), ("amounts.bin", amounts)] {
+        std::fs::write(own.join(name), bytes).expect("a file");
+    }
+    text(&own).to_string()
+}
+
+/// The counts say how many units there are, and how many of them are households where some are not; with amounts or without.
+#[test]
+fn units_that_are_no_households() {
+    let folder = Folder::new("batch-households");
+    let clubs = ["e", "ee e", "oe", "b", "m e mm"].map(|words| club(&folder, words));
+    let [alone, none, open, barred, mixed] = &clubs;
+    for (folders, said) in [
+        (
+            vec![alone],
+            "1 case: 1 answered, 0 refused, 0 unreadable; 1 person; 1 unit, which is no household",
+        ),
+        (
+            vec![none],
+            "1 case: 1 answered, 0 refused, 0 unreadable; 3 persons; 2 units, none of them a household",
+        ),
+        (vec![barred], "1 case: 1 answered, 0 refused, 0 unreadable; 1 person; 1 unit"),
+        (vec![open, barred], "2 cases: 2 answered, 0 refused, 0 unreadable; 3 persons; 2 units"),
+        (
+            vec![alone, open],
+            "2 cases: 2 answered, 0 refused, 0 unreadable; 3 persons; 2 units, 1 of them a household",
+        ),
+        (
+            vec![mixed, none, open],
+            "3 cases: 3 answered, 0 refused, 0 unreadable; 9 persons; 6 units, 3 of them households",
+        ),
+    ] {
+        let folders: Vec<&str> = folders.into_iter().map(String::as_str).collect();
+        for options in [&["batch"][..], &["batch", "--amounts"], &["batch", "--json", "--amounts"]]
+        {
+            let done = run(&[options, &folders].concat());
+            assert_eq!((counts(&done), done.status), (said, Some(0)), "{options:?}");
+        }
+    }
+}
+
+/// The column and the member are of units alone.
+#[test]
+fn whether_a_unit_is_a_household() {
+    let folder = Folder::new("batch-household");
+    let [none, open, mixed] = ["ee e", "oe", "m e mm"].map(|words| club(&folder, words));
+    let case = format!("{mixed}/case.bin");
+    let rows = run(&["batch", "--rows", "--amounts", &mixed]).out;
+    let wanted = format!(
+        "{case},unit,0,,1,no,yes,,,\r\n{case},unit,1,,0,no,no,,,\r\n{case},unit,2 3,,2,no,yes,,,\r\n{case},unplaced,1,,1,,,,,\r\n"
+    );
+    assert_eq!(rows, wanted);
+    let rows = run(&["batch", "--json", "--amounts", &none, &open]).out;
+    let households = rows.split_inclusive('\n').map(|row| json::read(row).at("household").clone());
+    let (yes, no) = (Value::Bool(true), Value::Bool(false));
+    assert_eq!(households.collect::<Vec<_>>(), [no.clone(), no, Value::Null, yes, Value::Null]);
+}
+
+/// Kinds 5 and 6 have no units, and a refused case counts nobody.
+#[test]
+fn cases_without_units() {
+    let folder = Folder::new("batch-no-units");
+    let [(plan, incomplete), (_, inconsistent)] = without_units("e ee m");
+    folder.write("plan.bin", &plan);
+    folder.write("a.bin", &incomplete);
+    folder.write("b.bin", &inconsistent);
+    folder.write("c.bin", &incomplete[..5]);
+    let said = on("batch", folder.path(), &[]);
+    assert_eq!(counts(&said), "3 cases: 2 answered, 1 refused, 0 unreadable; 8 persons; 0 units");
 }
 
 #[test]

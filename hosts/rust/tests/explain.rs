@@ -2,10 +2,12 @@
 
 mod folder;
 mod program;
+mod roster;
 
 use folder::Folder;
 use program::json::{self, Value};
 use program::{EXAMPLES, example, example_file, on, run};
+use roster::{roster, without_units};
 
 const HEADING: &str =
     "For the officer: what follows belongs to all persons of the case and is not for families.";
@@ -54,6 +56,85 @@ fn what_belongs_to_all_stands_under_its_heading() {
     let (before, after) = both.split_once(HEADING).expect("the heading");
     assert_eq!(before, family + "\n");
     assert!(after.starts_with("\n  ") && after.lines().count() > 2, "{after}");
+}
+
+/// The first lines of the officers' part of a roster: its counts, and what is said before the events.
+fn officer(words: &str) -> Vec<String> {
+    let folder = Folder::new("explain-households");
+    let (plan, case) = roster(words);
+    folder.write("plan.bin", &plan);
+    folder.write("case.bin", &case);
+    folder
+        .write("names.txt", b"person 0 rezo\nperson 1 Nato\nperson 2 Nato\nperson 3 Otar; Soso\n");
+    let (family, both) =
+        (on("explain", folder.path(), &[]), on("explain", folder.path(), &["--officer"]));
+    assert!(!family.out.contains("household"), "{}", family.out);
+    let (paragraphs, after) = both.out.split_once(HEADING).expect("the heading");
+    assert_eq!(paragraphs, family.out + "\n");
+    let lines =
+        after.lines().skip(1).map(|line| line.strip_prefix("  ").expect("indented").to_string());
+    let said: Vec<String> = lines.take_while(|line| !line.contains("vents")).collect();
+    let object = json::read(&on("explain", folder.path(), &["--officer", "--json"]).out);
+    let listed = object.at("officer").list().iter().map(|line| line.text().to_string());
+    assert_eq!(listed.take(said.len()).collect::<Vec<_>>(), said);
+    said
+}
+
+/// Units that are no households are counted and named for officers; no paragraph speaks of them.
+#[test]
+fn units_that_are_no_households() {
+    let nato = "Nato (person 1) and Nato (person 2)";
+    for (words, counts, named) in [
+        (
+            "e ee eo b",
+            "6 persons, 1 of them not decided; 4 units, 2 of them households; 2 worlds.",
+            vec!["rezo", nato],
+        ),
+        (
+            "m m m e",
+            "4 persons, 0 of them not decided; 4 units, 3 of them households; 1 world.",
+            vec!["Otar; Soso"],
+        ),
+        (
+            "eee e",
+            "4 persons, 0 of them not decided; 2 units, none of them a household; 1 world.",
+            vec!["rezo, Nato (person 1) and Nato (person 2)", "Otar; Soso"],
+        ),
+        (
+            "mm ee",
+            "4 persons, 0 of them not decided; 2 units, 1 of them a household; 1 world.",
+            vec!["Nato (person 2) and Otar; Soso"],
+        ),
+        (
+            "e",
+            "1 person, 0 of them not decided; 1 unit, which is no household; 1 world.",
+            vec!["rezo"],
+        ),
+        ("me b o", "4 persons, 1 of them not decided; 3 units; 2 worlds.", vec![]),
+    ] {
+        let why =
+            |unit| format!("The unit of {unit} is no household, as everybody in it is excluded.");
+        let wanted: Vec<String> =
+            [counts.to_string()].into_iter().chain(named.into_iter().map(why)).collect();
+        assert_eq!(officer(words), wanted, "{words}");
+    }
+}
+
+/// Kinds 5 and 6: there are no units, and nothing is said of households.
+#[test]
+fn rosters_without_units() {
+    for (plan, case) in without_units("e ee m") {
+        let folder = Folder::new("explain-no-units");
+        folder.write("plan.bin", &plan);
+        folder.write("case.bin", &case);
+        let said = on("explain", folder.path(), &["--officer"]);
+        assert!(
+            said.out.contains("\n  4 persons, 4 of them not decided; 0 units; 0 worlds.\n"),
+            "{}",
+            said.out
+        );
+        assert!(!said.out.contains("household"), "{}", said.out);
+    }
 }
 
 #[test]

@@ -56,6 +56,20 @@ fn sums_are_per_case() {
     }
 }
 
+/// The last row of the lister says units and counts households: whoever reads about it is told.
+#[test]
+fn what_a_household_is() {
+    let header = std::fs::read_to_string(root().join("hosts/lukhveri.h")).expect("a file");
+    let readme = std::fs::read_to_string(root().join("hosts/README.md")).expect("a file");
+    let helps = ["list", "explain", "batch", "pool"].map(|command| help(&["help", command]));
+    for text in helps.into_iter().chain([header, readme]) {
+        let text = text.replace('*', "").split_whitespace().collect::<Vec<_>>().join(" ");
+        assert!(text.contains("household") && text.contains("is excluded"), "{text}");
+    }
+    let list = help(&["list", "--help"]);
+    assert!(list.contains("a last row, units, with the number of households."), "{list}");
+}
+
 /// The commands below "Examples".
 fn examples(help: &str) -> Vec<String> {
     let (_, below) = help.split_once("\nExamples, in the repository's root:\n").expect("examples");

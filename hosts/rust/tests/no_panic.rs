@@ -171,9 +171,11 @@ fn all_calls(plan: &[u8], case: &[u8], random: &mut Random, buffers: &mut Buffer
         accepted(&read, case, random);
     }
     checked.err().iter().for_each(|refusal| say(refusal, plan, case));
-    let answered = buffers.answer(plan, case).map(|answered| drop(answered.to_answer()));
-    assert_eq!(list(plan, case).refused, answered.is_err());
-    answered.unwrap_or_else(|no| say(&no, plan, case));
+    let answered = buffers.answer(plan, case).map(|answered| answered.to_answer());
+    let households = answered.as_ref().ok().map(|answer| answer.households().len() as u64);
+    let listing = list(plan, case);
+    assert_eq!((listing.refused, listing.households()), (answered.is_err(), households));
+    answered.map_or_else(|no| say(&no, plan, case), drop);
     pooled(plan, case, random, buffers);
     let person = random.byte();
     assert!(circle(plan, case, person).is_none_or(|circle| circle.holds(person)));

@@ -33,6 +33,7 @@ fn the_example() {
     let answer = answer(plan.bytes(), &case).expect("an answer");
     assert_eq!(answer.worlds, 1);
     assert_eq!(answer.units(), [persons(&[0, 1]), persons(&[2])]);
+    assert_eq!(answer.households(), answer.units());
     let line = answer.line(1).expect("a line");
     assert_eq!((line.kind, line.role), (LineKind::Decided, Role::Member));
     assert_eq!(line.others(), persons(&[0]));
@@ -91,6 +92,8 @@ fn a_default() {
     assert!(answer.events.contains(&default));
     assert!(answer.events.contains(&Event::Excluded { status: 0, person: 1 }));
     assert_eq!(answer.line(1).map(|line| line.role), Some(Role::Excluded));
+    assert_eq!(answer.units(), [persons(&[0]), persons(&[1])]);
+    assert_eq!(answer.households(), [persons(&[0])]);
 }
 
 #[test]
@@ -258,8 +261,10 @@ fn the_text_of_the_lister() {
     let listing = list(plan.bytes(), &case);
     let rows = "person kind role block\n0 0 1 0,1\n1 0 1 0,1\n2 0 1 2\nunits 2\n";
     assert_eq!((listing.to_string().as_str(), listing.refused), (rows, false));
+    assert_eq!(listing.households(), Some(2));
     let of_plan = list(&plan.bytes()[..9], &case);
     assert_eq!((of_plan.text.as_str(), of_plan.refused), ("refused 1 2\n", true));
+    assert_eq!(of_plan.households(), None);
     let of_case = list(plan.bytes(), &[]);
     assert_eq!((of_case.text.as_str(), of_case.refused), ("refused 3 0\n", true));
     let open =

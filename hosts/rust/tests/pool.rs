@@ -2,15 +2,17 @@
 
 mod folder;
 mod program;
+mod roster;
 
 use folder::Folder;
 use program::json::{self, Value};
 use program::{example, example_file, hex, on, run};
+use roster::roster;
 
 const CHOIR: &str = "\
-3 units, each with its pool:
+3 units, 2 of them households, each with its pool:
   Nato and Gela: 10 cents. Open: this pool is not final as long as Nato has no decided role; the amount of Nato is not in it, but unplaced.
-  Rezo: 0 cents, as nobody in it is pooled.
+  Rezo: 0 cents, as everybody in it is excluded; no household.
   Soso: 1000 cents.
 
 Unplaced: 101 cents.
@@ -53,7 +55,7 @@ fn the_same_amounts_in_bytes() {
 fn as_json() {
     let said = on("pool", &example("choir"), &["--json"]);
     assert_eq!((said.err.as_str(), said.status), ("", Some(0)));
-    let units = r#"{"units":[{"persons":[0,1],"cents":10,"open":true},{"persons":[2],"cents":0,"open":false},{"persons":[3],"cents":1000,"open":false}],"unplaced":101,"pooled":1010,"sum":1111,"lines":["#;
+    let units = r#"{"units":[{"persons":[0,1],"cents":10,"open":true,"household":true},{"persons":[2],"cents":0,"open":false,"household":false},{"persons":[3],"cents":1000,"open":false,"household":true}],"unplaced":101,"pooled":1010,"sum":1111,"lines":["#;
     assert!(said.out.starts_with(units), "{}", said.out);
     let object = json::read(&said.out);
     let lines = object.at("lines").list();
@@ -64,6 +66,48 @@ fn as_json() {
     assert_eq!(lines[0].at("why_unplaced").text(), open);
     assert_eq!(lines[1].at("why_unplaced"), &Value::Null);
     assert_eq!(lines[2].at("why_unplaced").text(), "excluded");
+}
+
+/// The heading and the units of a roster in which everybody has one cent, and which of them JSON has for households.
+fn pooled(words: &str) -> (Vec<String>, Vec<bool>) {
+    let (folder, (plan, case)) = (Folder::new("pool-households"), roster(words));
+    folder.write("plan.bin", &plan);
+    folder.write("case.bin", &case);
+    folder.write("amounts.bin", &[1, 0, 0, 0].repeat(words.replace(' ', "").len()));
+    folder.write("names.txt", b"person 0 rezo\n");
+    let said = on("pool", folder.path(), &[]);
+    assert_eq!((said.err.as_str(), said.status), ("", Some(0)));
+    let units = said.out.lines().take_while(|line| !line.is_empty()).map(str::to_string).collect();
+    let object = json::read(&on("pool", folder.path(), &["--json"]).out);
+    let household = |unit: &Value| unit.at("household") == &Value::Bool(true);
+    (units, object.at("units").list().iter().map(household).collect())
+}
+
+/// Each unit that is no household is told so, and the heading says how many are; barred persons and open roles make households.
+#[test]
+fn units_that_are_no_households() {
+    let (units, households) = pooled("e ee oe b m");
+    assert_eq!(
+        units,
+        [
+            "5 units, 3 of them households, each with its pool:",
+            "  Rezo: 0 cents, as everybody in it is excluded; no household.",
+            "  Person 1 and person 2: 0 cents, as everybody in it is excluded; no household.",
+            "  Person 3 and person 4: 0 cents, as nobody in it is pooled. Open: this pool is not final as long as person 3 has no decided role; the amount of person 3 is not in it, but unplaced.",
+            "  Person 5: 1 cent.",
+            "  Person 6: 1 cent.",
+        ]
+    );
+    assert_eq!(households, [false, false, true, true, true]);
+    for (words, heading) in [
+        ("e", "1 unit, which is no household, with its pool:"),
+        ("b", "1 unit, with its pool:"),
+        ("e e", "2 units, none of them a household, each with its pool:"),
+        ("o e", "2 units, 1 of them a household, each with its pool:"),
+        ("be o m", "3 units, each with its pool:"),
+    ] {
+        assert_eq!(pooled(words).0[0], heading, "{words}");
+    }
 }
 
 /// 15 is a refusal like the others: the result says it, status 1.

@@ -55,6 +55,7 @@ fn who_is_pooled_who_is_unplaced_what_is_open() {
     let units = [unit(&[0, 1], 10, true), unit(&[2], 0, false), unit(&[3], 1000, false)];
     assert_eq!(pools.units, units);
     assert_eq!((pools.unplaced, pools.pooled(), pools.sum()), (101, 1010, 1111));
+    assert_eq!(units.map(|unit| pools.answer.is_household(unit.persons)), [true, false, true]);
     assert_eq!(Ok(&pools.answer), answer(plan.bytes(), &case).as_ref());
 }
 

@@ -1,6 +1,7 @@
 //! The examples: what they are made of, how they are printed and drawn.
 
 pub mod allotments;
+pub mod camp;
 pub mod choir;
 pub mod club;
 pub mod example;
@@ -27,6 +28,7 @@ pub fn all() -> Result<Vec<Example>, Fault> {
         allotments::example()?,
         choir::example()?,
         rowing::example()?,
+        camp::example()?,
     ])
 }
 

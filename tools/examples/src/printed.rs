@@ -17,6 +17,6 @@ fn rows(answer: &Answer) -> String {
         let (kind, role) = (line.kind.number(), line.role.number());
         let _ = writeln!(text, "{} {kind} {role} {}", line.person, line.block);
     }
-    let _ = writeln!(text, "units {}", answer.units().len());
+    let _ = writeln!(text, "units {}", answer.households().len());
     text
 }

@@ -3,6 +3,7 @@
 pub mod beside;
 pub mod building;
 pub mod claims;
+pub mod households;
 pub mod marking;
 pub mod same;
 pub mod strangers;

@@ -19,5 +19,5 @@ unfoldable pub household : List Line → ℕ → Bool
 household ls b = anyOf (λ l. eqb (l .block) b && makesHousehold (l .kind) (l .role)) ls
 
 -- "The last row of the lister counts the other blocks only": units that are households
-unfoldable pub households : List Line → ℕ
-households ls = countOf (household ls) (units ls)
+unfoldable pub householdCount : List Line → ℕ
+householdCount ls = countOf (household ls) (units ls)

@@ -9,6 +9,7 @@ mod constraints;
 mod events;
 mod facts;
 mod fate;
+mod households;
 mod marks;
 mod officer;
 mod paragraph;
@@ -22,6 +23,7 @@ mod waiting;
 
 pub use events::event;
 pub use fate::fate;
+pub use households::units;
 pub use officer::officer;
 pub use paragraph::{Paragraph, explain, explain_person, paragraph};
 pub use pools::{pools, unplaced};
@@ -45,6 +47,11 @@ impl<'a> Telling<'a> {
     fn of(near: &'a Near, names: &'a Names) -> Telling<'a> {
         Telling { near, names, things: Things { plan: near.plan(), names } }
     }
+}
+
+/// A count and its word: 1 unit, 2 units.
+pub fn counted(count: u64, what: &str) -> String {
+    if count == 1 { format!("1 {what}") } else { format!("{count} {what}s") }
 }
 
 /// A or B, where one of them is the case.

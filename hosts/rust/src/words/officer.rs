@@ -4,11 +4,12 @@ use crate::line::LineKind;
 use crate::names::{Names, sentence};
 use crate::operations::Answer;
 use crate::plan::Plan;
-use crate::words::event;
+use crate::words::{counted, event, households};
 
-/// The counts of an answer, and all of its events below a heading.
+/// The counts of an answer, which units are no households, and all events below a heading.
 pub fn officer(plan: &Plan, answer: &Answer, names: &Names) -> Vec<String> {
     let mut said = vec![summary(answer)];
+    said.extend(households::none(answer, names));
     let heading = match (answer.events.is_empty(), answer.worlds) {
         (true, _) => "There are no events.",
         (false, 1) => "Events:",
@@ -21,13 +22,10 @@ pub fn officer(plan: &Plan, answer: &Answer, names: &Names) -> Vec<String> {
 }
 
 fn summary(answer: &Answer) -> String {
-    let (lines, units) = (&answer.lines, answer.units().len() as u64);
+    let lines = &answer.lines;
     let open = lines.iter().filter(|line| line.kind != LineKind::Decided).count();
+    let (units, households) = (answer.units().len() as u64, answer.households().len() as u64);
     let persons = counted(lines.len() as u64, "person");
-    let (units, worlds) = (counted(units, "unit"), counted(answer.worlds, "world"));
+    let (units, worlds) = (households::units(units, households), counted(answer.worlds, "world"));
     format!("{persons}, {open} of them not decided; {units}; {worlds}.")
-}
-
-fn counted(count: u64, what: &str) -> String {
-    if count == 1 { format!("1 {what}") } else { format!("{count} {what}s") }
 }

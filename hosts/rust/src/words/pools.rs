@@ -2,9 +2,10 @@
 
 use crate::line::{Line, LineKind};
 use crate::names::{Names, sentence};
+use crate::operations::Answer;
 use crate::persons::Persons;
 use crate::pooling::{Pools, Unit};
-use crate::words::either;
+use crate::words::{self, either};
 
 /// A sum, with its unit.
 fn cents(sum: u64) -> String {
@@ -17,13 +18,19 @@ fn those(lines: &[Line], unit: &Unit, so: impl Fn(&Line) -> bool) -> Persons {
     within.fold(Persons::NOBODY, |all, line| all.union(Persons::alone(line.person)))
 }
 
+/// Why there is nothing in the pool, where nobody's amount is.
+fn empty(unit: &Unit, answer: &Answer) -> &'static str {
+    match (answer.is_household(unit.persons), those(&answer.lines, unit, Line::is_pooled)) {
+        (false, _) => ", as everybody in it is excluded; no household",
+        (true, Persons::NOBODY) => ", as nobody in it is pooled",
+        (true, _) => "",
+    }
+}
+
 /// A unit's persons, its pool, and what it means where it is open.
-fn unit(unit: &Unit, lines: &[Line], names: &Names) -> String {
-    let nobody = match those(lines, unit, Line::is_pooled).is_empty() {
-        true => ", as nobody in it is pooled",
-        false => "",
-    };
-    let pool = format!("{}: {}{nobody}.", names.persons(unit.persons), cents(unit.cents));
+fn unit(unit: &Unit, answer: &Answer, names: &Names) -> String {
+    let (lines, empty) = (&answer.lines, empty(unit, answer));
+    let pool = format!("{}: {}{empty}.", names.persons(unit.persons), cents(unit.cents));
     let undecided = those(lines, unit, |line| line.kind == LineKind::Role);
     match unit.open {
         true => sentence(&format!("{pool} {}", open(undecided, names))),
@@ -80,11 +87,13 @@ fn sums(pools: &Pools) -> Vec<String> {
 }
 
 fn all_units(pools: &Pools, names: &Names) -> Vec<String> {
-    let rows = pools.units.iter().map(|one| unit(one, &pools.answer.lines, names));
+    let rows = pools.units.iter().map(|one| unit(one, &pools.answer, names));
+    let households = pools.answer.households().len() as u64;
+    let units = words::units(rows.len() as u64, households);
     let heading = match rows.len() {
         0 => "There are no units.".to_string(),
-        1 => "1 unit, with its pool:".to_string(),
-        count => format!("{count} units, each with its pool:"),
+        1 => format!("{units}, with its pool:"),
+        _ => format!("{units}, each with its pool:"),
     };
     std::iter::once(heading).chain(rows.map(|row| format!("  {row}"))).collect()
 }

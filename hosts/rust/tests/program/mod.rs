@@ -76,8 +76,8 @@ pub fn on(command: &str, folder: &Path, words: &[&str]) -> Said {
 }
 
 /// The examples of the repository.
-pub const EXAMPLES: [&str; 7] =
-    ["01", "allotments", "choir", "club", "kitchen", "nursery", "rowing"];
+pub const EXAMPLES: [&str; 8] =
+    ["01", "allotments", "camp", "choir", "club", "kitchen", "nursery", "rowing"];
 
 pub fn example(name: &str) -> PathBuf {
     Path::new("examples").join(name)

@@ -5,7 +5,7 @@ use Rattle.listing.proofs.list.put_last.Statement.{statement}
 use Rattle.listing.proofs.list.put_last.Tie as tie
 
 returns : tie.Need-returns
-returns c = last-put _ _ _ _ _ _ (c .before .before .before .before .before .before .before .before .before .before .before .before .before .households-of .ensures) (c .before .before .before .before .before .before .before .before .before .before .put-all .ensures) (c .before .before .before .before .before .before .put-number .ensures) (c .before .before .put .ensures)
+returns c = last-put _ _ _ _ _ _ (c .before .before .before .before .before .before .before .before .before .before .before .before .before .household-count .ensures) (c .before .before .before .before .before .before .before .before .before .before .put-all .ensures) (c .before .before .before .before .before .before .put-number .ensures) (c .before .before .put .ensures)
 
 pub put-last-spec : {M : Type 1} → statement M
 put-last-spec =

@@ -79,6 +79,10 @@ impl Inputs {
         files::read_amounts(&self.folder).map_err(trouble)
     }
 
+    pub fn folder(&self) -> &Path {
+        &self.folder
+    }
+
     pub fn path(&self, name: &str) -> PathBuf {
         self.folder.join(name)
     }

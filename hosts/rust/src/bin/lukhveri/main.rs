@@ -13,6 +13,7 @@ mod files;
 mod help;
 mod json;
 mod lines;
+mod listed;
 mod man;
 mod outcome;
 mod output;

@@ -3,6 +3,7 @@
 //! One thread goes from folder to folder, workers answer cases, and the caller's thread prints what they say in the order of the cases. No more
 //! than a window of cases and the file names of one folder are held at a time.
 
+mod counts;
 mod csv;
 mod folder;
 mod names_of_folders;

@@ -3,12 +3,23 @@
 use lukhveri::amounts::{Amounts, AmountsError, TableFault};
 use lukhveri::{Buffers, Persons, Pooled};
 
+use crate::batch::counts::Counts;
 use crate::batch::rows::{CaseFile, Fate, Rows, Style, cell};
 use crate::json::Json;
 
 /// The columns of the table of units.
-pub const COLUMNS: [&str; 9] =
-    ["case", "part", "persons", "names", "cents", "open", "refusal", "record", "reason"];
+pub const COLUMNS: [&str; 10] = [
+    "case",
+    "part",
+    "persons",
+    "names",
+    "cents",
+    "open",
+    "household",
+    "refusal",
+    "record",
+    "reason",
+];
 
 /// Columns between the case and those of a refusal.
 pub const SAID: usize = COLUMNS.len() - 4;
@@ -20,20 +31,34 @@ struct Part {
     cents: u64,
     /// Of a unit alone.
     open: Option<bool>,
+    /// Of a unit alone.
+    household: Option<bool>,
 }
 
 /// The units in order, and what is unplaced.
 fn parts(pooled: &Pooled) -> Vec<Part> {
+    let households: Vec<Persons> = pooled.answered().households().collect();
     let units = pooled.units().map(|unit| Part {
         name: "unit",
         persons: unit.persons,
         cents: unit.cents,
         open: Some(unit.open),
+        household: Some(households.contains(&unit.persons)),
     });
     let others = pooled.lines().filter(|line| !line.is_pooled());
     let others = others.fold(Persons::NOBODY, |all, line| all.union(Persons::alone(line.person)));
-    let unplaced = Part { name: "unplaced", persons: others, cents: pooled.unplaced(), open: None };
+    let (name, cents) = ("unplaced", pooled.unplaced());
+    let unplaced = Part { name, persons: others, cents, open: None, household: None };
     units.chain([unplaced]).collect()
+}
+
+/// What is said of a unit: yes or no; nothing of those who are unplaced.
+fn said_of(unit: Option<bool>) -> &'static str {
+    match unit {
+        Some(true) => "yes",
+        Some(false) => "no",
+        None => "",
+    }
 }
 
 /// The first fault, and how many more there are.
@@ -68,7 +93,7 @@ impl CaseFile<'_> {
     fn pooled(&self, pooled: &Pooled) -> Rows {
         let mut text = Vec::new();
         parts(pooled).iter().for_each(|part| self.part(part, &mut text));
-        Rows::new(text, Fate::Answered { persons: pooled.lines().count() })
+        Rows::new(text, Fate::Answered(Counts::of(&pooled.answered())))
     }
 
     /// What the persons are called; nothing where nobody has a name.
@@ -81,23 +106,22 @@ impl CaseFile<'_> {
     }
 
     fn part(&self, part: &Part, text: &mut Vec<u8>) {
-        let (Part { name, persons, cents, open }, names) = (part, &self.folder.names);
+        let (Part { name, persons, cents, .. }, names) = (part, &self.folder.names);
+        let (open, household) = (part.open, part.household);
         if self.style == Style::Json {
             let object = self.object().and(Json::object([
                 ("part", (*name).into()),
                 ("persons", Json::list(*persons)),
                 ("names", Json::list(persons.iter().map(|one| names.find("person", one)))),
                 ("cents", (*cents).into()),
-                ("open", (*open).into()),
+                ("open", open.into()),
+                ("household", household.into()),
             ]));
             return text.extend(object.line().into_bytes());
         }
         let (numbers, cents) = (cell(*persons), cents.to_string());
-        let open = match open {
-            Some(true) => "yes",
-            Some(false) => "no",
-            None => "",
-        };
-        self.row(&[name, &numbers, &self.called(*persons), &cents, open], ["", "", ""], text);
+        let (open, household) = (said_of(open), said_of(household));
+        let names = self.called(*persons);
+        self.row(&[name, &numbers, &names, &cents, open, household], ["", "", ""], text);
     }
 }

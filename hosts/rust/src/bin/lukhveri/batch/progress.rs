@@ -5,6 +5,9 @@ use std::io::{self, IsTerminal, Write};
 use std::path::PathBuf;
 use std::time::{Duration, Instant};
 
+use lukhveri::words::{self, counted};
+
+use crate::batch::counts::Counts;
 use crate::batch::folder::{Common, Contents};
 use crate::batch::names_of_folders::is_input;
 use crate::batch::rows::Fate;
@@ -21,7 +24,7 @@ pub struct Progress {
     answered: u64,
     refused: u64,
     unreadable: u64,
-    persons: u64,
+    counts: Counts,
     start: Instant,
     /// When the bar was drawn last; none where nobody watches.
     drawn: Option<Instant>,
@@ -47,15 +50,15 @@ impl Progress {
         let drawn = watched.then_some(start);
         // Nobody else needs the count, and folders are read for it.
         let all = drawn.and_then(|_| count(words, common));
-        let (answered, refused, unreadable, persons) = (0, 0, 0, 0);
-        Progress { answered, refused, unreadable, persons, start, drawn, all, visible: false }
+        let (answered, refused, unreadable, counts) = (0, 0, 0, Counts::default());
+        Progress { answered, refused, unreadable, counts, start, drawn, all, visible: false }
     }
 
     pub fn add(&mut self, fate: Fate) {
         match fate {
-            Fate::Answered { persons } => {
+            Fate::Answered(counts) => {
                 self.answered += 1;
-                self.persons += persons as u64;
+                self.counts.add(counts);
             }
             Fate::Refused => self.refused += 1,
             Fate::Unreadable => self.unreadable += 1,
@@ -115,16 +118,15 @@ impl Progress {
 
 impl fmt::Display for Progress {
     fn fmt(&self, to: &mut fmt::Formatter) -> fmt::Result {
-        let cases = if self.done() == 1 { "case" } else { "cases" };
-        let persons = if self.persons == 1 { "person" } else { "persons" };
+        let Counts { persons, units, households } = self.counts;
+        let (cases, persons) = (counted(self.done(), "case"), counted(persons, "person"));
         write!(
             to,
-            "{} {cases}: {} answered, {} refused, {} unreadable; {} {persons}; {:.3} s, {:.0} cases a second",
-            self.done(),
+            "{cases}: {} answered, {} refused, {} unreadable; {persons}; {}; {:.3} s, {:.0} cases a second",
             self.answered,
             self.refused,
             self.unreadable,
-            self.persons,
+            words::units(units, households),
             self.start.elapsed().as_secs_f64(),
             self.rate()
         )

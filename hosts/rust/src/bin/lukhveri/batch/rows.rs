@@ -5,6 +5,7 @@ use std::path::PathBuf;
 
 use lukhveri::{Answered, Buffers, Line, Refusal, files};
 
+use crate::batch::counts::Counts;
 use crate::batch::csv::row;
 use crate::batch::folder::Folder;
 use crate::batch::pools;
@@ -51,7 +52,7 @@ impl Style {
 /// What became of a case.
 #[derive(Clone, Copy, Debug, PartialEq, Eq)]
 pub enum Fate {
-    Answered { persons: usize },
+    Answered(Counts),
     Refused,
     Unreadable,
 }
@@ -106,12 +107,9 @@ impl CaseFile<'_> {
     }
 
     fn answered(&self, answered: &Answered) -> Rows {
-        let (mut text, mut persons) = (Vec::new(), 0);
-        for line in answered.lines() {
-            self.person(&line, &mut text);
-            persons += 1;
-        }
-        Rows::new(text, Fate::Answered { persons })
+        let mut text = Vec::new();
+        answered.lines().for_each(|line| self.person(&line, &mut text));
+        Rows::new(text, Fate::Answered(Counts::of(answered)))
     }
 
     pub fn object(&self) -> Json {

@@ -36,6 +36,7 @@ impl Pooled<'_> {
                 ("persons", Json::list(unit.persons)),
                 ("cents", unit.cents.into()),
                 ("open", unit.open.into()),
+                ("household", self.pools.answer.is_household(unit.persons).into()),
             ])
         });
         let lines = self.pools.answer.lines.iter().zip(&self.amounts).map(|(line, amount)| {

@@ -1,4 +1,4 @@
--- `households::households_of`: with the blocks of the lines left joined, the units of those that make households are found.
+-- `households::household_count`: with the blocks of the lines left joined, the units of those that make households are found.
 use denote.Ref.{now}
 use mathlib.Core.List.{[], List, map}
 use mathlib.Core.Path.{_≡_, sym, ap, _∙_}
@@ -10,8 +10,8 @@ use Rattle.report.specs.paper.LineAt.{linesFrom}
 use Rattle.report.specs.paper.Units.{unitsWith, units}
 use Rattle.billing.proofs.UnitLaws.{units-count}
 use Rattle.billing.proofs.HouseholdLaws.{making, makingUnits, households-made, makes-same, makingFrom, making-next, making-end}
-use Rattle.billing.proofs.households.households_of.Statement.{statement}
-use Rattle.billing.proofs.households.households_of.Tie as tie
+use Rattle.billing.proofs.households.household_count.Statement.{statement}
+use Rattle.billing.proofs.households.household_count.Tie as tie
 
 abbrev Inv-loop : tie.InvT-loop
 Inv-loop lines n found₀ k₀ found k =
@@ -58,8 +58,8 @@ returns c =
       long = l .inv .2;
     }) ∙ households-made _
 
-pub households-of-spec : {M : Type 1} → statement M
-households-of-spec =
+pub household-count-spec : {M : Type 1} → statement M
+household-count-spec =
     tie.close
     (tie.spec
     Inv-loop
