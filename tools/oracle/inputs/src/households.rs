@@ -1,5 +1,5 @@
-//! Inputs for counting households: blocks of a few persons, now and then of many, some or all of whom are excluded or barred, for certain or
-//! perhaps.
+//! Inputs for counting households: blocks of a few persons, now and then of one or of many, nobody, some or all of whom are excluded or barred, for
+//! certain or perhaps.
 
 use crate::build;
 use crate::generate::{Input, choose_persons};
@@ -9,24 +9,38 @@ use crate::wire::{Boolean, Case, Node, Plan};
 /// Records of one kind that a plan may have; of edges twice as many.
 const MOST: usize = 32;
 
-/// Few persons in most inputs, up to all 64 in some.
+/// In a hundred: who is excluded, of the blocks of an input.
+const CHANCES: [&[usize]; 6] = [&[0], &[100], &MIXED, &MIXED, &MIXED, &MIXED];
+const MIXED: [usize; 4] = [0, 60, 60, 100];
+
 pub fn input(random: &mut Random) -> Input {
-    let most = if random.percent(95) { 8 } else { 64 };
-    let mut persons = choose_persons(random, most);
+    let mut persons = persons(random);
     random.shuffle(&mut persons);
     let mut plan = plan(random);
     let case = case(random, &persons, plan.facts.len());
+    let largest = random.pick(&[1, 4, 4, 4, 4, 64]);
+    let chances = random.pick(&CHANCES);
     let mut rest = &persons[..];
     while !rest.is_empty() {
-        let most = if random.percent(95) { rest.len().min(4) } else { rest.len() };
-        let (block, others) = rest.split_at(random.between(1, most));
-        add_block(random, &mut plan, block);
+        let size = if largest == 64 { rest.len() } else { random.between(1, largest) };
+        let (block, others) = rest.split_at(size.min(rest.len()));
+        let excluded = random.pick(chances);
+        add_block(random, &mut plan, block, excluded);
         rest = others;
     }
     plan.edges.truncate(2 * MOST);
     plan.bars.truncate(MOST);
     plan.statuses.truncate(MOST);
     Input { plan, case }
+}
+
+/// Few in most inputs, all in some.
+fn persons(random: &mut Random) -> Vec<u8> {
+    match random.below(25) {
+        0 => (0..64).collect(),
+        1 => choose_persons(random, 64),
+        _ => choose_persons(random, 8),
+    }
 }
 
 /// Node 0 is true, node 1 false, the others are facts and their contraries.
@@ -44,13 +58,12 @@ fn condition(random: &mut Random, plan: &Plan) -> u8 {
     if random.percent(70) { 0 } else { random.byte(plan.nodes.len()) }
 }
 
-/// Joined one to the next, if their edges hold; nobody excluded, some or all; nobody barred, one or all.
-fn add_block(random: &mut Random, plan: &mut Plan, block: &[u8]) {
+/// Joined one to the next, if their edges hold; so many in a hundred excluded; nobody barred, one or all.
+fn add_block(random: &mut Random, plan: &mut Plan, block: &[u8], excluded: usize) {
     for pair in block.windows(2) {
         let condition = if random.percent(90) { 0 } else { condition(random, plan) };
         plan.edges.push(build::base(pair[0], pair[1], condition));
     }
-    let excluded = random.pick(&[0, 60, 60, 100]);
     for &person in block {
         if random.percent(excluded) {
             plan.statuses.push(build::status(person, condition(random, plan)));
