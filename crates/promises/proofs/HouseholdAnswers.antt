@@ -17,7 +17,7 @@ use Rattle.billing.specs.paper.Pooling.{PoolOutcome, pooledOver, pool}
 use Rattle.billing.specs.paper.Households.{household, householdCount}
 use Rattle.promises.specs.Partitioned.{Partitioned, InAll}
 use Rattle.promises.specs.Pooled.{unitAt}
-use Rattle.promises.specs.Households.{IsUnit, DrawsNoService, EverybodyExcluded}
+use Rattle.promises.specs.NoHousehold.{IsUnit, DrawsNoService, EverybodyExcluded}
 use Rattle.promises.proofs.Blocks.{answered-partition}
 use Rattle.promises.proofs.HouseholdLines.{unit-draws, unit-excluded}
 use Rattle.promises.proofs.IdleUnits.{idle-unit}

@@ -15,7 +15,7 @@ use Rattle.report.specs.paper.LineAt.{linesFrom}
 use Rattle.billing.specs.paper.Households.{makesHousehold, household}
 use Rattle.billing.proofs.LinePlaces.{any-line, line-any}
 use Rattle.promises.specs.Partitioned.{personAt, kindAt, roleAt, blockAt, Partitioned, InAll}
-use Rattle.promises.specs.Households.{IsUnit, DrawsNoService, EverybodyExcluded}
+use Rattle.promises.specs.NoHousehold.{IsUnit, DrawsNoService, EverybodyExcluded}
 use Rattle.promises.proofs.PartedLines.{once, block-persons}
 
 -- who makes a block a household, by kind and role

@@ -13,7 +13,7 @@ use Rattle.billing.specs.paper.Pools.{UnitPool}
 use Rattle.billing.proofs.LinePlaces.{number-all}
 use Rattle.promises.specs.Partitioned.{personAt, kindAt, roleAt}
 use Rattle.promises.specs.Pooled.{unitAt, pooledAt, Pooled}
-use Rattle.promises.specs.Households.{DrawsNoService}
+use Rattle.promises.specs.NoHousehold.{DrawsNoService}
 
 same-unit : (u : UnitPool) (block cents : ℕ) (marked : Bool) → u .block ≡ block → u .cents ≡ cents → u .marked ≡ marked
     → u ≡ record { block = block; cents = cents; marked = marked }

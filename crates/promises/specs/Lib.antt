@@ -4,4 +4,4 @@ pub mod OpenNamed
 pub mod KnownBy
 pub mod Weaker
 pub mod Pooled
-pub mod Households
+pub mod NoHousehold

@@ -1,4 +1,4 @@
--- What is a household, as statements about the bytes of an answered case's lines. Document 02, Ticket 3.
+-- What it is to be no household, as statements about the bytes of an answered case's lines. Document 02, Ticket 3.
 use mathlib.Core.Path.{_≡_}
 use mathlib.Core.Bool.{true}
 use mathlib.Core.List.{List}
