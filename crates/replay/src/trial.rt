@@ -102,8 +102,30 @@ fn pooled_so(found: Pools, unplaced: u64, expected: &[u8]) -> bool {
     holds(&page, expected, 0)
 }
 
-// Whether the operation, on these buffers, answers the numbers and the pools of the line and leaves its bytes in them; of a list, whether it is the line's.
+// Whether the operation, on these buffers, answers the numbers and the pools of the line and leaves its bytes in them.
 fn answers(
+    vector: Vector,
+    plan: &[u8],
+    case: &[u8],
+    line_bytes: &[u8],
+    event_bytes: &[u8],
+    amounts: &[u8],
+    pools: &[u8],
+    lines: &mut [u8],
+    events: &mut [u8],
+) -> bool
+    requires { ⌜ length (now amounts) ≤ 1024 ⌝ }
+{
+    let found = operate(vector.op, vector.world, plan, case, amounts, lines, events);
+    let answer = found.answer;
+    same(Outcome::of(answer), vector.expected)
+        && pooled_so(found.pools, vector.unplaced, pools)
+        && holds(lines, line_bytes, 0)
+        && holds(events, event_bytes, 0)
+}
+
+// The same on buffers full of dirt. Of a list the text is asked, which stands in the place of the lines.
+fn answers_over_dirt(
     vector: Vector,
     plan: &[u8],
     case: &[u8],
@@ -122,12 +144,17 @@ fn answers(
         return event_bytes.len() == 0
             && lists(vector.expected, plan, case, line_bytes, lines, events);
     }
-    let found = operate(vector.op, vector.world, plan, case, amounts, lines, events);
-    let answer = found.answer;
-    same(Outcome::of(answer), vector.expected)
-        && pooled_so(found.pools, vector.unplaced, pools)
-        && holds(lines, line_bytes, 0)
-        && holds(events, event_bytes, 0)
+    answers(
+        vector,
+        plan,
+        case,
+        line_bytes,
+        event_bytes,
+        amounts,
+        pools,
+        lines,
+        events,
+    )
 }
 
 // The buffers are lent with just the lengths of the line; a line that wants longer ones than there are differs, and one with more amounts than there is
@@ -154,7 +181,7 @@ fn lend(
     if amounts.len() > 1024 || amounts.len() % 4 != 0 {
         return false;
     }
-    answers(
+    answers_over_dirt(
         vector,
         plan,
         case,
