@@ -116,28 +116,6 @@ fn answers(
 ) -> bool
     requires { ⌜ length (now amounts) ≤ 1024 ⌝ }
 {
-    let found = operate(vector.op, vector.world, plan, case, amounts, lines, events);
-    let answer = found.answer;
-    same(Outcome::of(answer), vector.expected)
-        && pooled_so(found.pools, vector.unplaced, pools)
-        && holds(lines, line_bytes, 0)
-        && holds(events, event_bytes, 0)
-}
-
-// The same on buffers full of dirt. Of a list the text is asked, which stands in the place of the lines.
-fn answers_over_dirt(
-    vector: Vector,
-    plan: &[u8],
-    case: &[u8],
-    line_bytes: &[u8],
-    event_bytes: &[u8],
-    amounts: &[u8],
-    pools: &[u8],
-    lines: &mut [u8],
-    events: &mut [u8],
-) -> bool
-    requires { ⌜ length (now amounts) ≤ 1024 ⌝ }
-{
     soil(lines);
     soil(events);
     let found = operate(vector.op, vector.world, plan, case, amounts, lines, events);
@@ -183,7 +161,7 @@ fn lend(
     if amounts.len() > 1024 || amounts.len() % 4 != 0 {
         return false;
     }
-    answers_over_dirt(
+    answers(
         vector,
         plan,
         case,
