@@ -24,14 +24,18 @@ impl Lister {
         Ok(Lister { folder })
     }
 
-    /// What it prints of these files.
+    /// What it prints of these files, which go again afterwards: a file system may wait for its disk where a file is written over.
     pub fn run(&self, plan: &[u8], case: &[u8]) -> io::Result<Output> {
-        fs::write(self.folder.join("plan.bin"), plan)?;
-        fs::write(self.folder.join("case.bin"), case)?;
-        Command::new(PROGRAM)
+        let files = ["plan.bin", "case.bin"].map(|name| self.folder.join(name));
+        for (file, bytes) in files.iter().zip([plan, case]) {
+            fs::write(file, bytes)?;
+        }
+        let printed = Command::new(PROGRAM)
             .current_dir(&self.folder)
             .stdin(Stdio::null())
-            .output()
+            .output();
+        files.iter().try_for_each(fs::remove_file)?;
+        printed
     }
 }
 
