@@ -84,6 +84,18 @@ impl<'a> Asked<'a> {
         Asked { world, ..self }
     }
 
+    /// An answer; all its worlds, or one of many; one past the last.
+    pub fn and_worlds(self, random: &mut Random) -> Vec<Asked<'a>> {
+        let worlds = self.expected().worlds;
+        let mut all = vec![self];
+        match worlds {
+            0..=64 => all.extend((0..worlds).map(|number| self.show(number))),
+            _ => all.push(self.show(random.below(worlds as usize) as u64)),
+        }
+        all.push(self.show(worlds));
+        all
+    }
+
     fn model(self, lines: &mut [u8], events: &mut [u8]) -> Outcome {
         match self.world {
             None => model::answer(self.plan, self.case, lines, events),
@@ -152,6 +164,12 @@ impl<'a> Asked<'a> {
         self.within(lines, events, random, tally)
     }
 
+    /// Compares both in buffers that just suffice.
+    pub fn compare_fitting(self, random: &mut Random, tally: &mut Tally) -> Result<(), Difference> {
+        let (lines, events) = self.needed();
+        self.within(lines, events, random, tally)
+    }
+
     /// Compares both in buffers of all lengths that matter.
     pub fn compare_all(self, random: &mut Random) -> Result<(), Difference> {
         let needed = self.needed();
@@ -162,6 +180,15 @@ impl<'a> Asked<'a> {
         }
         Ok(())
     }
+}
+
+/// The answer and its worlds in buffers of all lengths, so that a smaller input shows what a larger one did.
+pub fn compare_all(plan: &[u8], case: &[u8]) -> Result<(), Difference> {
+    let random = &mut Random::new(1);
+    let asked = Asked::answer(plan, case).and_worlds(random);
+    asked
+        .into_iter()
+        .try_for_each(|asked| asked.compare_all(random))
 }
 
 /// No byte, one too few, just enough, more.
@@ -176,18 +203,47 @@ pub fn any_length(needed: usize, random: &mut Random) -> usize {
 }
 
 /// What was compared.
-#[derive(Default)]
 pub struct Tally {
     answers: u64,
     shown: u64,
     refusals: [u64; 15],
-    /// By kind, 0 to 6.
-    lines: [u64; 7],
+    /// By person, then kind, 0 to 6.
+    lines: [[u64; 7]; 64],
     /// By kind, 1 to 9: there is no kind 0.
     events: [u64; 10],
 }
 
+impl Default for Tally {
+    fn default() -> Tally {
+        Tally {
+            answers: 0,
+            shown: 0,
+            refusals: [0; 15],
+            lines: [[0; 7]; 64],
+            events: [0; 10],
+        }
+    }
+}
+
 impl Tally {
+    pub fn calls(&self) -> u64 {
+        self.answers + self.shown
+    }
+
+    pub fn refused(&self) -> u64 {
+        self.refusals[1..].iter().sum()
+    }
+
+    /// A person's lines, by kind.
+    pub fn lines_of(&self, person: u8) -> [u64; 7] {
+        self.lines[person as usize]
+    }
+
+    /// Everybody's lines, by kind.
+    fn lines(&self) -> [u64; 7] {
+        std::array::from_fn(|kind| self.lines.iter().map(|kinds| kinds[kind]).sum())
+    }
+
     fn add(&mut self, world: Option<u64>, outcome: Outcome, lines: &[u8], events: &[u8]) {
         match world {
             None => self.answers += 1,
@@ -195,7 +251,7 @@ impl Tally {
         }
         self.refusals[outcome.refusal as usize] += 1;
         for line in lines.chunks(LINE).take(outcome.lines as usize) {
-            self.lines[line[1] as usize] += 1;
+            self.lines[line[0] as usize][line[1] as usize] += 1;
         }
         for event in events.chunks(EVENT).take(outcome.events as usize) {
             self.events[event[0] as usize] += 1;
@@ -208,11 +264,11 @@ impl fmt::Display for Tally {
         write!(
             to,
             "{} calls alike, {} answers and {} worlds shown; by refusal number {:?}, lines by kind {:?}, events by kind {:?}",
-            self.answers + self.shown,
+            self.calls(),
             self.answers,
             self.shown,
             self.refusals,
-            self.lines,
+            self.lines(),
             self.events
         )
     }

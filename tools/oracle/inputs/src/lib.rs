@@ -11,6 +11,7 @@ pub mod generate;
 pub mod households;
 pub mod list_vectors;
 pub mod mutate;
+pub mod persons;
 pub mod pool_vectors;
 pub mod random;
 pub mod samples;

@@ -7,29 +7,7 @@ use inputs::samples::{self, Sample};
 use inputs::smallest::smallest;
 use inputs::vectors::to_hex;
 use judge::trial::count_and_seed;
-use port::alike::{Asked, Difference, Tally};
-
-/// The answer; all its worlds, or one of many; one past the last.
-fn all<'a>(plan: &'a [u8], case: &'a [u8], random: &mut Random) -> Vec<Asked<'a>> {
-    let answer = Asked::answer(plan, case);
-    let worlds = answer.expected().worlds;
-    let mut all = vec![answer];
-    match worlds {
-        0..=64 => all.extend((0..worlds).map(|number| answer.show(number))),
-        _ => all.push(answer.show(random.below(worlds as usize) as u64)),
-    }
-    all.push(answer.show(worlds));
-    all
-}
-
-/// In buffers of all lengths, so that a smaller input shows what a larger one did.
-fn compare_all(plan: &[u8], case: &[u8]) -> Result<(), Difference> {
-    let random = &mut Random::new(1);
-    let asked = all(plan, case, random);
-    asked
-        .into_iter()
-        .try_for_each(|asked| asked.compare_all(random))
-}
+use port::alike::{Asked, Difference, Tally, compare_all};
 
 /// The smallest input found that differs, or the one given if only its own buffers show it.
 fn report(sample: Sample, first: Difference) {
@@ -48,7 +26,7 @@ fn main() {
     for number in 0..count {
         let random = &mut Random::stream(seed, number);
         let sample = samples::answerable(random);
-        let asked = all(&sample.plan, &sample.case, random);
+        let asked = Asked::answer(&sample.plan, &sample.case).and_worlds(random);
         let alike = asked
             .into_iter()
             .try_for_each(|asked| asked.compare(random, &mut tally));
