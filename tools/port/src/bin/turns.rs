@@ -27,6 +27,19 @@ type Answer = unsafe extern "C" fn(
     *mut Told,
 ) -> u8;
 
+type Show = unsafe extern "C" fn(
+    *const u8,
+    usize,
+    *const u8,
+    usize,
+    u64,
+    *mut u8,
+    usize,
+    *mut u8,
+    usize,
+    *mut Told,
+) -> u8;
+
 unsafe extern "C" {
     fn dlopen(file: *const c_char, how: c_int) -> *mut c_void;
     fn dlsym(library: *mut c_void, name: *const c_char) -> *mut c_void;
@@ -35,6 +48,7 @@ unsafe extern "C" {
 struct Library {
     check: Check,
     answer: Answer,
+    show: Show,
 }
 
 impl Library {
@@ -54,11 +68,12 @@ impl Library {
             }
             found
         };
-        // The two names stand for these types in every such library: hosts/lukhveri.h.
+        // The three names stand for these types in every such library: hosts/lukhveri.h.
         unsafe {
             Library {
                 check: std::mem::transmute::<*mut c_void, Check>(symbol("lukhveri_check")),
                 answer: std::mem::transmute::<*mut c_void, Answer>(symbol("lukhveri_answer")),
+                show: std::mem::transmute::<*mut c_void, Show>(symbol("lukhveri_show")),
             }
         }
     }
@@ -88,16 +103,55 @@ impl Library {
         };
         told
     }
+
+    fn show(
+        &self,
+        plan: &[u8],
+        case: &[u8],
+        world: u64,
+        lines: &mut [u8],
+        events: &mut [u8],
+    ) -> Told {
+        let mut told = [u64::MAX; 7];
+        // As for an answer.
+        unsafe {
+            (self.show)(
+                plan.as_ptr(),
+                plan.len(),
+                case.as_ptr(),
+                case.len(),
+                world,
+                lines.as_mut_ptr(),
+                lines.len(),
+                events.as_mut_ptr(),
+                events.len(),
+                &mut told,
+            )
+        };
+        told
+    }
 }
 
-/// An input, the buffers lent for it, and the times of both libraries.
+/// An input, the world that is shown of it, the buffers lent for it, and the times of both libraries.
 struct Timed {
     plan: Vec<u8>,
     case: Vec<u8>,
+    world: u64,
     lines: Vec<u8>,
     events: Vec<u8>,
     answers: [Clock; 2],
     checks: [Clock; 2],
+    shown: [Clock; 2],
+}
+
+/// All that a library hands back of an input.
+#[derive(PartialEq)]
+struct Handed {
+    checked: Told,
+    answered: Told,
+    shown: Told,
+    lines: [Vec<u8>; 2],
+    events: [Vec<u8>; 2],
 }
 
 impl Timed {
@@ -110,18 +164,31 @@ impl Timed {
         Timed {
             plan: input.plan,
             case: input.case,
+            world: input.known.worlds / 2,
             lines: vec![0; lines],
             events: vec![0; events],
             answers: [Clock::new(), Clock::new()],
             checks: [Clock::new(), Clock::new()],
+            shown: [Clock::new(), Clock::new()],
         }
     }
 
-    /// All that a library hands back.
-    fn handed(&self, library: &Library) -> (Told, Told, Vec<u8>, Vec<u8>) {
-        let (mut lines, mut events) = (vec![0xa5; self.lines.len()], vec![0xa5; self.events.len()]);
-        let answered = library.answer(&self.plan, &self.case, &mut lines, &mut events);
-        (library.check(&self.plan), answered, lines, events)
+    fn handed(&self, library: &Library) -> Handed {
+        let dirty = |length| [vec![0xa5; length], vec![0xa5; length]];
+        let (mut lines, mut events) = (dirty(self.lines.len()), dirty(self.events.len()));
+        Handed {
+            checked: library.check(&self.plan),
+            answered: library.answer(&self.plan, &self.case, &mut lines[0], &mut events[0]),
+            shown: library.show(
+                &self.plan,
+                &self.case,
+                self.world,
+                &mut lines[1],
+                &mut events[1],
+            ),
+            lines,
+            events,
+        }
     }
 
     fn round(&mut self, libraries: &[Library; 2], first: usize) {
@@ -134,6 +201,9 @@ impl Timed {
             });
             self.checks[side].sample(|| {
                 black_box(library.check(plan));
+            });
+            self.shown[side].sample(|| {
+                black_box(library.show(plan, case, self.world, lines, events));
             });
         }
     }
@@ -162,11 +232,12 @@ fn row(class: &Class, rounds: u32, libraries: &[Library; 2]) {
     }
     let answers = || inputs.iter().map(|input| ratio(&input.answers));
     println!(
-        "{:<10} {:>6} {:>8.3} {:>8.3} {:>8.3} {:>8.3} {:>11.0} {:>11.0}",
+        "{:<10} {:>6} {:>8.3} {:>8.3} {:>8.3} {:>8.3} {:>8.3} {:>11.0} {:>11.0}",
         class.name,
         inputs.len(),
         median(answers()),
         median(inputs.iter().map(|input| ratio(&input.checks))),
+        median(inputs.iter().map(|input| ratio(&input.shown))),
         answers().fold(f64::INFINITY, f64::min),
         answers().fold(0.0, f64::max),
         median(inputs.iter().map(|input| input.answers[0].best)),
@@ -185,8 +256,8 @@ fn main() {
     let libraries = [Library::open(&old), Library::open(&new)];
     println!("new over old, best of {} rounds", settings.rounds);
     println!(
-        "{:<10} {:>6} {:>8} {:>8} {:>8} {:>8} {:>11} {:>11}",
-        "class", "inputs", "answer", "check", "lowest", "highest", "old ns", "new ns"
+        "{:<10} {:>6} {:>8} {:>8} {:>8} {:>8} {:>8} {:>11} {:>11}",
+        "class", "inputs", "answer", "check", "show", "lowest", "highest", "old ns", "new ns"
     );
     for class in settings.classes {
         row(class, settings.rounds, &libraries);
