@@ -1,8 +1,8 @@
 // A person's circle: that person and all who are reached by what joins persons.
 use crate::groups::Groups;
-use sets::bit;
 use sets::close;
 use sets::numbers::upto;
+use sets::persons::person_mask;
 ghost use mathlib.Core.Path.{_≡_};
 ghost use mathlib.Core.List.{_++_};
 ghost use Prim.Native.Nat.{_+_, _<_, _≤_};
@@ -60,5 +60,5 @@ pub fn circle_of(joins: Joins, p: u8) -> u64
 {
     let sets = joins.sets;
     let n = upto(joins.count, 224);
-    close(&sets[..n], bit(p))
+    close(&sets[..n], person_mask(p))
 }

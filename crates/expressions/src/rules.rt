@@ -8,9 +8,9 @@ use records::plan::Edge;
 use records::plan::Edges;
 use records::plan::Plan;
 use records::plan::Statuses;
-use sets::bit;
 use sets::numbers::upto;
 use sets::numbers::wide;
+use sets::persons::person_mask;
 use sets::union;
 use sets::whole::whole_176_words;
 ghost use mathlib.Core.Path.{_≡_};
@@ -40,7 +40,7 @@ pub fn ends(e: Edge) -> u64
     requires { ⌜ EndsFit (edgeOf e) ⌝ }
     ensures { λ r. ⌜ r ≡ endsOf (edgeOf e) ⌝ }
 {
-    union(bit(e.left), bit(e.right))
+    union(person_mask(e.left), person_mask(e.right))
 }
 
 // The members of an attachment, with its anchor.
@@ -48,7 +48,7 @@ pub fn with_anchor(a: Attachment) -> u64
     requires { ⌜ AnchorFits (attachmentOf a) ⌝ }
     ensures { λ r. ⌜ r ≡ withAnchorOf (attachmentOf a) ⌝ }
 {
-    union(a.members, bit(a.anchor))
+    union(a.members, person_mask(a.anchor))
 }
 
 // The facts of an edge's condition and defeaters.
@@ -168,7 +168,7 @@ fn add_statuses(
         let x = statuses.items[i];
         let k = wide(x.condition);
         let used = nodes[k];
-        let held = bit(x.person);
+        let held = person_mask(x.person);
         push(uses, persons, at + i, used, held);
         i = i + 1;
     }

@@ -4,10 +4,10 @@ use records::case::Constraints;
 use records::plan::Fact;
 use records::plan::Facts;
 use records::plan::Numbers;
-use sets::bit;
 use sets::contains;
 use sets::numbers::upto;
 use sets::numbers::wide;
+use sets::persons::person_mask;
 use sets::union;
 ghost use mathlib.Core.Path.{_≡_};
 ghost use lib.ListN.{length, take};
@@ -69,7 +69,7 @@ fn named_persons(fact: Fact) -> u64
     let mut m: u64 = 0;
     let mut i: usize = 0;
     while i < n {
-        m = union(m, bit(fact.tuple[i]));
+        m = union(m, person_mask(fact.tuple[i]));
         i = i + 1;
     }
     m

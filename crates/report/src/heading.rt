@@ -3,8 +3,8 @@ use crate::line::LINE;
 use expressions::groups::Groups;
 use records::case::CaseHeading;
 use records::plan::Statuses;
-use sets::bit;
 use sets::numbers::upto;
+use sets::persons::person_mask;
 use sets::size;
 use sets::subset;
 ghost use mathlib.Core.Path.{_≡_};
@@ -39,7 +39,7 @@ fn status_persons(statuses: Statuses) -> u64
     let mut i: usize = 0;
     while i < n {
         let s = statuses.items[i];
-        all = all | bit(s.person);
+        all = all | person_mask(s.person);
         i = i + 1;
     }
     all

@@ -12,9 +12,9 @@ use crate::sums::STANDING;
 use crate::sums::Sums;
 use crate::sums::TALLY;
 use sets::bit;
-use sets::contains;
 use sets::low;
 use sets::others;
+use sets::persons::has_person;
 ghost use mathlib.Core.Path.{_≡_};
 ghost use Prim.Native.Nat.{_*_, _≤_, _<_, _%_};
 ghost use lib.ListN.{length};
@@ -30,7 +30,7 @@ fn unresolved_for_person(sets: &[u64], p: u8) -> u64
     let mut found: u64 = 0;
     let mut i: usize = 0;
     while i < sets.len() {
-        if contains(sets[i], p) {
+        if has_person(sets[i], p) {
             found = found | bit(i as u8);
         }
         i = i + 1;
@@ -50,8 +50,8 @@ fn line_of(sums: &Sums, p: usize, facts: u64, decisions: u16) -> Line
     ensures { λ r. ⌜ LineBy (now (sums .entry)) p facts decisions r ⌝ }
 {
     let person = p as u8;
-    if contains(sums[TALLY][STANDING], person) {
-        if contains(sums[TALLY][DIFFERING], person) {
+    if has_person(sums[TALLY][STANDING], person) {
+        if has_person(sums[TALLY][DIFFERING], person) {
             return Line {
                 person: person,
                 kind: 2,
@@ -72,7 +72,7 @@ fn line_of(sums: &Sums, p: usize, facts: u64, decisions: u16) -> Line
             citations: sums[CITATIONS][p],
         };
     }
-    let marked = contains(sums[TALLY][MARKED], person);
+    let marked = has_person(sums[TALLY][MARKED], person);
     Line {
         person: person,
         kind: if marked { low_byte(sums[KINDS][p]) } else { 1 },

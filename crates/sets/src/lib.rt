@@ -1,5 +1,6 @@
-// Sets of persons as masks: bit p stands for person p.
+// Sets of persons as masks: bit p stands for person p. Sets of other numbers (facts, rules, citations, evidence, worlds) are masks too.
 pub mod numbers;
+pub mod persons;
 pub mod whole;
 
 ghost use mathlib.Core.Path.{_≡_};
@@ -7,7 +8,7 @@ ghost use mathlib.Core.List.{_∷_};
 ghost use Prim.Native.Nat.{_<_};
 ghost use Rattle.sets.specs.paper.Sets.{has, one, union, minus, subset, size, lowest, members, risingLess, pass, closeOf};
 
-// A person's mask.
+// The mask of a number that is no person's; a person's is in `persons`.
 pub fn bit(p: u8) -> u64
     requires { ⌜ p < 64 ⌝ }
     ensures { λ r. ⌜ r ≡ one p ⌝ }
@@ -15,7 +16,7 @@ pub fn bit(p: u8) -> u64
     1u64 << p
 }
 
-// Nobody from 64 on is in a mask.
+// Whether a number that is no person's is in a mask; none from 64 on is. Of persons `has_person` tells.
 pub fn contains(m: u64, p: u8) -> bool
     ensures { λ r. ⌜ r ≡ has m p ⌝ }
 {

@@ -10,8 +10,8 @@ use lib.ListN.{length, getD, set, take}
 use lib.Seq.{getD-set-same, getD-set-other, take-suc, take-all}
 use lib.Dec.{eqb}
 use borrow.Author.Tests.{eqb-true, eqb-false}
-use Rattle.sets.specs.paper.Sets.{has, one, union, minus, subset, lowest, members, closeOf, allOf, unionOf}
-use Rattle.sets.proofs.SetLaws.{Within, has-none, has-high, has-not, antisym, along, thru, in-minus, of-minus, subset-true, within-subset, and-parts, lt-or-le}
+use Rattle.sets.specs.paper.Sets.{has, one, union, meet, minus, only, subset, lowest, members, closeOf, allOf, unionOf}
+use Rattle.sets.proofs.SetLaws.{Within, has-none, has-one, has-meet, has-high, has-not, ext, antisym, along, thru, in-minus, of-minus, subset-true, within-subset, and-parts, lt-or-le}
 use Rattle.sets.proofs.Closing.{Takes, Closed, close-closed, close-within, close-least, close-mono, close-same, close-sym, close-union, closed-minus, in-one, one-within}
 use Rattle.records.proofs.ListLaws.{all-append}
 use Rattle.worlds.specs.code.Over.{entry, Marked}
@@ -208,34 +208,37 @@ joins-whole s whole before after b w m = record {
 
 -- ---- each person alone
 
--- a turn of the loop, which is at t and leaves r of m
-pub alone-next : (m r t v : ℕ) (table : List ℕ) → ((p : ℕ) → has m p ≡ (eqb t p || has r p)) → t < length table → v ≡ one t
-    → (p : ℕ) → cond (has r p) (one p) (entry (set table t v) p) ≡ cond (has m p) (one p) (entry table p)
-alone-next m r t v table h l e p = pick (eqb t p) refl
+-- a person's mask within a set
+pub alone-in : (persons p : ℕ) → meet (one p) persons ≡ only (has persons p) (one p)
+alone-in persons p = ext _ _ (λ q. has-meet (one p) persons q ∙ ap (λ (b : Bool). b && has persons q) (has-one p q) ∙ pick (has persons p) refl q (eqb p q) refl)
   where
-    either : (b : Bool) (x : ℕ) → cond b x x ≡ x
-    either true x = refl
-    either false x = refl
+    pick : (b : Bool) → has persons p ≡ b → (q : ℕ) (d : Bool) → eqb p q ≡ d → (d && has persons q) ≡ has (only b (one p)) q
+    pick true e q true k = ap (has persons) (sym (eqb-true p q k)) ∙ e ∙ sym (has-one p q ∙ k)
+    pick true e q false k = sym (has-one p q ∙ k)
+    pick false e q true k = ap (has persons) (sym (eqb-true p q k)) ∙ e ∙ sym (has-none q)
+    pick false e q false k = sym (has-none q)
 
-    by : (b : Bool) → eqb t p ≡ b → cond (has m p) (one p) (entry table p) ≡ cond (b || has r p) (one p) (entry table p)
-    by b k = ap (λ (x : Bool). cond x (one p) (entry table p)) (h p ∙ ap (λ (x : Bool). x || has r p) k)
-
-    pick : (b : Bool) → eqb t p ≡ b → cond (has r p) (one p) (entry (set table t v) p) ≡ cond (has m p) (one p) (entry table p)
-    pick true k =
-        let s = eqb-true t p k in
-        ap (cond (has r p) (one p)) (ap (entry (set table t v)) (sym s) ∙ getD-set-same table t v 0 l ∙ e ∙ ap one s) ∙ either (has r p) (one p) ∙ sym (by true k)
-    pick false k = ap (cond (has r p) (one p)) (getD-set-other table t p v 0 (λ z. eqb-false t p k (sym z))) ∙ sym (by false k)
+-- a turn of the loop, which is at k
+pub alone-next : (persons k v : ℕ) (table : List ℕ) → k < length table → v ≡ only (has persons k) (one k)
+    → ((p : ℕ) → p < k → entry table p ≡ only (has persons p) (one p)) → (p : ℕ) → p < k + 1 → entry (set table k v) p ≡ only (has persons p) (one p)
+alone-next persons k v table l e h p b = pick (eqb k p) refl
+  where
+    pick : (d : Bool) → eqb k p ≡ d → entry (set table k v) p ≡ only (has persons p) (one p)
+    pick true q =
+        let s = eqb-true k p q in
+        ap (entry (set table k v)) (sym s) ∙ getD-set-same table k v 0 l ∙ e ∙ ap (λ (x : ℕ). only (has persons x) (one x)) s
+    pick false q = getD-set-other table k p v 0 (λ z. eqb-false k p q (sym z)) ∙ h p (omega (arith, eqb-false k p q))
 
 pub everyone : (p : ℕ) → p < 64 → has (2 ^ 64 - 1) p ≡ true
 everyone p l = has-not 64 0 p (omega arith) l ∙ ap not (has-none p)
 
 -- all 64 persons alone: classes by no sets
-pub alone-classes : (before after : List ℕ) → Alone (2 ^ 64 - 1) before after → ClassesBy (2 ^ 64 - 1) [] after
+pub alone-classes : (classes : List ℕ) → Alone (2 ^ 64 - 1) classes → ClassesBy (2 ^ 64 - 1) [] classes
 unfolding allOf
-alone-classes before after a = record {
+alone-classes classes a = record {
   few = omega arith;
   inside = refl;
-  at = λ p h. a .at p ∙ ap (λ (b : Bool). cond b (one p) (entry before p)) h ∙ sym (close-same [] (one p) tt);
+  at = λ p h. a .at p ∙ ap (λ (b : Bool). only b (one p)) h ∙ sym (close-same [] (one p) tt);
 }
 
 -- ---- the classes of all persons by the first sets of a list

@@ -1,9 +1,9 @@
 // Persons in classes: at each person of a table the set of all who are joined to that person.
 use crate::over::gather;
 use crate::over::put;
-use sets::bit;
 use sets::low;
 use sets::others;
+use sets::persons::person_masks;
 use sets::subset;
 use sets::whole::whole_64_words;
 ghost use mathlib.Core.Path.{_≡_};
@@ -14,16 +14,16 @@ ghost use Rattle.sets.specs.paper.Sets.{one, closeOf, members};
 ghost use Rattle.worlds.specs.code.Over.{entry};
 ghost use Rattle.worlds.specs.code.Classes.{Alone, Joins, joinable};
 
-// Each person of a set alone.
+// Each person of a set alone, and nobody at the others. As the whole sheet is taken at once, the compiler needs no look-up for a person.
 pub fn alone(classes: &mut [u64; 64], persons: u64)
-    ensures { λ r. ⌜ Alone persons (now (classes .entry)) (now (classes .exit)) ⌝ }
+    ensures { λ r. ⌜ Alone persons (now (classes .exit)) ⌝ }
 {
     whole_64_words(*classes);
-    let mut m = persons;
-    while m != 0 {
-        let p = low(m);
-        classes[p] = bit(p as u8);
-        m = others(m);
+    let masks = person_masks();
+    let mut p: usize = 0;
+    while p < 64 {
+        classes[p] = masks[p] & persons;
+        p = p + 1;
     }
 }
 

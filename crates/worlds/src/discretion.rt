@@ -1,10 +1,10 @@
 // Step 2: Base components of more than two persons that are no cliques.
 use crate::over::gather;
 use crate::over::give;
-use sets::bit;
 use sets::low;
 use sets::minus;
 use sets::others;
+use sets::persons::person_mask;
 use sets::subset;
 use sets::whole::whole_64_words;
 ghost use mathlib.Core.Path.{_≡_};
@@ -34,7 +34,7 @@ fn is_edge_clique(lead: &[u64; 64], set: u64) -> bool
     let mut m = set;
     while m != 0 {
         let p = low(m);
-        if !subset(set, bit(p as u8) | lead[p]) {
+        if !subset(set, person_mask(p as u8) | lead[p]) {
             return false;
         }
         m = others(m);
@@ -58,7 +58,7 @@ fn component(lead: &[u64; 64], p: usize) -> u64
     requires { ⌜ p < 64 ⌝ }
     ensures { λ r. ⌜ Component (now (lead .entry)) p r ⌝ }
 {
-    let mut part = bit(p as u8);
+    let mut part = person_mask(p as u8);
     loop {
         let next = part | gather(lead, part);
         if next == part {
@@ -87,10 +87,10 @@ fn heads(lead: &[u64; 64], persons: u64, parts: &mut [u64; 64]) -> Parted
         let p = low(m);
         let class = component(lead, p);
         if loose(lead, class) {
-            found = found | bit(p as u8);
+            found = found | person_mask(p as u8);
             if parts[p] != class {
                 parts[p] = class;
-                fresh = fresh | bit(p as u8);
+                fresh = fresh | person_mask(p as u8);
             }
         }
         m = minus(others(m), class);

@@ -25,6 +25,7 @@ use records::plan::Statuses;
 use sets::bit;
 use sets::numbers::upto;
 use sets::numbers::wide;
+use sets::persons::person_mask;
 use sets::whole::whole_21_rows;
 ghost use mathlib.Core.Path.{_≡_};
 ghost use Prim.Native.Nat.{ℕ, _<_, _≤_};
@@ -101,7 +102,7 @@ pub fn lay_attachments(t: &mut Tables, attachments: Attachments)
     while i < n {
         let a = attachments.items[i];
         lay(t, MOVERS, i, a.members);
-        lay(t, ANCHORS, i, bit(a.anchor));
+        lay(t, ANCHORS, i, person_mask(a.anchor));
         lay(t, ATTACHMENT_CITATIONS, i, bit(a.citation));
         i = i + 1;
     }
@@ -129,7 +130,7 @@ pub fn lay_statuses(t: &mut Tables, statuses: Statuses)
     let mut i: usize = 0;
     while i < n {
         let s = statuses.items[i];
-        lay(t, STATUSES, i, bit(s.person));
+        lay(t, STATUSES, i, person_mask(s.person));
         lay(t, STATUS_CITATIONS, i, bit(s.citation));
         i = i + 1;
     }

@@ -12,10 +12,10 @@ use crate::tables::MOVERS;
 use crate::tables::PAIRS;
 use crate::tables::Settled;
 use crate::tables::Tables;
-use sets::contains;
 use sets::low;
 use sets::minus;
 use sets::others;
+use sets::persons::has_person;
 use sets::subset;
 use sets::whole::whole_64_words;
 ghost use mathlib.Core.Path.{_≡_};
@@ -64,7 +64,7 @@ fn regroup(blocks: &mut [u64; 64], persons: u64, target: u64, movers: u64)
     let mut m = persons;
     while m != 0 {
         let p = low(m);
-        if contains(target, p as u8) {
+        if has_person(target, p as u8) {
             blocks[p] = target;
         } else {
             blocks[p] = minus(blocks[p], movers);

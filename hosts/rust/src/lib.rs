@@ -115,6 +115,7 @@ pub mod names;
 pub mod near;
 mod numbers;
 mod operations;
+mod person_masks;
 mod persons;
 mod plan;
 mod plan_builder;

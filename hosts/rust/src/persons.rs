@@ -3,6 +3,7 @@
 use std::fmt;
 
 use crate::build_error::{BuildError, within};
+use crate::person_masks::PERSON_MASKS;
 
 /// A set of persons, who are numbered from 0 to 63.
 #[derive(Clone, Copy, Debug, Default, PartialEq, Eq, Hash, PartialOrd, Ord)]
@@ -13,16 +14,16 @@ impl Persons {
 
     /// The set of these persons; an error for a number above 63.
     pub fn of(numbers: &[u8]) -> Result<Persons, BuildError> {
-        let mut mask = 0;
+        let mut set = Persons::NOBODY;
         for &number in numbers {
-            mask |= 1 << within("person", number, 0, 63)?;
+            set = set.union(Persons::alone(within("person", number, 0, 63)?));
         }
-        Ok(Persons(mask))
+        Ok(set)
     }
 
     /// The set of one person; nobody for a number above 63.
     pub fn alone(person: u8) -> Persons {
-        Persons(1u64.checked_shl(u32::from(person)).unwrap_or(0))
+        Persons(PERSON_MASKS.get(usize::from(person)).copied().unwrap_or(0))
     }
 
     /// Bit p stands for person p.
@@ -37,7 +38,7 @@ impl Persons {
 
     /// Whether the person is in the set; nobody above 63 is.
     pub fn holds(self, person: u8) -> bool {
-        self.0.checked_shr(u32::from(person)).is_some_and(|rest| rest & 1 == 1)
+        self.meets(Persons::alone(person))
     }
 
     pub fn is_empty(self) -> bool {

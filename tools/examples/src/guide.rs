@@ -170,7 +170,7 @@ fn byte(word: &str) -> Result<u8, String> {
     byte.ok_or_else(|| format!("{word:?} is no byte"))
 }
 
-/// Blocks with a mark; those without one, with a language or of a command of the program are no bytes.
+/// Blocks with a mark; those without one, with a language or of what a program prints are no bytes.
 fn blocks(guide: &str) -> Vec<Block<'_>> {
     let mut found: Vec<Block> = Vec::new();
     let mut inside = false;
@@ -185,8 +185,8 @@ fn blocks(guide: &str) -> Vec<Block<'_>> {
             (None, false) => {}
         }
     }
-    let is_bytes =
-        |mark: &str| !matches!(mark, "" | "c" | "rust" | "sh" | "explain" | "pool" | "import");
+    let others = ["", "c", "rust", "sh", "explain", "pool", "import", "masks"];
+    let is_bytes = |mark: &str| !others.contains(&mark);
     found.retain(|block| block.mark.split(' ').next().is_some_and(is_bytes));
     found
 }

@@ -126,6 +126,11 @@ fn digits_become_files() {
     }
 }
 
+#[test]
+fn masks_are_printed() {
+    assert_eq!(run("sh masks", root()), block("masks"));
+}
+
 /// The line is made for the root of the repository, whose parts it needs are linked to from a folder.
 #[test]
 fn the_c_program_runs() {

@@ -17,7 +17,7 @@ odd (suc n) = true
 unfoldable pub has : ℕ → ℕ → Bool
 has m p = odd (m / 2 ^ p % 2)
 
--- the set of one person
+-- the set of one person: "the power of two"
 unfoldable pub one : ℕ → ℕ
 one p = 2 ^ p
 

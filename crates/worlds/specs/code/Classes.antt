@@ -6,9 +6,9 @@ use Prim.Native.Nat.{ℕ, _<_, _^_}
 use Rattle.sets.specs.paper.Sets.{has, one, only, subset, allOf, closeOf}
 use Rattle.worlds.specs.code.Over.{entry}
 
--- each person of a set alone, the others as they were
-pub record Alone (persons : ℕ) (before after : List ℕ) : Type 0 where
-  pub at : (p : ℕ) → entry after p ≡ cond (has persons p) (one p) (entry before p)
+-- each person of a set alone, and nobody at the others
+pub record Alone (persons : ℕ) (classes : List ℕ) : Type 0 where
+  pub at : (p : ℕ) → entry classes p ≡ only (has persons p) (one p)
 
 -- at each person of a set the closing of that person under the sets, each of which lies within the set
 pub record ClassesBy (persons : ℕ) (sets classes : List ℕ) : Type 0 where

@@ -24,7 +24,7 @@ unfolding joinsOf
 returns c =
     let s = c .before .before .before .before .before in
     let u = c .before .before .before .upto in
-    c .close .ensures ∙ ap₂ closeOf (used-take (s .args .joins .sets) (s .args .joins .count) 224 (u .result) (long s) (u .ensures .0)) (c .before .bit .ensures)
+    c .close .ensures ∙ ap₂ closeOf (used-take (s .args .joins .sets) (s .args .joins .count) 224 (u .result) (long s) (u .ensures .0)) (c .before .person-mask .ensures)
 
 pub circle-of-spec : {M : Type 1} → statement M
 circle-of-spec =

@@ -21,9 +21,9 @@ abbrev μ-loop : tie.MeasureT-loop
 loop-holds : tie.Need-loop-holds Inv-loop μ-loop
 loop-holds c = adding-none (simp length-map at (c .before .good .1 .1 .1 .0 .1 .1 .1 .0 .1 .0 .1)) (c .upto .ensures .0)
 
-bit-requires : tie.Need-bit-requires Inv-loop μ-loop
+person-mask-requires : tie.Need-person-mask-requires Inv-loop μ-loop
 unfolding statusOf
-bit-requires c κs = adding-each (c .before .before .before .before .loop .inv) PersonFits _ (c .before .before .before .loop-test .taken) (c .before .before .before .before .before .before .pre .1)
+person-mask-requires c κs = adding-each (c .before .before .before .before .loop .inv) PersonFits _ (c .before .before .before .loop-test .taken) (c .before .before .before .before .before .before .pre .1)
 
 add-push : tie.Need-add-push Inv-loop μ-loop
 add-push c = omega (arith, c .before .before .before .before .before .before .before .before .upto .ensures .1, c .before .before .before .before .before .before .before .before .before .pre .0)
@@ -33,7 +33,7 @@ push-requires c κs = omega (arith, c .before .before .before .before .before .b
 
 loop-again : tie.Need-loop-again Inv-loop μ-loop
 unfolding statusOf
-loop-again c = adding-next (c .before .before .before .before .before .before .before .before .loop .inv) _ (c .before .before .before .before .before .before .before .loop-test .taken) (c .push .ensures) (ap (usedAt (c .before .before .before .before .before .before .before .before .before .before .args .nodes .now)) (c .before .before .before .before .before .wide .ensures .0)) (c .before .before .before .bit .ensures)
+loop-again c = adding-next (c .before .before .before .before .before .before .before .before .loop .inv) _ (c .before .before .before .before .before .before .before .loop-test .taken) (c .push .ensures) (ap (usedAt (c .before .before .before .before .before .before .before .before .before .before .args .nodes .now)) (c .before .before .before .before .before .wide .ensures .0)) (c .before .before .before .person-mask .ensures)
 
 add-result : tie.Need-add-result Inv-loop μ-loop
 add-result c = omega (arith, c .before .before .upto .ensures .1, c .before .before .before .pre .0)
@@ -54,7 +54,7 @@ add-statuses-spec =
     (λ c κs. search needs)
     (λ c. search needs)
     (λ c. search needs)
-    bit-requires
+    person-mask-requires
     add-push
     push-requires
     (λ c. search needs)

@@ -6,13 +6,13 @@ use Rattle.records.specs.code.Decoded.{attachmentOf}
 use Rattle.expressions.proofs.rules.with_anchor.Statement.{statement}
 use Rattle.expressions.proofs.rules.with_anchor.Tie as tie
 
-bit-requires : tie.Need-bit-requires
+person-mask-requires : tie.Need-person-mask-requires
 unfolding attachmentOf
-bit-requires c κs = c .pre
+person-mask-requires c κs = c .pre
 
 returns : tie.Need-returns
 unfolding attachmentOf
-returns c = c .union .ensures ∙ ap (union _) (c .before .bit .ensures)
+returns c = c .union .ensures ∙ ap (union _) (c .before .person-mask .ensures)
 
 pub with-anchor-spec : {M : Type 1} → statement M
-with-anchor-spec = tie.close (tie.spec bit-requires (λ c κs. search needs) returns)
+with-anchor-spec = tie.close (tie.spec person-mask-requires (λ c κs. search needs) returns)

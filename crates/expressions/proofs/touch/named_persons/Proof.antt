@@ -28,9 +28,9 @@ loop-holds : tie.Need-loop-holds Inv-loop μ-loop
 unfolding factOf
 loop-holds c = (search needs, none-union _)
 
-bit-requires : tie.Need-bit-requires Inv-loop μ-loop
+person-mask-requires : tie.Need-person-mask-requires Inv-loop μ-loop
 unfolding factOf
-bit-requires c κs =
+person-mask-requires c κs =
     let l = c .before .before in
     let a = l .before in
     let s = a .before .before in
@@ -46,7 +46,7 @@ loop-again c =
     let p = getD xs (l .loop .i) 0 in
     let rest = drop (l .loop .i + 1) (factOf (s .args .t1) .tuple) in
     let next = used-next xs (s .args .t1 .count) 4 (a .upto .result) (long s) (some a) (l .loop .i) 0 p (search needs) refl in
-    (search needs, ap (λ (x : ℕ). union x (unionOf one rest)) (c .union .ensures ∙ ap (union (l .loop .m)) (c .before .bit .ensures)) ∙ union-go one (l .loop .m) p rest ∙ ap (λ (ys : List ℕ). union (l .loop .m) (unionOf one ys)) (sym next) ∙ l .loop .inv .1)
+    (search needs, ap (λ (x : ℕ). union x (unionOf one rest)) (c .union .ensures ∙ ap (union (l .loop .m)) (c .before .person-mask .ensures)) ∙ union-go one (l .loop .m) p rest ∙ ap (λ (ys : List ℕ). union (l .loop .m) (unionOf one ys)) (sym next) ∙ l .loop .inv .1)
 
 returns : tie.Need-returns Inv-loop μ-loop
 unfolding factOf unionOf
@@ -67,7 +67,7 @@ named-persons-spec =
     (λ c κs. search needs)
     loop-holds
     (λ c. search needs)
-    bit-requires
+    person-mask-requires
     (λ c κs. search needs)
     (λ c. search needs)
     (λ c. search needs)

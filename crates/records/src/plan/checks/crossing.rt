@@ -7,8 +7,8 @@ use crate::plan::Plan;
 use crate::plan::checks::naming::entry;
 use crate::plan::counts::Counts;
 use crate::plan::counts::count_records;
-use sets::contains;
 use sets::numbers::wide;
+use sets::persons::has_person;
 ghost use mathlib.Core.Path.{_≡_};
 ghost use Prim.Native.Nat.{ℕ, _<_, _≤_};
 ghost use Rattle.records.specs.paper.Fields.{fine, firstFault};
@@ -44,8 +44,8 @@ pub fn undecided(members: u64, decisions: Decisions, number: usize, edge: Edge) 
     if !edge.combination {
         return false;
     }
-    let left = contains(members, edge.left);
-    let right = contains(members, edge.right);
+    let left = has_person(members, edge.left);
+    let right = has_person(members, edge.right);
     if left == right {
         return false;
     }

@@ -26,9 +26,9 @@ long c = sym (length-map (c .args .t1 .items) (the-type .to)) ∙ c .good .0 .1 
 loop-holds : tie.Need-loop-holds Inv-loop μ-loop
 loop-holds c = (search needs, none-union _)
 
-bit-requires : tie.Need-bit-requires Inv-loop μ-loop
+person-mask-requires : tie.Need-person-mask-requires Inv-loop μ-loop
 unfolding statusOf
-bit-requires c κs =
+person-mask-requires c κs =
     let l = c .before .before in
     let a = l .before in
     let s = a .before in
@@ -41,9 +41,9 @@ loop-again c =
     let a = l .before in
     let s = a .before in (
       search needs,
-      union-first heldByStatus (l .loop .all) _ (c .bit .result) _ _ _
+      union-first heldByStatus (l .loop .all) _ (c .person-mask .result) _ _ _
           (made-rest statusOf (s .args .t1 .items) (s .args .t1 .count) 32 (a .upto .result) (long s) (a .upto .ensures .0) (l .loop .i) _ (search needs)) refl
-          (c .bit .ensures)
+          (c .person-mask .ensures)
           ∙ l .loop .inv .1,
     )
 
@@ -66,7 +66,7 @@ status-persons-spec =
     loop-holds
     (λ c. search needs)
     (λ c. search needs)
-    bit-requires
+    person-mask-requires
     (λ c. search needs)
     (λ c. search needs)
     loop-again

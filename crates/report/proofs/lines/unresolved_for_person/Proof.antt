@@ -23,8 +23,8 @@ loop-holds : tie.Need-loop-holds Inv-loop μ-loop
 unfolding unionBelow
 loop-holds c = (omega arith, refl)
 
-contains-requires : tie.Need-contains-requires Inv-loop μ-loop
-contains-requires c κs = tt
+has-person-requires : tie.Need-has-person-requires Inv-loop μ-loop
+has-person-requires c κs = tt
 
 cast-bit : tie.Need-cast-bit Inv-loop μ-loop
 cast-bit c = omega arith
@@ -39,7 +39,7 @@ loop-again c =
     let a = c .before .before .before .before .before .before .args in
     let b = has (getD (now (a .sets)) (k .i) 0) (a .p) in
     let sofar = unionBelow (k .i) (λ j. only (has (getD (now (a .sets)) j 0) (a .p)) (one j)) in
-    let e = sym (c .before .contains .ensures) in (
+    let e = sym (c .before .has-person .ensures) in (
       omega arith,
       rw add-one (⊎-elim
           (λ w. w .2 ∙ ap₂ union (k .inv .1) (w .1 .ensures) ∙ joined-if sofar (one (k .i)) b (e ∙ w .0 .taken))
@@ -62,7 +62,7 @@ unresolved-for-person-spec =
     loop-holds
     (λ c. search needs)
     (λ c. search needs)
-    contains-requires
+    has-person-requires
     cast-bit
     bit-requires
     (λ c. search needs)

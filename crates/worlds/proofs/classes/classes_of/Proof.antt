@@ -17,7 +17,7 @@ alone-requires : tie.Need-alone-requires Inv-loop μ-loop
 alone-requires c κs = tt
 
 loop-holds : tie.Need-loop-holds Inv-loop μ-loop
-loop-holds c = (search needs, alone-classes _ _ (c .alone .ensures))
+loop-holds c = (search needs, alone-classes _ (c .alone .ensures))
 
 join-requires : tie.Need-join-requires Inv-loop μ-loop
 join-requires c κs = tt

@@ -13,14 +13,14 @@ Inv-loop lead p part₀ part = (part < 2 ^ 64) × Grown lead p part
 abbrev μ-loop : tie.MeasureT-loop
 μ-loop lead p part₀ part = 2 ^ 64 - part
 
-cast-bit : tie.Need-cast-bit Inv-loop μ-loop
-cast-bit c = omega (arith, c .pre)
+cast-person-mask : tie.Need-cast-person-mask Inv-loop μ-loop
+cast-person-mask c = omega (arith, c .pre)
 
-bit-requires : tie.Need-bit-requires Inv-loop μ-loop
-bit-requires c κs = c .pre
+person-mask-requires : tie.Need-person-mask-requires Inv-loop μ-loop
+person-mask-requires c κs = c .pre
 
 loop-holds : tie.Need-loop-holds Inv-loop μ-loop
-loop-holds c = (omega (arith, c .bit .ok), grown-one _ _ _ (c .bit .ensures))
+loop-holds c = (omega (arith, c .person-mask .ok), grown-one _ _ _ (c .person-mask .ensures))
 
 gather-requires : tie.Need-gather-requires Inv-loop μ-loop
 gather-requires c κs = tt
@@ -48,4 +48,4 @@ loop-again c =
     (fits (c .before), grown-more _ _ (l .loop .part) _ (l .loop .inv .0) (c .before .gather .ensures) (l .loop .inv .1))
 
 pub component-spec : {M : Type 1} → statement M
-component-spec = tie.close (tie.spec Inv-loop μ-loop cast-bit bit-requires loop-holds gather-requires returns loop-less loop-again)
+component-spec = tie.close (tie.spec Inv-loop μ-loop cast-person-mask person-mask-requires loop-holds gather-requires returns loop-less loop-again)

@@ -41,11 +41,11 @@ component-requires c κs = c .low .ensures .1
 loose-requires : tie.Need-loose-requires Inv-loop μ-loop
 loose-requires c κs = tt
 
-cast-bit : tie.Need-cast-bit Inv-loop μ-loop
-cast-bit c = omega (arith, c .before .before .before .low .ensures .1)
+cast-person-mask : tie.Need-cast-person-mask Inv-loop μ-loop
+cast-person-mask c = omega (arith, c .before .before .before .low .ensures .1)
 
-bit-requires : tie.Need-bit-requires Inv-loop μ-loop
-bit-requires c κs = c .before .before .before .low .ensures .1
+person-mask-requires : tie.Need-person-mask-requires Inv-loop μ-loop
+person-mask-requires c κs = c .before .before .before .low .ensures .1
 
 mul-if2 : tie.Need-mul-if2 Inv-loop μ-loop
 mul-if2 c = omega (arith, c .before .before .before .before .low .ensures .1)
@@ -59,11 +59,11 @@ mul-parts c = omega (arith, c .before .before .before .before .before .before .l
 element-write-parts : tie.Need-element-write-parts Inv-loop μ-loop
 element-write-parts c = c .before .before .before .before .before .before .low .ensures .1
 
-cast-bit-2 : tie.Need-cast-bit-2 Inv-loop μ-loop
-cast-bit-2 c = omega (arith, c .before .before .before .before .before .before .low .ensures .1)
+cast-person-mask-2 : tie.Need-cast-person-mask-2 Inv-loop μ-loop
+cast-person-mask-2 c = omega (arith, c .before .before .before .before .before .before .low .ensures .1)
 
-bit-requires-2 : tie.Need-bit-requires-2 Inv-loop μ-loop
-bit-requires-2 c κs = c .before .before .before .before .before .before .low .ensures .1
+person-mask-requires-2 : tie.Need-person-mask-requires-2 Inv-loop μ-loop
+person-mask-requires-2 c κs = c .before .before .before .before .before .before .low .ensures .1
 
 others-requires : tie.Need-others-requires Inv-loop μ-loop
 others-requires c κs = c .before .before .before .before .loop-test .taken
@@ -142,14 +142,14 @@ heads-spec =
     low-requires
     component-requires
     loose-requires
-    cast-bit
-    bit-requires
+    cast-person-mask
+    person-mask-requires
     mul-if2
     element-copy-out-if2
     mul-parts
     element-write-parts
-    cast-bit-2
-    bit-requires-2
+    cast-person-mask-2
+    person-mask-requires-2
     others-requires
     minus-requires
     loop-less

@@ -36,11 +36,11 @@ loop-holds c = (c .fits .set .fits, refl)
 low-requires : tie.Need-low-requires Inv-loop μ-loop
 low-requires c κs = c .loop-test .taken
 
-cast-bit : tie.Need-cast-bit Inv-loop μ-loop
-cast-bit c = omega (arith, c .low .ensures .1)
+cast-person-mask : tie.Need-cast-person-mask Inv-loop μ-loop
+cast-person-mask c = omega (arith, c .low .ensures .1)
 
-bit-requires : tie.Need-bit-requires Inv-loop μ-loop
-bit-requires c κs = c .low .ensures .1
+person-mask-requires : tie.Need-person-mask-requires Inv-loop μ-loop
+person-mask-requires c κs = c .low .ensures .1
 
 mul-subset : tie.Need-mul-subset Inv-loop μ-loop
 mul-subset c = omega (arith, c .before .low .ensures .1)
@@ -57,7 +57,7 @@ returns c =
     let l = t .before .before in
     let a = l .before .args in
     sym (all-fails (led (a .lead .now) (a .set)) (l .loop .m) (t .low .result) (l .loop .inv .0) (t .before .loop-test .taken) (t .low .ensures .0)
-    (tested (a .lead .now) (a .set) (t .low .result) _ _ (c .before .subset .ensures) (c .before .before .before .bit .ensures) ∙ not-true _ (c .if1 .taken)))
+    (tested (a .lead .now) (a .set) (t .low .result) _ _ (c .before .subset .ensures) (c .before .before .before .person-mask .ensures) ∙ not-true _ (c .if1 .taken)))
     ∙ l .loop .inv .1
 
 others-requires : tie.Need-others-requires Inv-loop μ-loop
@@ -71,7 +71,7 @@ loop-again c =
     let t = c .before .before .before .before .before in
     let l = t .before .before in
     let a = l .before .args in
-    let is = tested (a .lead .now) (a .set) (t .low .result) _ _ (c .before .before .subset .ensures) (c .before .before .before .before .bit .ensures) ∙ not-false _ (c .before .if1 .left) in (
+    let is = tested (a .lead .now) (a .set) (t .low .result) _ _ (c .before .before .subset .ensures) (c .before .before .before .before .person-mask .ensures) ∙ not-false _ (c .before .if1 .left) in (
       lt-trans (c .others .ensures .1) (l .loop .inv .0),
       sym (all-next (led (a .lead .now) (a .set)) (l .loop .m) (c .others .result) (lowest (l .loop .m)) (c .others .ensures .0)
           ∙ ap (λ (b : Bool). b && allOf (led (a .lead .now) (a .set)) (members (c .others .result))) (ap (led (a .lead .now) (a .set)) (sym (t .low .ensures .0)) ∙ is))
@@ -92,8 +92,8 @@ is-edge-clique-spec =
     μ-loop
     loop-holds
     low-requires
-    cast-bit
-    bit-requires
+    cast-person-mask
+    person-mask-requires
     mul-subset
     element-copy-out-subset
     subset-requires

@@ -55,13 +55,13 @@ fits c d =
 loop-holds : tie.Need-loop-holds Inv-loop μ-loop
 loop-holds c = (search needs, each-none _ _ _ _ _, each-none _ _ _ _ _, each-none _ _ _ _ _, same-start _ _)
 
+person-mask-requires : tie.Need-person-mask-requires Inv-loop μ-loop
+unfolding attachmentOf
+person-mask-requires c κs = fits (c .before .before .before .before) _ .0
+
 bit-requires : tie.Need-bit-requires Inv-loop μ-loop
 unfolding attachmentOf
-bit-requires c κs = fits (c .before .before .before .before) _ .0
-
-bit-requires-2 : tie.Need-bit-requires-2 Inv-loop μ-loop
-unfolding attachmentOf
-bit-requires-2 c κs = fits (c .before .before .before .before .before .before .before) _ .1
+bit-requires c κs = fits (c .before .before .before .before .before .before .before) _ .1
 
 loop-again : tie.Need-loop-again Inv-loop μ-loop
 unfolding attachmentOf anyOf
@@ -76,8 +76,8 @@ loop-again c =
     let laid3 = c .lay3 .ensures in (
       more,
       each-other members none xs laid3 refl (each-other members none xs laid2 refl (each-next members none xs laid1 (ap (λ (x : Attachment). x .members) e) (inv .1))),
-      each-other anchors none xs laid3 refl (each-next anchors none xs laid2 (c .before .before .before .before .bit .ensures ∙ ap (λ (x : Attachment). one (x .anchor)) e) (each-other anchors none xs laid1 refl (inv .2))),
-      each-next cites none xs laid3 (c .before .bit2 .ensures ∙ ap (λ (x : Attachment). one (x .citation)) e) (each-other cites none xs laid2 refl (each-other cites none xs laid1 refl (inv .3))),
+      each-other anchors none xs laid3 refl (each-next anchors none xs laid2 (c .before .before .before .before .person-mask .ensures ∙ ap (λ (x : Attachment). one (x .anchor)) e) (each-other anchors none xs laid1 refl (inv .2))),
+      each-next cites none xs laid3 (c .before .bit .ensures ∙ ap (λ (x : Attachment). one (x .citation)) e) (each-other cites none xs laid2 refl (each-other cites none xs laid1 refl (inv .3))),
       same-next (11 ∷ 12 ∷ 18 ∷ []) refl laid3 (same-next (11 ∷ 12 ∷ 18 ∷ []) refl laid2 (same-next (11 ∷ 12 ∷ 18 ∷ []) refl laid1 (inv .4))),
     )
 
@@ -106,9 +106,9 @@ lay-attachments-spec =
     (λ c. search needs)
     (λ c. search needs)
     (λ c κs. search needs)
-    bit-requires
+    person-mask-requires
     (λ c κs. search needs)
-    bit-requires-2
+    bit-requires
     (λ c κs. search needs)
     (λ c. search needs)
     (λ c. search needs)

@@ -52,13 +52,13 @@ fits c d =
 loop-holds : tie.Need-loop-holds Inv-loop μ-loop
 loop-holds c = (search needs, each-none _ _ _ _ _, each-none _ _ _ _ _, same-start _ _)
 
+person-mask-requires : tie.Need-person-mask-requires Inv-loop μ-loop
+unfolding statusOf
+person-mask-requires c κs = fits (c .before .before) _ .0
+
 bit-requires : tie.Need-bit-requires Inv-loop μ-loop
 unfolding statusOf
-bit-requires c κs = fits (c .before .before) _ .0
-
-bit-requires-2 : tie.Need-bit-requires-2 Inv-loop μ-loop
-unfolding statusOf
-bit-requires-2 c κs = fits (c .before .before .before .before .before) _ .1
+bit-requires c κs = fits (c .before .before .before .before .before) _ .1
 
 loop-again : tie.Need-loop-again Inv-loop μ-loop
 unfolding statusOf anyOf
@@ -71,8 +71,8 @@ loop-again c =
     let laid1 = c .before .before .before .lay .ensures in
     let laid2 = c .lay2 .ensures in (
       more,
-      each-other persons none xs laid2 refl (each-next persons none xs laid1 (c .before .before .before .before .bit .ensures ∙ ap (λ (x : Status). one (x .person)) e) (inv .1)),
-      each-next cites none xs laid2 (c .before .bit2 .ensures ∙ ap (λ (x : Status). one (x .citation)) e) (each-other cites none xs laid1 refl (inv .2)),
+      each-other persons none xs laid2 refl (each-next persons none xs laid1 (c .before .before .before .before .person-mask .ensures ∙ ap (λ (x : Status). one (x .person)) e) (inv .1)),
+      each-next cites none xs laid2 (c .before .bit .ensures ∙ ap (λ (x : Status). one (x .citation)) e) (each-other cites none xs laid1 refl (inv .2)),
       same-next (14 ∷ 20 ∷ []) refl laid2 (same-next (14 ∷ 20 ∷ []) refl laid1 (inv .3)),
     )
 
@@ -99,9 +99,9 @@ lay-statuses-spec =
     loop-holds
     (λ c. search needs)
     (λ c. search needs)
-    bit-requires
+    person-mask-requires
     (λ c κs. search needs)
-    bit-requires-2
+    bit-requires
     (λ c κs. search needs)
     (λ c. search needs)
     (λ c. search needs)

@@ -33,11 +33,11 @@ loop-holds c = (c .before .before .fits .persons .fits, c .whole-64-words .ensur
 low-requires : tie.Need-low-requires Inv-loop μ-loop
 low-requires c κs = c .loop-test .taken
 
-cast-contains : tie.Need-cast-contains Inv-loop μ-loop
-cast-contains c = omega (arith, c .low .ensures .1)
+cast-has-person : tie.Need-cast-has-person Inv-loop μ-loop
+cast-has-person c = omega (arith, c .low .ensures .1)
 
-contains-requires : tie.Need-contains-requires Inv-loop μ-loop
-contains-requires c κs = tt
+has-person-requires : tie.Need-has-person-requires Inv-loop μ-loop
+has-person-requires c κs = tt
 
 mul-blocks : tie.Need-mul-blocks Inv-loop μ-loop
 mul-blocks c = omega (arith, c .before .before .low .ensures .1)
@@ -77,8 +77,8 @@ turned c =
     let a = l .before .before .before .args in
     let t = c .before .before .low .result in
     let old = entry (l .loop .blocks) t in
-    ⊎-elim (λ w. (a .target, w .1, ap (λ (b : Bool). cond b (a .target) (minus old (a .movers))) (sym (w .0 .taken) ∙ c .before .contains .ensures)))
-    (λ w. (w .2 .result, w .3, w .2 .ensures ∙ ap (λ (b : Bool). cond b (a .target) (minus old (a .movers))) (sym (w .0 .left) ∙ c .before .contains .ensures)))
+    ⊎-elim (λ w. (a .target, w .1, ap (λ (b : Bool). cond b (a .target) (minus old (a .movers))) (sym (w .0 .taken) ∙ c .before .has-person .ensures)))
+    (λ w. (w .2 .result, w .3, w .2 .ensures ∙ ap (λ (b : Bool). cond b (a .target) (minus old (a .movers))) (sym (w .0 .left) ∙ c .before .has-person .ensures)))
     (c .if1 .came)
 
 loop-again : tie.Need-loop-again Inv-loop μ-loop
@@ -112,8 +112,8 @@ regroup-spec =
     whole-64-words-requires
     loop-holds
     low-requires
-    cast-contains
-    contains-requires
+    cast-has-person
+    has-person-requires
     mul-blocks
     element-write-blocks
     mul-minus

@@ -1,8 +1,5 @@
 -- `World::cut`: marks of overlap and roles by what `mark` does, blocks by the laws of step 6.
-use mathlib.Core.Path.{ap, _∙_}
-use mathlib.Core.Bool.{cond}
 use borrow.Author.Needs.{needs}
-use Rattle.sets.specs.paper.Sets.{has, one}
 use Rattle.worlds.proofs.PlaceLaws.{first-placed}
 use Rattle.worlds.proofs.world.World.cut.Statement.{statement}
 use Rattle.worlds.proofs.world.World.cut.Tie as tie
@@ -36,7 +33,7 @@ returns c =
       blocks = λ P I k w S none p.
           first-placed P I k w (a .t .now) (a .frozen) (a .applied) (a .placed) (s .fits .frozen .fits) (s .fits .applied .fits) S
           (lone .alone .last .0) (cuts .cut-blocks .last .0) (c .join-pairs .last .0) (cuts .cut-blocks .result)
-          (λ q. lone .alone .ensures .at q ∙ ap (cond (has (a .placed) q) (one q)) (none q))
+          (lone .alone .ensures .at)
           (cuts .cut-blocks .ensures) (c .join-pairs .ensures) p;
     }
 

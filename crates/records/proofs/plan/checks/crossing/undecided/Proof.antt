@@ -16,14 +16,14 @@ returns c = λ P x m d. rw (not-true (c .before .before .args .edge .combination
 returns-2 : tie.Need-returns-2
 unfolding isOpen crosses cutOf edgeOf
 returns-2 c = λ P x m d. let s = c .before .before .before .before .before .args in
-    let t : Bool·beq (c .before .before .contains .result) (c .before .contains2 .result) ≡ true = c .if2 .taken in
-    rw (m, not-false (s .edge .combination) (c .before .before .before .if1 .left), ← c .before .before .contains .ensures, ← c .before .contains2 .ensures, t)
+    let t : Bool·beq (c .before .before .has-person .result) (c .before .has-person2 .result) ≡ true = c .if2 .taken in
+    rw (m, not-false (s .edge .combination) (c .before .before .before .if1 .left), ← c .before .before .has-person .ensures, ← c .before .has-person2 .ensures, t)
 
 returns-3 : tie.Need-returns-3
 unfolding isOpen crosses cutOf edgeOf
 returns-3 c = λ P x m d. let s = c .before .before .before .before .before .before .args in
-    let t : Bool·beq (c .before .before .before .contains .result) (c .before .before .contains2 .result) ≡ false = c .before .if2 .left in
-    rw (m, not-false (s .edge .combination) (c .before .before .before .before .if1 .left), ← c .before .before .before .contains .ensures, ← c .before .before .contains2 .ensures, t) (ap not (c .decided .ensures ∙ ap (λ z. decidedIn (decisionsOf z) (s .number)) (sym d)))
+    let t : Bool·beq (c .before .before .before .has-person .result) (c .before .before .has-person2 .result) ≡ false = c .before .if2 .left in
+    rw (m, not-false (s .edge .combination) (c .before .before .before .before .if1 .left), ← c .before .before .before .has-person .ensures, ← c .before .before .has-person2 .ensures, t) (ap not (c .decided .ensures ∙ ap (λ z. decidedIn (decisionsOf z) (s .number)) (sym d)))
 
 pub undecided-spec : {M : Type 1} → statement M
 undecided-spec =
