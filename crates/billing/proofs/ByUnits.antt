@@ -1,6 +1,6 @@
 -- Units are the blocks of lines, each once; a sum unit by unit is the sum over all lines that have a block. So pools and what is unplaced are everything.
 use mathlib.Core.Path.{◌≡◌, refl, sym, ap, ◌∙◌, subst}
-use mathlib.Core.Bool.{Bool, true, false, ◌&&◌, ◌||◌, not, cond, and-true, and-false, or_true, or_false, or_assoc, and-or_distrib_left}
+use mathlib.Core.Bool.{Bool, true, false, ◌&&◌, ◌||◌, not, cond, and-true, and-false, or-true, or-false, or_assoc, and-or_distrib_left}
 use mathlib.Core.List.{List, [], ◌∷◌, ◌++◌}
 use mathlib.Core.Logic.{◌≢◌}
 use Prim.Native.Nat.{ℕ, ◌+◌}
@@ -30,14 +30,14 @@ unfolding any_of
 join_any us b c = pick (eqb b c) refl
   where
     same : (z y : Bool) → any_of (eqb b) us ≡ y → any_of (eqb b) (cond (z || y) us (us ++ (b ∷ []))) ≡ (any_of (eqb b) us || (not z && true))
-    same true y e = sym (or_false (any_of (eqb b) us))
-    same false true e = e ∙ sym (or_true (any_of (eqb b) us))
+    same true y e = sym (or-false (any_of (eqb b) us))
+    same false true e = e ∙ sym (or-true (any_of (eqb b) us))
     same false false e = any_append (eqb b) us (b ∷ []) ∙ ap (λ (x : Bool). any_of (eqb b) us || (x || false)) (eq-eqb b b refl)
 
     other : (z y : Bool) → (c ≡ b → ⊥) → any_of (eqb c) (cond (z || y) us (us ++ (b ∷ []))) ≡ any_of (eqb c) us
     other true y n = refl
     other false true n = refl
-    other false false n = any_append (eqb c) us (b ∷ []) ∙ ap (λ (x : Bool). any_of (eqb c) us || (x || false)) (ne_eqb c b n) ∙ or_false (any_of (eqb c) us)
+    other false false n = any_append (eqb c) us (b ∷ []) ∙ ap (λ (x : Bool). any_of (eqb c) us || (x || false)) (ne_eqb c b n) ∙ or-false (any_of (eqb c) us)
 
     pick : (x : Bool) → eqb b c ≡ x → any_of (eqb c) (join_unit us b) ≡ (any_of (eqb c) us || (not (eqb c 0) && x))
     pick true e =
@@ -45,7 +45,7 @@ join_any us b c = pick (eqb b c) refl
         (same (eqb b 0) (any_of (eqb b) us) refl)
     pick false e =
         other (eqb b 0) (any_of (eqb b) us) (λ f. eqb-false b c e (sym f))
-        ∙ sym (ap (λ (x : Bool). any_of (eqb c) us || x) (and-false (not (eqb c 0))) ∙ or_false (any_of (eqb c) us))
+        ∙ sym (ap (λ (x : Bool). any_of (eqb c) us || x) (and-false (not (eqb c 0))) ∙ or-false (any_of (eqb c) us))
 
 -- ---- the units
 
@@ -61,7 +61,7 @@ units-once ls b = with_once ls [] b refl
 
 with_any : (ls : List Line) (us : List ℕ) (b : ℕ) → any_of (eqb b) (units_with us ls) ≡ (any_of (eqb b) us || (not (eqb b 0) && any_of (λ l. eqb l.block b) ls))
 unfolding units_with any_of
-with_any [] us b = sym (ap (λ (x : Bool). any_of (eqb b) us || x) (and-false (not (eqb b 0))) ∙ or_false (any_of (eqb b) us))
+with_any [] us b = sym (ap (λ (x : Bool). any_of (eqb b) us || x) (and-false (not (eqb b 0))) ∙ or-false (any_of (eqb b) us))
 with_any (l ∷ ls) us b =
     let z = not (eqb b 0) in
     let rest = any_of (λ l. eqb l.block b) ls in
@@ -88,7 +88,7 @@ lines-among ls =
     there [] = tt
     there (l ∷ ls) = (
       ap (λ (x : Bool). x || any_of (λ m. eqb m.block l.block) ls) (eq-eqb l.block l.block refl),
-      all_then _ _ (λ m e. ap (λ (x : Bool). eqb l.block m.block || x) e ∙ or_true (eqb l.block m.block)) ls (there ls),
+      all_then _ _ (λ m e. ap (λ (x : Bool). eqb l.block m.block || x) e ∙ or-true (eqb l.block m.block)) ls (there ls),
     )
 
 -- ---- UNIT BY UNIT: the sums of any weight over those with each unit as block are the sum over all that have one, whatever test they must pass beside

@@ -1,13 +1,13 @@
 -- The entries of a list, the lines of a buffer, their units and their shares, by their places.
 use mathlib.Core.Path.{◌≡◌, refl, sym, ap, ◌∙◌, subst}
-use mathlib.Core.Bool.{Bool, true, false, ◌||◌, not, or_true, false≢true}
+use mathlib.Core.Bool.{Bool, true, false, ◌||◌, not, or-true, false≢true}
 use mathlib.Core.List.{List, [], ◌∷◌, ◌++◌, map}
 use mathlib.Core.Logic.{◌≢◌}
 use Prim.Native.Nat.{ℕ, zero, suc, ◌+◌, ◌≤◌, ◌<◌, suc-le-suc}
 use native.Mathlib.Nat.{le_of_suc-le-suc, not-suc-le-zero, zero-lt-suc}
 use native.Mathlib.Omega.{arith}
 use lib.ListN.{length, get_or, drop}
-use lib.Seq.{drop_cons}
+use lib.Seq.{drop-cons}
 use lib.Dec.{eqb}
 use borrow.Author.Tests.{eqb-true, eqb-false, eq-eqb, ne_eqb, not-true}
 use Rattle.sets.specs.paper.Sets.{any_of, numbers, sum_of, All}
@@ -27,7 +27,7 @@ module _ {A : Type 0} (d : A) where
   unfolding any_of
   any_at f [] i l e = absurd (not-suc-le-zero l)
   any_at f (x ∷ xs) zero l e = ap (λ (b : Bool). b || any_of f xs) e
-  any_at f (x ∷ xs) (suc i) l e = ap (λ (b : Bool). f x || b) (any_at f xs i (le_of_suc-le-suc l) e) ∙ or_true (f x)
+  any_at f (x ∷ xs) (suc i) l e = ap (λ (b : Bool). f x || b) (any_at f xs i (le_of_suc-le-suc l) e) ∙ or-true (f x)
 
   pub at_any : (f : A → Bool) (xs : List A) → any_of f xs ≡ true → (i : ℕ) × (i < length xs) × (f (get_or xs i d) ≡ true)
   unfolding any_of
@@ -111,7 +111,7 @@ shares_from : (s cs : List ℕ) (k n : ℕ) → k + n ≤ length cs → shares (
 unfolding shares lines_from numbers
 shares_from s cs k zero h = refl
 shares_from s cs k (suc n) h =
-    ap (λ (rest : List ℕ). shares (lines_from s k (suc n)) rest) (drop_cons cs k 0 (omega arith))
+    ap (λ (rest : List ℕ). shares (lines_from s k (suc n)) rest) (drop-cons cs k 0 (omega arith))
     ∙ ap (λ (xs : List Share). share_at s cs k ∷ xs) (shares_from s cs (suc k) n (omega arith))
 
 -- a sum over the shares is one over the numbers of their lines

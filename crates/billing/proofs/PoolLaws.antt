@@ -5,7 +5,7 @@ use mathlib.Core.List.{List, ◌∷◌}
 use Prim.Native.Nat.{ℕ, suc, ◌+◌, ◌-◌, ◌≤◌, ◌<◌}
 use native.Mathlib.Omega.{arith}
 use lib.ListN.{length, get_or, drop}
-use lib.Seq.{drop_cons}
+use lib.Seq.{drop-cons}
 use lib.Dec.{eqb}
 use Rattle.sets.specs.paper.Sets.{only, any_of, sum_of}
 use Rattle.sets.proofs.SumLaws.{sum_first, sum_end}
@@ -28,7 +28,7 @@ shares-next : (s cs : List ℕ) (k n : ℕ) → k < n → n ≤ length cs
     → shares_from_lem s cs k n ≡ record { line = decoded (line_at s k); cents = get_or cs k 0 } ∷ shares_from_lem s cs (k + 1) n
 unfolding shares
 shares-next s cs k n h l =
-    ap₂ (λ (ls : List Line) (cs : List ℕ). shares ls cs) (lines_next s k n h) (drop_cons cs k 0 (omega arith))
+    ap₂ (λ (ls : List Line) (cs : List ℕ). shares ls cs) (lines_next s k n h) (drop-cons cs k 0 (omega arith))
     ∙ ap (λ (j : ℕ). record { line = decoded (line_at s k); cents = get_or cs k 0 } ∷ shares (lines_from s (k + 1) (n - (k + 1))) (drop j cs)) (let e : suc k ≡ k + 1 = omega arith in e)
 
 -- a line more, or none left

@@ -5,7 +5,7 @@ use mathlib.Core.List.{List, [], ◌∷◌, ◌++◌}
 use Prim.Native.Nat.{ℕ, zero, suc, ◌+◌, ◌-◌, ◌≤◌, ◌<◌}
 use native.Mathlib.Omega.{arith}
 use lib.ListN.{length, get_or, take, drop, set}
-use lib.Seq.{drop_cons, get_or-take, length-take-le, take-suc-set}
+use lib.Seq.{drop-cons, get_or-take, length-take-le, take-suc-set}
 use lib.Dec.{eqb}
 use borrow.Author.Tests.{eq-eqb, ne_eqb}
 use Rattle.sets.specs.paper.Sets.{any_of}
@@ -23,7 +23,7 @@ module _ (f : ℕ → Bool) (xs : List ℕ) (n : ℕ) (fits : n ≤ length xs) w
   there : (i : ℕ) → i < n → drop i (take n xs) ≡ get_or xs i 0 ∷ drop (i + 1) (take n xs)
   there i h =
       let l = length-take-le n xs fits in
-      drop_cons (take n xs) i 0 (omega arith) ∙ ap₂ (λ (x k : ℕ). x ∷ drop k (take n xs)) (get_or-take n xs i 0 h) (let e : suc i ≡ i + 1 = omega arith in e)
+      drop-cons (take n xs) i 0 (omega arith) ∙ ap₂ (λ (x k : ℕ). x ∷ drop k (take n xs)) (get_or-take n xs i 0 h) (let e : suc i ≡ i + 1 = omega arith in e)
 
   pub any_here : (i : ℕ) → i < n → f (get_or xs i 0) ≡ true → any_from i ≡ true
   unfolding any_of
@@ -49,11 +49,11 @@ pub joins-none : (us : List ℕ) (b : ℕ) → b ≡ 0 → us ≡ join_unit us b
 joins-none us b e = sym (ap (λ (t : Bool). cond (t || any_of (eqb b) us) us (us ++ (b ∷ []))) (eq-eqb b 0 e))
 
 pub joins-known : (us : List ℕ) (b : ℕ) → any_of (eqb b) us ≡ true → us ≡ join_unit us b
-joins-known us b e = sym (ap (λ (t : Bool). cond (eqb b 0 || t) us (us ++ (b ∷ []))) e ∙ ap (λ (t : Bool). cond t us (us ++ (b ∷ []))) (or_true (eqb b 0)))
+joins-known us b e = sym (ap (λ (t : Bool). cond (eqb b 0 || t) us (us ++ (b ∷ []))) e ∙ ap (λ (t : Bool). cond t us (us ++ (b ∷ []))) (or-true (eqb b 0)))
   where
-    or_true : (t : Bool) → (t || true) ≡ true
-    or_true true = refl
-    or_true false = refl
+    or-true : (t : Bool) → (t || true) ≡ true
+    or-true true = refl
+    or-true false = refl
 
 pub joins_new : (xs : List ℕ) (n b : ℕ) → n < length xs → (b ≡ 0 → ⊥) → any_of (eqb b) (take n xs) ≡ false → take (n + 1) (set xs n b) ≡ join_unit (take n xs) b
 joins_new xs n b h z e =

@@ -1,7 +1,7 @@
 -- Laws of the unresolved decisions: searched by number, listed one by one, and how many there are.
 use Prim.Native.Nat.{ℕ, ◌+◌, ◌≤◌, ◌<◌, min}
 use mathlib.Core.Path.{◌≡◌, refl, sym, ap, ap₂, ◌∙◌, subst}
-use mathlib.Core.Bool.{Bool, false, ◌&&◌, ◌||◌, or_false, and-false}
+use mathlib.Core.Bool.{Bool, false, ◌&&◌, ◌||◌, or-false, and-false}
 use mathlib.Core.List.{List, [], ◌∷◌, ◌++◌}
 use native.Mathlib.Decide.{le_ind}
 use native.Mathlib.Numerals.{add-one}
@@ -36,7 +36,7 @@ any_more g f i = ap (any_of g) (below_more i f) ∙ any_last g (below i f) (f i)
 pub any_past : {A : Type 0} (g : A → Bool) (f : ℕ → A) (m n : ℕ) → m ≤ n → ((k : ℕ) → m ≤ k → g (f k) ≡ false) → any_of g (below n f) ≡ any_of g (below m f)
 any_past g f m n l h =
     le_ind (λ (j : ℕ). any_of g (below j f) ≡ any_of g (below m f)) refl (λ k p e.
-    ap (λ (j : ℕ). any_of g (below j f)) (sym (add-one k)) ∙ any_more g f k ∙ ap₂ ◌||◌ e (h k p) ∙ or_false (any_of g (below m f))) n l
+    ap (λ (j : ℕ). any_of g (below j f)) (sym (add-one k)) ∙ any_more g f k ∙ ap₂ ◌||◌ e (h k p) ∙ or-false (any_of g (below m f))) n l
 
 -- ---- the list of open decisions, one more at the end
 

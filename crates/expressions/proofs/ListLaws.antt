@@ -1,7 +1,7 @@
 -- Laws of lists that a loop goes through: made from the entries in use of an array, or stored in one.
 use Prim.Native.Nat.{ℕ, zero, suc, ◌+◌, ◌≤◌, ◌<◌, min}
 use mathlib.Core.Path.{◌≡◌, refl, sym, ap, ap₂, ◌∙◌, subst}
-use mathlib.Core.Bool.{Bool, true, false, ◌&&◌, ◌||◌, cond, or_assoc, or_false}
+use mathlib.Core.Bool.{Bool, true, false, ◌&&◌, ◌||◌, cond, or_assoc, or-false}
 use mathlib.Core.Logic.{⊎_elim}
 use mathlib.Core.List.{append_assoc, List, [], ◌∷◌, ◌++◌, map, map-append, map-map}
 use native.Mathlib.Numerals.{add-one}
@@ -69,7 +69,7 @@ module _ {A : Type 0} (f : A → Bool) (k : A) (rest : List A) where
 
 pub any_last : {A : Type 0} (f : A → Bool) (xs : List A) (x : A) → any_of f (xs ++ (x ∷ [])) ≡ (any_of f xs || f x)
 unfolding any_of
-any_last f [] x = or_false (f x)
+any_last f [] x = or-false (f x)
 any_last f (y ∷ xs) x = ap (λ (b : Bool). f y || b) (any_last f xs x) ∙ sym (or_assoc (f y) (any_of f xs) (f x))
 
 -- an entry where the test holds

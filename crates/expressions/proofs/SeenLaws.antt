@@ -1,6 +1,6 @@
 -- Laws of what the code keeps of a fact's observations, and the binding that follows.
 use mathlib.Core.Path.{◌≡◌, refl, sym, ap, ap₂, ◌∙◌}
-use mathlib.Core.Bool.{Bool, true, false, ◌&&◌, ◌||◌, not, cond, or_assoc, or_true, or_false}
+use mathlib.Core.Bool.{Bool, true, false, ◌&&◌, ◌||◌, not, cond, or_assoc, or-true, or-false}
 use mathlib.Core.List.{List, [], ◌∷◌, ◌++◌, map, flat_map}
 use Prim.Native.Nat.{ℕ, ◌+◌, ◌≤◌, ◌<◌, min}
 use native.Mathlib.Omega.{arith}
@@ -160,7 +160,7 @@ module _ (v e : ℕ) where
 
   look_result : (d t : Bool) (os : List Observation) → look_all (from d t) os ≡ from (d || not (same os)) (t || not (agree os))
   unfolding look_all all_of
-  look_result d t [] = ap₂ from (sym (or_false d)) (sym (or_false t))
+  look_result d t [] = ap₂ from (sym (or-false d)) (sym (or-false t))
   look_result d t (o ∷ os) = pick (eqb o.value v) (eqb o.evidence e) refl refl (λ d t. look_result d t os)
     where
       pick : (x y : Bool) → eqb o.value v ≡ x → eqb o.evidence e ≡ y
@@ -168,10 +168,10 @@ module _ (v e : ℕ) where
           → look_all (look_at (from d t) o) os ≡ from (d || not ((eqb v o.value && eqb e o.evidence) && same os)) (t || not (eqb o.value v && agree os))
       pick false y x k ih =
           ap (λ (s : Sight). look_all s os) (at_other d t o x) ∙ ih true true
-          ∙ rw (eqb_swap v o.value, x) (ap₂ from (sym (or_true d)) (sym (or_true t)))
+          ∙ rw (eqb_swap v o.value, x) (ap₂ from (sym (or-true d)) (sym (or-true t)))
       pick true false x k ih =
           ap (λ (s : Sight). look_all s os) (at_differs d t o x k) ∙ ih true t
-          ∙ rw (eqb_swap v o.value, eqb_swap e o.evidence, x, k) (ap (λ (b : Bool). from b (t || not (agree os))) (sym (or_true d)))
+          ∙ rw (eqb_swap v o.value, eqb_swap e o.evidence, x, k) (ap (λ (b : Bool). from b (t || not (agree os))) (sym (or-true d)))
       pick true true x k ih = ap (λ (s : Sight). look_all s os) (at_same d t o x k) ∙ ih d t ∙ rw (eqb_swap v o.value, eqb_swap e o.evidence, x, k)
 
 pub look_bound : (os : List Observation) (silent : Bound) → bound_by (look_all nothing os) silent ≡ weighed os silent

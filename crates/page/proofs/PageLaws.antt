@@ -6,7 +6,7 @@ use Prim.Native.Nat.{ℕ, zero, suc, ◌+◌, ◌-◌, ◌≤◌, ◌<◌, min}
 use native.Mathlib.Omega.{arith}
 use native.Mathlib.Nat.{min-eq_left, min_comm, zero-min, min-zero, suc-min-suc}
 use lib.ListN.{length, get_or, take, drop, set, replicate, length-append, length-take, length-set, length-replicate, drop_of_length-le}
-use lib.Seq.{drop_cons, set-append_seam, drop-nil, take_all}
+use lib.Seq.{drop-cons, set-append_seam, drop-nil, take_all}
 use lib.Dec.{ltb}
 use borrow.Author.Tests.{lt-ltb, le-ltb}
 use Rattle.page.specs.Page.{Page, put_byte, puts, begun}
@@ -46,7 +46,7 @@ pub put_next : (text : List ℕ) (i : ℕ) (p q : Page) → i < length text → 
 unfolding puts
 put_next text i p q h e =
     ap (λ (q : Page). puts q (drop (i + 1) text)) e
-    ∙ sym (ap (puts p) (drop_cons text i 0 h ∙ ap (λ (k : ℕ). get_or text i 0 ∷ drop k text) (let f : suc i ≡ i + 1 = omega arith in f)))
+    ∙ sym (ap (puts p) (drop-cons text i 0 h ∙ ap (λ (k : ℕ). get_or text i 0 ∷ drop k text) (let f : suc i ≡ i + 1 = omega arith in f)))
 
 pub put_end : (text : List ℕ) (i : ℕ) (p : Page) → length text ≤ i → p ≡ puts p (drop i text)
 unfolding puts

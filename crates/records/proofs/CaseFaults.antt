@@ -7,7 +7,7 @@ use native.Mathlib.Numerals.{add-one}
 use native.Mathlib.Omega.{arith}
 use lib.Dec.{eqb}
 use lib.ListN.{length, get_or, drop, drop_of_length-le}
-use lib.Seq.{drop_cons}
+use lib.Seq.{drop-cons}
 use borrow.Author.Tests.{eq-eqb, ne_eqb}
 use Rattle.sets.specs.paper.Sets.{all_of, any_of}
 use Rattle.records.specs.paper.Fields.{Verdict, fine, refused, on_fine, first_fault}
@@ -28,7 +28,7 @@ use Rattle.records.proofs.NamingLaws.{boolean_of_lem, family_of_lem}
 
 any_cons : {A : Type 0} (f : A → Bool) (l : List A) (i : ℕ) (d : A) → i < length l → any_of f (drop i l) ≡ (f (get_or l i d) || any_of f (drop (i + 1) l))
 unfolding any_of
-any_cons f l i d h = rw (drop_cons l i d h, add-one)
+any_cons f l i d h = rw (drop-cons l i d h, add-one)
 
 pub any_goes : {A : Type 0} (f : A → Bool) (l : List A) (i : ℕ) (d : A) (R : Bool) → i < length l → f (get_or l i d) ≡ false → any_of f (drop i l) ≡ R → any_of f (drop (i + 1) l) ≡ R
 any_goes f l i d R h t e = (rw t at (sym (any_cons f l i d h))) ∙ e

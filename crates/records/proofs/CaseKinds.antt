@@ -1,6 +1,6 @@
 -- Each kind of record in a case: what one more of them changes and what is wrong with it; and the first pass.
 use mathlib.Core.Path.{◌≡◌, refl, sym, ap, ◌∙◌}
-use mathlib.Core.Bool.{Bool, true, false, ◌&&◌, not, cond, or_false}
+use mathlib.Core.Bool.{Bool, true, false, ◌&&◌, not, cond, or-false}
 use mathlib.Core.List.{List, [], ◌∷◌, ◌++◌}
 use Prim.Native.Nat.{ℕ, ◌≤◌}
 use native.Mathlib.Omega.{arith}
@@ -26,7 +26,7 @@ heading_adds C xs b vs = refl
 pub heading_judges : (headed : Bool) (C : Case) (xs : List CaseHeading) (b : ℕ) (vs : List (List ℕ)) → CleanCase headed C → Unit {0}
     → judge_case (raw 1 b vs) (with_case_headings C (xs ++ (case_heading_from (raw 1 b vs) ∷ []))) ≡ judgement (length xs) 1 (needs 81 b && true)
 unfolding judge_case case_formats case_counts
-heading_judges headed C xs b vs c u = rw (length_more xs (case_heading_from (raw 1 b vs)), lib.Dec.eqb-suc-zero (length xs), past 1 (length xs), or_false (leb 1 (length xs)))
+heading_judges headed C xs b vs c u = rw (length_more xs (case_heading_from (raw 1 b vs)), lib.Dec.eqb-suc-zero (length xs), past 1 (length xs), or-false (leb 1 (length xs)))
 
 abbrev pub heading_kind : Kind case_reading CaseHeading
 heading_kind = record {

@@ -6,7 +6,7 @@ use Prim.Native.Nat.{ℕ, ◌+◌, ◌-◌, ◌≤◌, ◌<◌}
 use native.Mathlib.Numerals.{add-one}
 use native.Mathlib.Omega.{arith}
 use lib.ListN.{length, get_or, drop, drop_of_length-le}
-use lib.Seq.{drop_cons}
+use lib.Seq.{drop-cons}
 use Rattle.sets.specs.paper.Sets.{all_of}
 use Rattle.records.specs.paper.Fields.{fault, fine, first_fault}
 use Rattle.records.specs.paper.Plan as paper
@@ -23,7 +23,7 @@ module _ (P : paper.Plan) where
   pub edge_step : (c : paper.Cut) (cut k : ℕ) (d : paper.Edge) (later : Crossing) → k < length P.edges
       → edges_from P c cut k (drop k P.edges) later ≡ cond (is_open P c k (get_or P.edges k d)) (At cut k) (edges_from P c cut (k + 1) (drop (k + 1) P.edges) later)
   unfolding edges_from
-  edge_step c cut k d later h = rw (drop_cons P.edges k d h, add-one k)
+  edge_step c cut k d later h = rw (drop-cons P.edges k d h, add-one k)
 
   pub edge_end : (c : paper.Cut) (cut k : ℕ) (later : Crossing) → length P.edges ≤ k → edges_from P c cut k (drop k P.edges) later ≡ later
   unfolding edges_from
@@ -32,7 +32,7 @@ module _ (P : paper.Plan) where
   pub cut_step : (k : ℕ) (d : paper.Cut) → k < length P.cuts
       → cuts_from P k (drop k P.cuts) ≡ edges_from P (get_or P.cuts k d) k 0 P.edges (cuts_from P (k + 1) (drop (k + 1) P.cuts))
   unfolding cuts_from
-  cut_step k d h = rw (drop_cons P.cuts k d h, add-one k)
+  cut_step k d h = rw (drop-cons P.cuts k d h, add-one k)
 
   pub cut_end : (k : ℕ) → length P.cuts ≤ k → cuts_from P k (drop k P.cuts) ≡ Nowhere
   unfolding cuts_from

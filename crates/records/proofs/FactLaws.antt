@@ -25,11 +25,11 @@ and_assoc false b c = refl
 
 -- ---- the first m entries from place i on
 
-drop_cons : (xs : List ℕ) (m i : ℕ) → i < m → m ≤ length xs → drop i (take m xs) ≡ get_or xs i 0 ∷ drop (suc i) (take m xs)
-drop_cons [] m i h l = absurd (omega arith)
-drop_cons (x ∷ xs) zero i h l = absurd (not-suc-le-zero h)
-drop_cons (x ∷ xs) (suc m) zero h l = refl
-drop_cons (x ∷ xs) (suc m) (suc i) h l = drop_cons xs m i (le_of_suc-le-suc h) (le_of_suc-le-suc l)
+drop-cons : (xs : List ℕ) (m i : ℕ) → i < m → m ≤ length xs → drop i (take m xs) ≡ get_or xs i 0 ∷ drop (suc i) (take m xs)
+drop-cons [] m i h l = absurd (omega arith)
+drop-cons (x ∷ xs) zero i h l = absurd (not-suc-le-zero h)
+drop-cons (x ∷ xs) (suc m) zero h l = refl
+drop-cons (x ∷ xs) (suc m) (suc i) h l = drop-cons xs m i (le_of_suc-le-suc h) (le_of_suc-le-suc l)
 
 drop-none : (xs : List ℕ) (m i : ℕ) → m ≤ i → drop i (take m xs) ≡ []
 drop-none [] zero zero h = refl
@@ -46,22 +46,22 @@ drop-none (x ∷ xs) (suc m) (suc i) h = drop-none xs m i (le_of_suc-le-suc h)
 module _ (a b : List ℕ) (m n i : ℕ) (la : m ≤ length a) (lb : n ≤ length b) where
   pub lex_short : i < m → n ≤ i → false ≡ lex_less (drop i (take m a)) (drop i (take n b))
   unfolding lex_less
-  lex_short h k = rw (drop_cons a m i h la, drop-none b n i k)
+  lex_short h k = rw (drop-cons a m i h la, drop-none b n i k)
 
   pub lex_differ : i < m → i < n → (get_or a i 0 ≡ get_or b i 0 → ⊥) → ltb (get_or a i 0) (get_or b i 0) ≡ lex_less (drop i (take m a)) (drop i (take n b))
   unfolding lex_less
-  lex_differ h k e = rw (drop_cons a m i h la, drop_cons b n i k lb, ne_eqb (get_or a i 0) (get_or b i 0) e)
+  lex_differ h k e = rw (drop-cons a m i h la, drop-cons b n i k lb, ne_eqb (get_or a i 0) (get_or b i 0) e)
 
   pub lex_same : i < m → i < n → get_or a i 0 ≡ get_or b i 0 → lex_less (drop (i + 1) (take m a)) (drop (i + 1) (take n b)) ≡ lex_less (drop i (take m a)) (drop i (take n b))
   unfolding lex_less
-  lex_same h k e = rw (add-one i, drop_cons a m i h la, drop_cons b n i k lb, eq-eqb (get_or a i 0) (get_or b i 0) e)
+  lex_same h k e = rw (add-one i, drop-cons a m i h la, drop-cons b n i k lb, eq-eqb (get_or a i 0) (get_or b i 0) e)
 
   pub lex_end : m ≡ i → i ≤ n → ltb m n ≡ lex_less (drop i (take m a)) (drop i (take n b))
   unfolding lex_less
   lex_end h k = pick (ltb m n) refl
     where
       pick : (t : Bool) → ltb m n ≡ t → ltb m n ≡ lex_less (drop i (take m a)) (drop i (take n b))
-      pick true e = let l = borrow.Author.Tests.ltb-true m n e in rw (e, drop-none a m i (omega (arith, h)), drop_cons b n i (omega (arith, h, l)) lb)
+      pick true e = let l = borrow.Author.Tests.ltb-true m n e in rw (e, drop-none a m i (omega (arith, h)), drop-cons b n i (omega (arith, h, l)) lb)
       pick false e = let l = borrow.Author.Tests.ltb-false m n e in rw (e, drop-none a m i (omega (arith, h)), drop-none b n i (omega (arith, h, l)))
 
 -- ---- a fact more

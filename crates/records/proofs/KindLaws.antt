@@ -1,6 +1,6 @@
 -- Each kind of record in the plan: what one more of them changes and what is wrong with it.
 use mathlib.Core.Path.{◌≡◌, refl, sym, ap, ap₂, ◌∙◌}
-use mathlib.Core.Bool.{Bool, true, false, ◌&&◌, ◌||◌, not, cond, or_false}
+use mathlib.Core.Bool.{Bool, true, false, ◌&&◌, ◌||◌, not, cond, or-false}
 use mathlib.Core.List.{List, [], ◌∷◌, ◌++◌, map}
 use Prim.Native.Nat.{ℕ, zero, suc, ◌+◌, ◌-◌, ◌/◌, ◌%◌, ◌^◌, ◌≤◌, ◌<◌}
 use native.Mathlib.Nat.{mod-lt, zero-lt-suc}
@@ -108,7 +108,7 @@ pub record Plain {F : Type 0} (R : Reading F) {A : Type 0} (K limit : ℕ) (fits
       → R.judge (raw K b vs) (put a xs) ≡ cond (ltb limit (length xs)) 2 (cond (fits b && headed) 0 3)
 
 pub one_more : {A : Type 0} (limit : ℕ) (fits : Bool) (xs : List A) (x : A) → cond (ltb limit (length (xs ++ (x ∷ [])))) 2 (cond fits 0 3) ≡ judgement (length xs) limit fits
-one_more limit fits xs x = rw (length_more xs x, past limit (length xs), or_false (leb limit (length xs)))
+one_more limit fits xs x = rw (length_more xs x, past limit (length xs), or-false (leb limit (length xs)))
 
 abbrev pub plain_kind : {F : Type 0} {R : Reading F} {A : Type 0} {K limit : ℕ} {fits : ℕ → Bool} {put : F → List A → F} {make : Raw → A} → Plain R K limit fits put make → Kind R A
 plain_kind {K = K} {limit = limit} {fits = fits} {put = put} {make = make} p = record {
@@ -131,7 +131,7 @@ once x = paper.decided_once x.decisions
 -- what a plan that was clean before is judged by
 clean_judges : {headed : Bool} {P : Plan} → Clean headed P → (t f : Bool)
     → ◌≡◌ {A = ℕ} (cond (t || ltb 16 (paper.unresolved P.cuts)) 2 (cond (not f || eqb (length P.headings) 0) 3 (cond (paper.facts_rise P.facts && all_of once P.cuts) 0 5))) (cond t 2 (cond (f && headed) 0 3))
-clean_judges {headed = headed} c t f = rw (c.few, c.heads, c.rise, c.once, or_false t) (plain t f headed 0)
+clean_judges {headed = headed} c t f = rw (c.few, c.heads, c.rise, c.once, or-false t) (plain t f headed 0)
 
 pub node_plain : Plain plan_reading 3 256 single with_nodes paper.node_from
 unfolding add_to_plan judge_plan plan_formats plan_counts

@@ -7,7 +7,7 @@ use native.Mathlib.Nat.{le_of_suc-le-suc, not-suc-le-zero, min-zero, zero-min, s
 use native.Mathlib.Numerals.{add-one}
 use native.Mathlib.Omega.{arith}
 use lib.ListN.{length, get_or, take, drop, length-map, length-take, drop_of_length-le, get_or-append}
-use lib.Seq.{drop_cons, get_or-take, get_or-append-add}
+use lib.Seq.{drop-cons, get_or-take, get_or-append-add}
 use Rattle.sets.specs.paper.Sets.{all_of, any_of}
 use Rattle.records.specs.paper.Fields.{Verdict, refused, first_fault}
 
@@ -29,7 +29,7 @@ take_min n m xs e = subst (λ (k : ℕ). take (min n k) xs ≡ take n xs) e (go 
 
 pub all_cons : {A : Type 0} (f : A → Bool) (l : List A) (i : ℕ) (d : A) → i < length l → all_of f (drop i l) ≡ (f (get_or l i d) && all_of f (drop (i + 1) l))
 unfolding all_of
-all_cons f l i d h = rw (drop_cons l i d h, add-one)
+all_cons f l i d h = rw (drop-cons l i d h, add-one)
 
 pub all_end : {A : Type 0} (f : A → Bool) (l : List A) (i : ℕ) → length l ≤ i → all_of f (drop i l) ≡ true
 unfolding all_of
@@ -78,11 +78,11 @@ pub fault_goes : {A : Type 0} (at : ℕ) (fs : List ℕ) (i : ℕ) (v R : Verdic
 unfolding first_fault
 fault_goes at fs i v R h t e =
     let s : at + (i + 1) ≡ at + i + 1 = omega arith in
-    rw (s, add-one i) (sym (rw (drop_cons fs i 0 h, ← t)) ∙ e)
+    rw (s, add-one i) (sym (rw (drop-cons fs i 0 h, ← t)) ∙ e)
 
 pub fault_stops : {A : Type 0} (at : ℕ) (fs : List ℕ) (i n : ℕ) (v R : Verdict A) → i < length fs → suc n ≡ get_or fs i 0 → first_fault (at + i) (drop i fs) v ≡ R → refused (suc n) (at + i) ≡ R
 unfolding first_fault
-fault_stops at fs i n v R h t e = sym (rw (drop_cons fs i 0 h, ← t)) ∙ e
+fault_stops at fs i n v R h t e = sym (rw (drop-cons fs i 0 h, ← t)) ∙ e
 
 pub fault-ends : {A : Type 0} (at : ℕ) (fs : List ℕ) (i : ℕ) (v R : Verdict A) → length fs ≤ i → first_fault (at + i) (drop i fs) v ≡ R → v ≡ R
 unfolding first_fault

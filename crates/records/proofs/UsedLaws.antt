@@ -5,14 +5,14 @@ use mathlib.Core.List.{append_assoc, List, [], ◌∷◌, ◌++◌, flat_map}
 use native.Mathlib.Numerals.{add-one}
 use native.Mathlib.Omega.{arith}
 use lib.ListN.{length, get_or, take, drop, length-take, drop_of_length-le}
-use lib.Seq.{drop_cons, get_or-take}
+use lib.Seq.{drop-cons, get_or-take}
 use Rattle.sets.specs.paper.Sets.{All}
 use Rattle.sets.proofs.LoopLaws.{all_at}
 use Rattle.records.proofs.ListLaws.{take_min}
 
 -- what is left of a list, in the code's i + 1
 pub rest-next : {A : Type 0} (xs : List A) (i : ℕ) (d : A) → i < length xs → drop i xs ≡ get_or xs i d ∷ drop (i + 1) xs
-rest-next xs i d h = drop_cons xs i d h ∙ ap (λ (k : ℕ). get_or xs i d ∷ drop k xs) (sym (add-one i))
+rest-next xs i d h = drop-cons xs i d h ∙ ap (λ (k : ℕ). get_or xs i d ∷ drop k xs) (sym (add-one i))
 
 -- ---- the entries in use: n of them, as many as the count says and no more than there are
 

@@ -1,6 +1,6 @@
 -- Events as bytes: written one by one into a lent buffer, for the numbers of a set, and set after set.
 use mathlib.Core.Path.{◌≡◌, refl, sym, ap, ap₂, ◌∙◌, subst}
-use mathlib.Core.Bool.{Bool, true, false, cond, ◌||◌, or_true}
+use mathlib.Core.Bool.{Bool, true, false, cond, ◌||◌, or-true}
 use mathlib.Core.Logic.{⊎_elim}
 use mathlib.Core.List.{List, [], ◌∷◌, ◌++◌, append_assoc, append-nil, flat_map, map}
 use Prim.Native.Nat.{ℕ, zero, suc, ◌+◌, ◌-◌, ◌*◌, ◌/◌, ◌%◌, ◌^◌, ◌≤◌, ◌<◌}
@@ -11,7 +11,7 @@ use lib.Dec.{eqb}
 use lib.Arith.{lt-one}
 use lib.Bits.{bit_and}
 use lib.ListN.{length, get_or, set, take, drop, take-append-drop, length-append, length-drop, length-map, drop_of_length-le}
-use lib.Seq.{drop_cons, take-suc, set_at, length-take-le, append_snoc, take_at, take_all, drop-append-add, drop-drop}
+use lib.Seq.{drop-cons, take-suc, set_at, length-take-le, append_snoc, take_at, take_all, drop-append-add, drop-drop}
 use borrow.Author.Tests.{eq-eqb}
 use borrow.Rule.Slice.PartMut.{put_mid}
 use Rattle.sets.specs.paper.Sets.{odd, has, size, lowest, when, members, members_from, numbers}
@@ -42,7 +42,7 @@ use Rattle.report.specs.code.EventBytes.{Below, Writes, sizes}
 -- one byte more is copied
 pub copied : (e d : List ℕ) (i : ℕ) → i < length e → i < length d → set (take i e ++ drop i d) i (get_or e i 0) ≡ take (i + 1) e ++ drop (i + 1) d
 copied e d i he hd =
-    rw (drop_cons d i 0 hd, set_at (take i e) (get_or d i 0) (drop (suc i) d) (get_or e i 0) i (length-take-le i e (omega arith)), add-one, take-suc e i 0 he)
+    rw (drop-cons d i 0 hd, set_at (take i e) (get_or d i 0) (drop (suc i) d) (get_or e i 0) i (length-take-le i e (omega arith)), add-one, take-suc e i 0 he)
     (sym (append_snoc (take i e) (get_or e i 0) (drop (suc i) d)))
 
 pub copied_long : (e d : List ℕ) (i : ℕ) → i ≤ length e → i ≤ length d → length (take i e ++ drop i d) ≡ length d
@@ -135,7 +135,7 @@ module _ {X : Type 0} (f : X → ℕ → List ℕ) (at all : ℕ) (before : List
       let s : size m ≡ suc (size r) = sym (members-length m) ∙ ap length o.0 ∙ ap suc (members-length r) in
       let left = turn_has m r t w.fits e o in record {
         fits = lt_trans o.1 w.fits;
-        within = λ i h. w.within i (left i ∙ ap (λ (b : Bool). eqb t i || b) h ∙ or_true (eqb t i));
+        within = λ i h. w.within i (left i ∙ ap (λ (b : Bool). eqb t i || b) h ∙ or-true (eqb t i));
         long = ap length x ∙ over-long place event_length vs after l h ∙ w.long;
         room = omega (arith, w.room);
         same = λ u.

@@ -197,11 +197,11 @@ unfolding view
 view-small P w p = small_by (has (marked w.marks) p) (has w.marks.overlap p) _ _ _ (role-small w p)
 
 union-none : (c : ℕ) → union c 0 ≡ c
-union-none c = ext (union c 0) c (λ p. has-union c 0 p ∙ ap (λ (b : Bool). has c p || b) (has-none p) ∙ or_false (has c p))
+union-none c = ext (union c 0) c (λ p. has-union c 0 p ∙ ap (λ (b : Bool). has c p || b) (has-none p) ∙ or-false (has c p))
   where
-    or_false : (b : Bool) → (b || false) ≡ b
-    or_false true = refl
-    or_false false = refl
+    or-false : (b : Bool) → (b || false) ≡ b
+    or-false true = refl
+    or-false false = refl
 
 -- with nothing open
 abbrev closed : Influence

@@ -5,7 +5,7 @@ use Prim.Native.Nat.{ℕ, zero, suc, ◌+◌, ◌-◌, ◌*◌, ◌≤◌, ◌<�
 use native.Mathlib.Nat.{zero-add}
 use native.Mathlib.Omega.{arith}
 use lib.ListN.{length, get_or, set, take, drop, take-append-drop, length-append, length-take, length-map, length-set, drop_of_length-le}
-use lib.Seq.{drop_cons, drop-drop, drop-set-lt, take-set-le, take-take, get_or-set_same, get_or-take, take_at, drop_at, length-take-le}
+use lib.Seq.{drop-cons, drop-drop, drop-set-lt, take-set-le, take-take, get_or-set_same, get_or-take, take_at, drop_at, length-take-le}
 use Rattle.sets.specs.paper.Sets.{has, size, members, numbers}
 use Rattle.sets.proofs.MemberLaws.{members-length}
 use Rattle.records.specs.code.Decoded.{plan_of, case_of}
@@ -53,10 +53,10 @@ module _ (n by : ℕ) (before : List ℕ) (room : n + by ≤ length before) wher
         front =
             take-set-le k after (k + by) v (omega arith) ∙ sym (take-take k (suc k) after (omega arith)) ∙ ap (take k) f ∙ take-take k (suc k) before (omega arith);
         back =
-            drop_cons (set after (k + by) v) (k + by) 0 (rw length-set h)
+            drop-cons (set after (k + by) v) (k + by) 0 (rw length-set h)
             ∙ ap₂ (λ (x : ℕ) (xs : List ℕ). x ∷ xs) (get_or-set_same after (k + by) v 0 h ∙ g ∙ sym (get_or-take n before k 0 (omega (arith, s.few))))
             (drop-set-lt (suc (k + by)) after (k + by) v (omega arith) ∙ d)
-            ∙ ap (λ (xs : List ℕ). xs ++ drop (n + by) before) (sym (drop_cons (take n before) k 0 l));
+            ∙ ap (λ (xs : List ℕ). xs ++ drop (n + by) before) (sym (drop-cons (take n before) k 0 l));
       }
 
   pub shifting_next : (i : ℕ) (after : List ℕ) → 0 < i → Shifting n by before i after → Shifting n by before (i - 1) (set after (i - 1 + by) (get_or after (i - 1) 0))

@@ -1,6 +1,6 @@
 -- Laws of a case's heading: the persons of all rules from the list of their sets, and the first of the refusals 8, 9 and 12.
 use mathlib.Core.Path.{◌≡◌, refl, sym, ap, ap₂, ◌∙◌}
-use mathlib.Core.Bool.{Bool, true, false, ◌||◌, not, cond, or_true}
+use mathlib.Core.Bool.{Bool, true, false, ◌||◌, not, cond, or-true}
 use mathlib.Core.List.{List, [], ◌∷◌, ◌++◌, map}
 use Prim.Native.Nat.{ℕ, ◌+◌, ◌*◌, ◌<◌, ◌≤◌, min}
 use native.Mathlib.Omega.{arith}
@@ -78,7 +78,7 @@ module _ (P : Plan) (h : CaseHeading) where
   unfolding mismatched
   no-scope e =
       let a = not (eqb h.relation (relation_of P)) in
-      ap (λ (b : Bool). a || (b || (eqb h.segment 0 || (eqb h.roster 0 || not (subset (rule_persons P) h.roster))))) e ∙ or_true a
+      ap (λ (b : Bool). a || (b || (eqb h.segment 0 || (eqb h.roster 0 || not (subset (rule_persons P) h.roster))))) e ∙ or-true a
 
   pub no-segment : eqb h.segment 0 ≡ true → mismatched P h ≡ true
   unfolding mismatched
@@ -86,7 +86,7 @@ module _ (P : Plan) (h : CaseHeading) where
       let a = not (eqb h.relation (relation_of P)) in
       let s = eqb h.scope 0 in
       ap (λ (b : Bool). a || (s || (b || (eqb h.roster 0 || not (subset (rule_persons P) h.roster))))) e
-      ∙ ap (λ (b : Bool). a || b) (or_true s) ∙ or_true a
+      ∙ ap (λ (b : Bool). a || b) (or-true s) ∙ or-true a
 
   pub no-roster : eqb h.roster 0 ≡ true → mismatched P h ≡ true
   unfolding mismatched
@@ -95,7 +95,7 @@ module _ (P : Plan) (h : CaseHeading) where
       let s = eqb h.scope 0 in
       let g = eqb h.segment 0 in
       ap (λ (b : Bool). a || (s || (g || (b || not (subset (rule_persons P) h.roster))))) e
-      ∙ ap (λ (b : Bool). a || (s || b)) (or_true g) ∙ ap (λ (b : Bool). a || b) (or_true s) ∙ or_true a
+      ∙ ap (λ (b : Bool). a || (s || b)) (or-true g) ∙ ap (λ (b : Bool). a || b) (or-true s) ∙ or-true a
 
   -- where the first four tests pass, the last decides
   pub by_persons : eqb h.relation (relation_of P) ≡ true → eqb h.scope 0 ≡ false → eqb h.segment 0 ≡ false → eqb h.roster 0 ≡ false

@@ -7,7 +7,7 @@ use Prim.Native.Nat.{ℕ, zero, suc, ◌+◌, ◌-◌, ◌*◌, ◌≤◌, ◌<�
 use native.Mathlib.Omega.{arith}
 use native.Mathlib.Numerals.{add-one}
 use lib.ListN.{length, get_or, take, drop, replicate, length-append, length-drop, take-append-drop, drop_of_length-le}
-use lib.Seq.{drop_cons, take_at, drop_at, take_all, drop-drop, drop-append-add}
+use lib.Seq.{drop-cons, take_at, drop_at, take_all, drop-drop, drop-append-add}
 use lib.Dec.{eqb, ltb}
 use borrow.Author.Tests.{eqb-true, eq-eqb, lt-ltb, le-ltb}
 use borrow.Rule.Slice.PartMut.{put_mid}
@@ -35,13 +35,13 @@ pub tab_take : (s : List ℕ) (j n : ℕ) → j + n ≤ length s → tab s j n �
 tab_take s j zero h = refl
 tab_take s j (suc n) h =
     let k : j < length s = omega arith in
-    rw (drop_cons s j 0 k) (ap (λ (l : List ℕ). get_or s j 0 ∷ l) (tab_take s (suc j) n (omega arith)))
+    rw (drop-cons s j 0 k) (ap (λ (l : List ℕ). get_or s j 0 ∷ l) (tab_take s (suc j) n (omega arith)))
 
 -- one byte of a comparison
 pub order_step : (x y : List ℕ) (i : ℕ) → i < length x → i < length y
     → order (drop i x) (drop i y) ≡ cond (ltb (get_or x i 0) (get_or y i 0)) 0 (cond (ltb (get_or y i 0) (get_or x i 0)) 2 (order (drop (i + 1) x) (drop (i + 1) y)))
 unfolding order
-order_step x y i hx hy = rw (add-one, drop_cons x i 0 hx, drop_cons y i 0 hy)
+order_step x y i hx hy = rw (add-one, drop-cons x i 0 hx, drop-cons y i 0 hy)
 
 -- ---- what a comparison says
 

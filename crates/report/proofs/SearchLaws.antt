@@ -7,7 +7,7 @@ use Prim.Native.Nat.{ℕ, zero, suc, ◌+◌, ◌-◌, ◌*◌, ◌≤◌, ◌<�
 use native.Mathlib.Nat.{le_of_suc-le-suc, not-suc-le-zero}
 use native.Mathlib.Omega.{arith}
 use lib.ListN.{length, get_or, set, take, drop, length-append, length-drop, length-set}
-use lib.Seq.{drop_cons, length-take-le, take_at, drop_at, take-take, drop-drop, get_or-take, take-set-le, set_split}
+use lib.Seq.{drop-cons, length-take-le, take_at, drop_at, take-take, drop-drop, get_or-take, take-set-le, set_split}
 use lib.Dec.{eqb, ltb}
 use borrow.Author.Tests.{eq-eqb, ne_eqb, lt-ltb, le-ltb}
 use Rattle.sets.specs.paper.Sets.{lex_less, any_of, All}
@@ -84,7 +84,7 @@ moved-one end i s₀ s p l room m =
     from_one : (j i end : ℕ) (x : List ℕ) → suc j ≡ i → i ≤ end → j < length x → take (end - j) (drop j x) ≡ get_or x j 0 ∷ take (end - i) (drop i x)
     from_one j i end x e l h =
         let n : end - j ≡ suc (end - i) = omega arith in
-        rw (n, drop_cons x j 0 h) (ap (λ (m : ℕ). get_or x j 0 ∷ take (end - i) (drop m x)) e)
+        rw (n, drop-cons x j 0 h) (ap (λ (m : ℕ). get_or x j 0 ∷ take (end - i) (drop m x)) e)
 
 -- ---- the first events of a buffer, and those behind them
 

@@ -1,13 +1,13 @@
 -- Bytes written into a lent buffer, one by one and line after line for the persons of a set; and what each kind of line says of the sums.
 use mathlib.Core.Path.{◌≡◌, refl, sym, ap, ap₂, ◌∙◌}
-use mathlib.Core.Bool.{Bool, true, false, ◌||◌, not, cond, or_true, not-not}
+use mathlib.Core.Bool.{Bool, true, false, ◌||◌, not, cond, or-true, not-not}
 use mathlib.Core.List.{List, [], ◌∷◌, ◌++◌, append_assoc, append-nil, flat_map}
 use Prim.Native.Nat.{ℕ, zero, suc, ◌+◌, ◌-◌, ◌*◌, ◌%◌, ◌^◌, ◌≤◌, ◌<◌}
 use native.Mathlib.Nat.{lt_trans, mod-eq_of_lt}
 use native.Mathlib.Numerals.{add-one}
 use native.Mathlib.Omega.{arith}
 use lib.ListN.{length, get_or, set, take, drop, length-append, length-take, length-drop, drop_of_length-le}
-use lib.Seq.{drop_cons, take-suc, set_at, length-take-le, append_snoc, take_at, drop_at, take_all, drop-drop}
+use lib.Seq.{drop-cons, take-suc, set_at, length-take-le, append_snoc, take_at, drop_at, take_all, drop-drop}
 use lib.Dec.{eqb}
 use lib.Bits.{bit_and}
 use lib.Pow.{pow_pos}
@@ -31,7 +31,7 @@ use Rattle.report.specs.code.Written.{LineBy}
 -- one byte more is copied
 pub copied : (e d : List ℕ) (i : ℕ) → i < length e → i < length d → set (take i e ++ drop i d) i (get_or e i 0) ≡ take (i + 1) e ++ drop (i + 1) d
 copied e d i he hd =
-    rw (drop_cons d i 0 hd, set_at (take i e) (get_or d i 0) (drop (suc i) d) (get_or e i 0) i (length-take-le i e (omega arith)), add-one, take-suc e i 0 he)
+    rw (drop-cons d i 0 hd, set_at (take i e) (get_or d i 0) (drop (suc i) d) (get_or e i 0) i (length-take-le i e (omega arith)), add-one, take-suc e i 0 he)
     (sym (append_snoc (take i e) (get_or e i 0) (drop (suc i) d)))
 
 pub copied_long : (e d : List ℕ) (i : ℕ) → i ≤ length e → i ≤ length d → length (take i e ++ drop i d) ≡ length d
@@ -68,7 +68,7 @@ flat_last line ps p = flat_append line ps (p ∷ []) ∙ ap (λ (l : List ℕ). 
 listed : (ps : List ℕ) (p : ℕ) (qs : List ℕ) → any_of (λ (x : ℕ). eqb x p) (ps ++ (p ∷ qs)) ≡ true
 unfolding any_of
 listed [] p qs = ap (λ (b : Bool). b || any_of (λ (x : ℕ). eqb x p) qs) (eq-eqb p p refl)
-listed (q ∷ ps) p qs = ap (λ (b : Bool). eqb q p || b) (listed ps p qs) ∙ or_true (eqb q p)
+listed (q ∷ ps) p qs = ap (λ (b : Bool). eqb q p || b) (listed ps p qs) ∙ or-true (eqb q p)
 
 -- each x gives a line of `line_length` bytes for every person; without an x the buffer still keeps its length
 module _ {X : Type 0} (line : X → ℕ → List ℕ) (persons : ℕ) where

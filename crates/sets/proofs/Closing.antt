@@ -8,7 +8,7 @@ use native.Mathlib.Nat.{le_refl}
 use native.Mathlib.Omega.{arith}
 use lib.ListN.{length, get_or, drop}
 use lib.Bits.{bit_and, bit_or}
-use lib.Seq.{drop_cons}
+use lib.Seq.{drop-cons}
 use native.Mathlib.Numerals.{add-one}
 use lib.Dec.{eqb}
 use borrow.Author.Tests.{eqb-true, eqb-false, eq-eqb, ne_eqb}
@@ -372,7 +372,7 @@ absorb_or s m n = absorb-meets s m (ne_eqb (bit_and s m) 0 n)
 -- one group more, at the code's i + 1
 pub pass_step : (ss : List ℕ) (i m : ℕ) → i < length ss → pass (drop i ss) m ≡ pass (drop (i + 1) ss) (absorb (get_or ss i 0) m)
 unfolding pass
-pass_step ss i m h = ap (λ (l : List ℕ). pass l m) (drop_cons ss i 0 h) ∙ ap (λ (k : ℕ). pass (drop k ss) (absorb (get_or ss i 0) m)) (sym (add-one i))
+pass_step ss i m h = ap (λ (l : List ℕ). pass l m) (drop-cons ss i 0 h) ∙ ap (λ (k : ℕ). pass (drop k ss) (absorb (get_or ss i 0) m)) (sym (add-one i))
 
 pub pass_end : (ss : List ℕ) (i m : ℕ) → length ss ≤ i → pass (drop i ss) m ≡ m
 unfolding pass

@@ -1,6 +1,6 @@
 -- Sets seen from a circle C of persons: inside it, outside it, alike in it; and loops and closings over such sets.
 use mathlib.Core.Path.{◌≡◌, refl, sym, ap, ap₂, ◌∙◌, subst}
-use mathlib.Core.Bool.{Bool, true, false, ◌&&◌, ◌||◌, not, cond, or_false, not-not, true≢false}
+use mathlib.Core.Bool.{Bool, true, false, ◌&&◌, ◌||◌, not, cond, or-false, not-not, true≢false}
 use mathlib.Core.Logic.{◌⊎◌, inl, inr}
 use mathlib.Core.List.{List, [], ◌∷◌, ◌++◌, map}
 use Prim.Native.Nat.{ℕ, zero, suc, ◌+◌, ◌<◌, ◌≤◌}
@@ -140,7 +140,7 @@ module _ (C : ℕ → Bool) where
 
   -- what is added outside does not show
   pub agree_frame : {a b x : ℕ} → Agree C a b → Outside C x → Agree C (union a x) b
-  agree_frame {a} {b} {x} h o = record { at = λ q e. has-union a x q ∙ ap₂ ◌||◌ (h.at q e) (out-not q o e) ∙ or_false (has b q) }
+  agree_frame {a} {b} {x} h o = record { at = λ q e. has-union a x q ∙ ap₂ ◌||◌ (h.at q e) (out-not q o e) ∙ or-false (has b q) }
 
   -- ---- tests of two sets
 

@@ -1,7 +1,7 @@
 -- A mask built by a test of each number.
 use Prim.Native.Nat.{ℕ, zero, suc, ◌+◌, ◌≤◌, ◌<◌}
 use mathlib.Core.Path.{◌≡◌, refl, sym, ap, ap₂, ◌∙◌}
-use mathlib.Core.Bool.{Bool, true, false, ◌&&◌, ◌||◌, or_false}
+use mathlib.Core.Bool.{Bool, true, false, ◌&&◌, ◌||◌, or-false}
 use mathlib.Core.Logic.{◌⊎◌, ⊎_elim}
 use native.Mathlib.Nat.{not-suc-le-zero, le_of_suc-le-suc, eq-or-lt_of_le}
 use native.Mathlib.Numerals.{add-one}
@@ -55,7 +55,7 @@ module _ (b : ℕ → Bool) where
   has_built (suc n) p h =
       has-union (built n) (only (b n) (one n)) p
       ∙ ⊎_elim (λ e. ap (λ (q : ℕ). has (built n) q || has (only (b n) (one n)) q) e ∙ ap₂ ◌||◌ (past n n (omega arith)) (itself n) ∙ ap b (sym e))
-      (λ l. ap₂ ◌||◌ (has_built n p l) (other n p (λ e. absurd (omega arith))) ∙ or_false (b p))
+      (λ l. ap₂ ◌||◌ (has_built n p l) (other n p (λ e. absurd (omega arith))) ∙ or-false (b p))
       (eq-or-lt_of_le (le_of_suc-le-suc h))
 
   pub built_has : (n p : ℕ) → has (built n) p ≡ (ltb p n && b p)

@@ -220,9 +220,9 @@ in_minus a b p e k = has-minus a b p ∙ ap₂ (λ (x y : Bool). x && not y) e k
 pub of_minus : (a b p : ℕ) → has (minus a b) p ≡ true → (has a p ≡ true) × (has b p ≡ false)
 of_minus a b p e = and-not-parts (has a p) (has b p) (sym (has-minus a b p) ∙ e)
 
-or_true : (x : Bool) → (x || true) ≡ true
-or_true true = refl
-or_true false = refl
+or-true : (x : Bool) → (x || true) ≡ true
+or-true true = refl
+or-true false = refl
 
 pub or_parts : (x y : Bool) → (x || y) ≡ true → (x ≡ true) ⊎ (y ≡ true)
 or_parts true y e = inl refl
@@ -232,7 +232,7 @@ pub in_union_l : (a b : ℕ) → Within a (union a b)
 in_union_l a b = record { at = λ p e. has-union a b p ∙ ap (λ (x : Bool). x || has b p) e }
 
 pub in_union_r : (a b : ℕ) → Within b (union a b)
-in_union_r a b = record { at = λ p e. has-union a b p ∙ ap (λ (y : Bool). has a p || y) e ∙ or_true (has a p) }
+in_union_r a b = record { at = λ p e. has-union a b p ∙ ap (λ (y : Bool). has a p || y) e ∙ or-true (has a p) }
 
 pub of_union : (a b p : ℕ) → has (union a b) p ≡ true → (has a p ≡ true) ⊎ (has b p ≡ true)
 of_union a b p e = or_parts (has a p) (has b p) (sym (has-union a b p) ∙ e)

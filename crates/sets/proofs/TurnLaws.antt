@@ -1,6 +1,6 @@
 -- The numbers of a set one by one, lowest first, and what a turn of a loop over them finds.
 use mathlib.Core.Path.{◌≡◌, refl, sym, ap, ap₂, ◌∙◌}
-use mathlib.Core.Bool.{Bool, true, false, not, ◌&&◌, ◌||◌, and_self, and-true, and-false, or_true, or_false, false≢true}
+use mathlib.Core.Bool.{Bool, true, false, not, ◌&&◌, ◌||◌, and_self, and-true, and-false, or-true, or-false, false≢true}
 use mathlib.Core.Logic.{◌⊎◌, inl, inr, ⊎_elim}
 use mathlib.Core.List.{List, [], ◌∷◌}
 use Prim.Native.Nat.{ℕ, zero, suc, ◌+◌, ◌-◌, ◌*◌, ◌/◌, ◌%◌, ◌^◌, ◌<◌, min}
@@ -164,7 +164,7 @@ list_find f (x ∷ xs) q e = pick (of_union (f x) (union_of f xs) q e) (list_fin
     pick (inl h) ih = (x, ap (λ (b : Bool). b || any_of (λ (y : ℕ). eqb y x) xs) (eq-eqb x x refl), h)
     pick (inr h) ih =
         let r = ih h in
-        (r.0, ap (λ (b : Bool). eqb x r.0 || b) r.1 ∙ or_true (eqb x r.0), r.2)
+        (r.0, ap (λ (b : Bool). eqb x r.0 || b) r.1 ∙ or-true (eqb x r.0), r.2)
 
 list_in : (f : ℕ → ℕ) (xs : List ℕ) (i q : ℕ) → any_of (λ (x : ℕ). eqb x i) xs ≡ true → has (f i) q ≡ true → has (union_of f xs) q ≡ true
 unfolding union_of any_of
@@ -199,7 +199,7 @@ found_in f m r t found h k i =
         ap (λ (b : Bool). (has found i || b) || (has r i && f i)) e ∙ all (has found i) (has r i && f i)
         ∙ sym (ap₂ (λ (x y : Bool). has found i || (x && y)) (h i ∙ ap (λ (b : Bool). b || has r i) e) (ap f (sym (eqb-true t i e)) ∙ k))
     pick false e =
-        ap (λ (b : Bool). (has found i || b) || (has r i && f i)) e ∙ ap (λ (b : Bool). b || (has r i && f i)) (or_false (has found i))
+        ap (λ (b : Bool). (has found i || b) || (has r i && f i)) e ∙ ap (λ (b : Bool). b || (has r i && f i)) (or-false (has found i))
         ∙ sym (ap (λ (b : Bool). has found i || (b && f i)) (h i ∙ ap (λ (b : Bool). b || has r i) e))
 
 pub found_out : (f : ℕ → Bool) (m r t found : ℕ) → ((i : ℕ) → has m i ≡ (eqb t i || has r i)) → f t ≡ false

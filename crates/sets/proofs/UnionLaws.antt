@@ -1,7 +1,7 @@
 -- Laws of unions over lists.
 use Prim.Native.Nat.{ℕ}
 use mathlib.Core.Path.{◌≡◌, refl, sym, ap, ap₂, ◌∙◌}
-use mathlib.Core.Bool.{Bool, true, false, ◌||◌, or_assoc, or_false, or_self}
+use mathlib.Core.Bool.{Bool, true, false, ◌||◌, or_assoc, or-false, or_self}
 use mathlib.Core.List.{List, [], ◌∷◌, ◌++◌, flat_map}
 use Rattle.sets.specs.paper.Sets.{has, one, union, only, set_of, union_of}
 use Rattle.sets.proofs.SetLaws.{ext, has-union, has-none}
@@ -16,7 +16,7 @@ pub none-union : (a : ℕ) → union 0 a ≡ a
 none-union a = ext (union 0 a) a (λ p. has-union 0 a p ∙ ap (λ (x : Bool). x || has a p) (has-none p))
 
 pub union-none : (a : ℕ) → union a 0 ≡ a
-union-none a = ext (union a 0) a (λ p. has-union a 0 p ∙ ap (λ (x : Bool). has a p || x) (has-none p) ∙ or_false (has a p))
+union-none a = ext (union a 0) a (λ p. has-union a 0 p ∙ ap (λ (x : Bool). has a p || x) (has-none p) ∙ or-false (has a p))
 
 pub union_self : (a : ℕ) → union a a ≡ a
 union_self a = ext (union a a) a (λ p. has-union a a p ∙ or_self (has a p))

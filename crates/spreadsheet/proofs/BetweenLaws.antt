@@ -6,7 +6,7 @@ use Prim.Native.Nat.{ℕ, suc, ◌+◌, ◌-◌, ◌≤◌, ◌<◌}
 use native.Mathlib.Numerals.{add-one}
 use native.Mathlib.Omega.{arith}
 use lib.ListN.{length, get_or}
-use lib.Seq.{drop_cons}
+use lib.Seq.{drop-cons}
 use lib.Dec.{eqb, eqb-suc-zero}
 use Rattle.spreadsheet.specs.code.FieldSeen.{between}
 
@@ -20,7 +20,7 @@ module _ (s : List ℕ) (i to : ℕ) where
   between_cons h g =
       let e : to - i ≡ suc (to - suc i) = omega arith in
       let l : i < length s = omega arith in
-      rw (add-one, drop_cons s i 0 l, e)
+      rw (add-one, drop-cons s i 0 l, e)
 
 pub empty_not : (s : List ℕ) (i to : ℕ) → i < to → to ≤ length s → eqb (length (between s i to)) 0 ≡ false
 empty_not s i to h k = rw (between_cons s i to h k) (eqb-suc-zero (length (between s (i + 1) to)))

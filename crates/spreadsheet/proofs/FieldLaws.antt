@@ -7,7 +7,7 @@ use Prim.Native.Nat.{ℕ, suc, ◌+◌, ◌-◌, ◌≤◌, ◌<◌}
 use native.Mathlib.Omega.{arith}
 use native.Mathlib.Nat.{add-zero}
 use lib.ListN.{length, take, drop, get_or, drop_of_length-le, length-drop}
-use lib.Seq.{drop_cons, get_or-drop, drop-drop}
+use lib.Seq.{drop-cons, get_or-drop, drop-drop}
 use lib.Dec.{eqb}
 use borrow.Author.Tests.{eqb-true, eq-eqb, ne_eqb}
 use Rattle.sets.specs.paper.Sets.{any_of}
@@ -27,11 +27,11 @@ module _ (f : ℕ → Bool) (s : List ℕ) (i : ℕ) where
 
   pub until_stop : i < length s → f (get_or s i 0) ≡ true → until f (drop i s) ≡ 0
   unfolding until
-  until_stop h e = rw (drop_cons s i 0, e)
+  until_stop h e = rw (drop-cons s i 0, e)
 
   pub until-on : i < length s → f (get_or s i 0) ≡ false → until f (drop i s) ≡ suc (until f (drop (suc i) s))
   unfolding until
-  until-on h e = rw (drop_cons s i 0, e)
+  until-on h e = rw (drop-cons s i 0, e)
 
 -- ---- a field without quote, CR and LF
 

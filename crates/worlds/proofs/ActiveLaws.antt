@@ -1,6 +1,6 @@
 -- Activity of rules from the values of nodes, and what of it is the same in two worlds.
 use mathlib.Core.Path.{◌≡◌, refl, sym, ap, ap₂, ◌∙◌}
-use mathlib.Core.Bool.{Bool, true, false, ◌&&◌, ◌||◌, not, and_assoc, and-true, and-false, or_false, false≢true}
+use mathlib.Core.Bool.{Bool, true, false, ◌&&◌, ◌||◌, not, and_assoc, and-true, and-false, or-false, false≢true}
 use mathlib.Core.Logic.{⊎_elim}
 use mathlib.Core.List.{List, []}
 use Prim.Native.Nat.{ℕ, ◌<◌, ◌≤◌}
@@ -42,7 +42,7 @@ split_tells n f g known asked holding s h e i = has-union known holding i ∙ ap
     pick true a =
         let o = s.out i a in
         ap₂ (λ (x y : Bool). x || (y && g i)) o.0 a ∙ e i o.1 ∙ sym (get_or-below n f false i o.1)
-    pick false a = ap (λ (y : Bool). has known i || (y && g i)) a ∙ or_false (has known i) ∙ s.rest i a
+    pick false a = ap (λ (y : Bool). has known i || (y && g i)) a ∙ or-false (has known i) ∙ s.rest i a
 
 module _ (P : Plan) (facts : ℕ) (vs : List Bool) (hold : Valued P facts vs) where
   here : (row node : ℕ) → row ≡ node → node < length P.nodes → on vs row ≡ on (values P facts) node

@@ -1,6 +1,6 @@
 -- Step 7 as the code goes: which attachments are not skipped, whom they move, and the blocks that are left.
 use mathlib.Core.Path.{◌≡◌, refl, sym, ap, ap₂, ◌∙◌, subst}
-use mathlib.Core.Bool.{Bool, true, false, not, cond, ◌&&◌, ◌||◌, and-true, and-false, or_true, or_false, true≢false}
+use mathlib.Core.Bool.{Bool, true, false, not, cond, ◌&&◌, ◌||◌, and-true, and-false, or-true, or-false, true≢false}
 use mathlib.Core.Logic.{⊎_elim}
 use mathlib.Core.List.{List, [], ◌∷◌}
 use Prim.Native.Nat.{ℕ, zero, suc, ◌+◌, ◌/◌, ◌%◌, ◌^◌, ◌≤◌, ◌<◌, zero-le}
@@ -290,7 +290,7 @@ module _ (P : Plan) (roster : ℕ) (named : subset (rule_persons P) roster ≡ t
   pub fold_moved : (n : ℕ) (s : State) → Blocks (minus roster (marked m)) s → (i : ℕ)
       → has (fold_below n (attach P (marked m) a) s).moved i ≡ (has s.moved i || (ltb i n && goes P (minus roster (marked m)) a i))
   unfolding fold_below move
-  fold_moved zero s B i = sym (ap (λ (b : Bool). has s.moved i || (b && goes P unmarked a i)) (le-ltb i 0 zero-le) ∙ or_false (has s.moved i))
+  fold_moved zero s B i = sym (ap (λ (b : Bool). has s.moved i || (b && goes P unmarked a i)) (le-ltb i 0 zero-le) ∙ or-false (has s.moved i))
   fold_moved (suc n) s B i =
       ap (λ (u : State). has u.moved i) (attach_goes P unmarked (marked m) a n t (fold_keeps (Blocks unmarked) step (attach-blocks P roster named fits a m) n s B))
       ∙ by (goes P unmarked a n) (fold_moved n s B i) ∙ one_more (has s.moved i) (ltb i n) (goes P unmarked a i) (goes P unmarked a n) (eqb n i) (λ e. ap (goes P unmarked a) (sym (eqb-true n i e)))
@@ -302,7 +302,7 @@ module _ (P : Plan) (roster : ℕ) (named : subset (rule_persons P) roster ≡ t
       by : (b : Bool) → has t.moved i ≡ (has s.moved i || (ltb i n && goes P unmarked a i))
           → has (cond b (moving P (marked m) n t) t).moved i ≡ ((has s.moved i || (ltb i n && goes P unmarked a i)) || (b && eqb n i))
       by true before = has-union t.moved (one n) i ∙ ap₂ ◌||◌ before (has_one n i)
-      by false before = before ∙ sym (or_false (has s.moved i || (ltb i n && goes P unmarked a i)))
+      by false before = before ∙ sym (or-false (has s.moved i || (ltb i n && goes P unmarked a i)))
 
   -- whom a run over attachments that are not skipped attaches
   over-attached : (xs : List ℕ) (s : State) → Blocks unmarked s → all_of (goes P unmarked a) xs ≡ true
@@ -437,7 +437,7 @@ module _ (m r i : ℕ) (fits : m < 2 ^ 64) (less : r < m) (listed : members m �
   low_in = member_has m r fits less listed i ∙ ap (λ (b : Bool). b || has r i) (eq-eqb (lowest m) i (sym is))
 
   pub rest_in : Within r m
-  rest_in = record { at = λ j h. member_has m r fits less listed j ∙ ap (λ (b : Bool). eqb (lowest m) j || b) h ∙ or_true (eqb (lowest m) j) }
+  rest_in = record { at = λ j h. member_has m r fits less listed j ∙ ap (λ (b : Bool). eqb (lowest m) j || b) h ∙ or-true (eqb (lowest m) j) }
 
   pub listed_at : members m ≡ i ∷ members r
   listed_at = listed ∙ ap (λ (x : ℕ). x ∷ members r) (sym is)

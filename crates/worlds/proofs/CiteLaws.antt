@@ -190,7 +190,7 @@ meets-same blocks live B m r q p turn other = both_ways (meets (minus r b) s) (m
     more : meets (minus r b) s ≡ true → meets m s ≡ true
     more e =
         let w = meets_of (minus r b) s e in
-        meets_in m s w.0 (turn w.0 ∙ ap (λ (x : Bool). eqb q w.0 || x) (of_minus r b w.0 w.1).0 ∙ mathlib.Core.Bool.or_true (eqb q w.0)) w.2
+        meets_in m s w.0 (turn w.0 ∙ ap (λ (x : Bool). eqb q w.0 || x) (of_minus r b w.0 w.1).0 ∙ mathlib.Core.Bool.or-true (eqb q w.0)) w.2
 
     less : meets m s ≡ true → meets (minus r b) s ≡ true
     less e =

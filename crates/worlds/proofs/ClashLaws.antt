@@ -1,6 +1,6 @@
 -- The events of cuts read off the tables: which edge blocks which cut, and which cut overlaps which.
 use mathlib.Core.Path.{◌≡◌, refl, sym, ap, ap₂, ◌∙◌}
-use mathlib.Core.Bool.{Bool, true, false, ◌&&◌, ◌||◌, not, cond, or_false}
+use mathlib.Core.Bool.{Bool, true, false, ◌&&◌, ◌||◌, not, cond, or-false}
 use mathlib.Core.List.{List, [], ◌∷◌}
 use mathlib.Core.Logic.{◌⊎◌, inl, inr}
 use Prim.Native.Nat.{ℕ, ◌<◌}
@@ -35,7 +35,7 @@ noted_added set more test before after N h = record { at = λ c d. ap (λ (m : �
         ap (λ (b : Bool). has (cond b (union (entry before c) (more c)) (entry before c)) d) e ∙ has-union (entry before c) (more c) d
         ∙ ap (λ (b : Bool). has (entry before c) d || b) (sym (ap (λ (b : Bool). b && has (more c) d) e) ∙ h c d)
     pick c d false e =
-        ap (λ (b : Bool). has (cond b (union (entry before c) (more c)) (entry before c)) d) e ∙ sym (or_false (has (entry before c) d))
+        ap (λ (b : Bool). has (cond b (union (entry before c) (more c)) (entry before c)) d) e ∙ sym (or-false (has (entry before c) d))
         ∙ ap (λ (b : Bool). has (entry before c) d || b) (sym (ap (λ (b : Bool). b && has (more c) d) e) ∙ h c d)
 
 lex_self : (xs : List ℕ) → lex_less xs xs ≡ false

@@ -1,6 +1,6 @@
 -- Cuts as blocks, one after another.
 use mathlib.Core.Path.{◌≡◌, refl, sym, ap, ap₂, ◌∙◌}
-use mathlib.Core.Bool.{Bool, true, false, ◌&&◌, ◌||◌, not, cond, and-true, or_true, true≢false}
+use mathlib.Core.Bool.{Bool, true, false, ◌&&◌, ◌||◌, not, cond, and-true, or-true, true≢false}
 use mathlib.Core.List.{List, ◌∷◌}
 use Prim.Native.Nat.{ℕ, ◌<◌, ◌^◌}
 use native.Mathlib.Nat.{lt_trans}
@@ -54,7 +54,7 @@ module _ (table : List ℕ) (cuts placed todo : ℕ) (before blocks : List ℕ) 
   unfolding union_of
   cut_turn t next v rest' after low list less is put less-rest = record {
     few = lt_trans less S.few;
-    within = λ c h. S.within c (todo_is c ∙ ap (λ (b : Bool). eqb t c || b) h ∙ or_true (eqb t c));
+    within = λ c h. S.within c (todo_is c ∙ ap (λ (b : Bool). eqb t c || b) h ∙ or-true (eqb t c));
     left =
         ap (λ (x : ℕ). minus x (union_of part (members next))) (less-rest ∙ ap (minus rest) is) ∙ minus_minus rest (part t) (union_of part (members next))
         ∙ ap (λ (l : List ℕ). minus rest (union_of part l)) (ap (λ (x : ℕ). x ∷ members next) low ∙ sym list) ∙ S.left;

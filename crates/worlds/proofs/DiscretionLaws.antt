@@ -1,6 +1,6 @@
 -- Step 2 on masks is document 01's: the components by the frozen Base edges that are at discretion, and the marks that spread from them.
 use mathlib.Core.Path.{◌≡◌, refl, sym, ap, ap₂, ◌∙◌, subst, fun_ext}
-use mathlib.Core.Bool.{Bool, true, false, ◌&&◌, ◌||◌, not, or_true, false≢true}
+use mathlib.Core.Bool.{Bool, true, false, ◌&&◌, ◌||◌, not, or-true, false≢true}
 use mathlib.Core.Logic.{◌⊎◌, ⊎_elim}
 use mathlib.Core.List.{List, [], ◌∷◌, map}
 use Prim.Native.Nat.{ℕ, zero, suc, ◌^◌, ◌<◌}
@@ -59,7 +59,7 @@ members-closed f es m b h = from (members es) (λ e z. h e (has-members es e b �
   where
     from : (xs : List ℕ) → ((e : ℕ) → any_of (λ (x : ℕ). eqb x e) xs ≡ true → Takes (f e) m) → Closed (map f xs) m
     from [] h = tt
-    from (x ∷ xs) h = (h x (ap (λ (b : Bool). b || any_of (λ (y : ℕ). eqb y x) xs) (eq-eqb x x refl)), from xs (λ e z. h e (ap (λ (b : Bool). eqb x e || b) z ∙ or_true (eqb x e))))
+    from (x ∷ xs) h = (h x (ap (λ (b : Bool). b || any_of (λ (y : ℕ). eqb y x) xs) (eq-eqb x x refl)), from xs (λ e z. h e (ap (λ (b : Bool). eqb x e || b) z ∙ or-true (eqb x e))))
 
 -- a set that comes in only where a test holds
 pub takes_only : (b : Bool) (s m : ℕ) → (b ≡ true → Takes s m) → Takes (only b s) m

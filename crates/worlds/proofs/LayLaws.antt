@@ -1,6 +1,6 @@
 -- One entry laid into the tables of a case, and what a loop that lays entry after entry has laid.
 use mathlib.Core.Path.{◌≡◌, refl, sym, ap, ap₂, ◌∙◌, subst}
-use mathlib.Core.Bool.{Bool, true, false, ◌&&◌, ◌||◌, cond, and-false, or_false, or_true, true≢false}
+use mathlib.Core.Bool.{Bool, true, false, ◌&&◌, ◌||◌, cond, and-false, or-false, or-true, true≢false}
 use mathlib.Core.List.{List, []}
 use mathlib.Core.Logic.{⊎_elim}
 use Prim.Native.Nat.{ℕ, ◌+◌, ◌≤◌, ◌<◌}
@@ -127,10 +127,10 @@ digit-next entry s t u k i c v a e m h x d = pick (eqb c x) refl (eqb i d) refl
     pick : (b : Bool) → eqb c x ≡ b → (o : Bool) → eqb i d ≡ o → has (row u k x) d ≡ (old || (ltb d (i + 1) && is))
     pick true p true q =
         let id = eqb-true i d q in
-        now (eqb-true c x p) ∙ ap (λ (b : Bool). (old || (ltb d i && is)) || b) q ∙ or_true (old || (ltb d i && is))
-        ∙ sym (ap₂ (λ (y z : Bool). old || (y && z)) (lt-ltb d (i + 1) (omega arith)) (ap (λ (j : ℕ). eqb (entry j) x) (sym id) ∙ ap (λ (y : ℕ). eqb y x) m ∙ p) ∙ or_true old)
+        now (eqb-true c x p) ∙ ap (λ (b : Bool). (old || (ltb d i && is)) || b) q ∙ or-true (old || (ltb d i && is))
+        ∙ sym (ap₂ (λ (y z : Bool). old || (y && z)) (lt-ltb d (i + 1) (omega arith)) (ap (λ (j : ℕ). eqb (entry j) x) (sym id) ∙ ap (λ (y : ℕ). eqb y x) m ∙ p) ∙ or-true old)
     pick true p false q =
-        now (eqb-true c x p) ∙ ap (λ (b : Bool). (old || (ltb d i && is)) || b) q ∙ or_false (old || (ltb d i && is))
+        now (eqb-true c x p) ∙ ap (λ (b : Bool). (old || (ltb d i && is)) || b) q ∙ or-false (old || (ltb d i && is))
         ∙ ap (λ (b : Bool). old || (b && is)) (later d i (eqb-false i d q))
     pick false p true q =
         let no : is ≡ false = ap (λ (j : ℕ). eqb (entry j) x) (sym (eqb-true i d q)) ∙ ap (λ (y : ℕ). eqb y x) m ∙ p in

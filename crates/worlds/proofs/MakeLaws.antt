@@ -1,6 +1,6 @@
 -- What the worlds of a case share: sets built number by number, and the tables whole.
 use mathlib.Core.Path.{◌≡◌, refl, sym, ap, ap₂, ◌∙◌, subst}
-use mathlib.Core.Bool.{Bool, true, false, ◌&&◌, ◌||◌, not, cond, or_false, or_true, and-true, and-false, and_assoc, true≢false, beq}
+use mathlib.Core.Bool.{Bool, true, false, ◌&&◌, ◌||◌, not, cond, or-false, or-true, and-true, and-false, and_assoc, true≢false, beq}
 use mathlib.Core.Logic.{◌⊎◌, inl, inr, ⊎_elim}
 use mathlib.Core.List.{List, [], ◌∷◌, ◌++◌}
 use Prim.Native.Nat.{ℕ, zero, suc, ◌+◌, ◌-◌, ◌^◌, ◌≤◌, ◌<◌}
@@ -53,9 +53,9 @@ module _ (f : ℕ → Bool) where
     where
       pick : (b : Bool) → eqb i e ≡ b → (has found e || eqb i e) ≡ (ltb e (i + 1) && f e)
       pick true q =
-          ap (λ (b : Bool). has found e || b) q ∙ or_true (has found e)
+          ap (λ (b : Bool). has found e || b) q ∙ or-true (has found e)
           ∙ sym (ap₂ ◌&&◌ (lt-ltb e (i + 1) (omega (arith, eqb-true i e q))) (ap f (sym (eqb-true i e q)) ∙ k))
-      pick false q = ap (λ (b : Bool). has found e || b) q ∙ or_false (has found e) ∙ h e ∙ ap (λ (b : Bool). b && f e) (same-below i e q)
+      pick false q = ap (λ (b : Bool). has found e || b) q ∙ or-false (has found e) ∙ h e ∙ ap (λ (b : Bool). b && f e) (same-below i e q)
 
   pub upto_out : (i found : ℕ) → f i ≡ false → ((e : ℕ) → has found e ≡ (ltb e i && f e)) → (e : ℕ) → has found e ≡ (ltb e (i + 1) && f e)
   upto_out i found k h e = h e ∙ pick (eqb i e) refl
@@ -269,7 +269,7 @@ pair-meets l r m =
     truths (meets (union (one l) (one r)) m) (has m l || has m r)
     (λ h.
     let w = meets-has (union (one l) (one r)) m h in
-    ⊎_elim (λ k. ap (λ (b : Bool). b || has m r) (there l w.0 k w.2)) (λ k. ap (λ (b : Bool). has m l || b) (there r w.0 k w.2) ∙ or_true (has m l)) (of_union (one l) (one r) w.0 w.1))
+    ⊎_elim (λ k. ap (λ (b : Bool). b || has m r) (there l w.0 k w.2)) (λ k. ap (λ (b : Bool). has m l || b) (there r w.0 k w.2) ∙ or-true (has m l)) (of_union (one l) (one r) w.0 w.1))
     (λ h.
     ⊎_elim (λ k. has-meets (union (one l) (one r)) m l ((in_union_l (one l) (one r)).at l (in_one l)) k)
     (λ k. has-meets (union (one l) (one r)) m r ((in_union_r (one l) (one r)).at r (in_one r)) k) (either (has m l) (has m r) h))

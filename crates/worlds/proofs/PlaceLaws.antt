@@ -1,6 +1,6 @@
 -- Who is placed where before attachments: cuts as blocks and the rest joined by frozen edges are the blocks of step 6; and what a world's state says of a roster person.
 use mathlib.Core.Path.{◌≡◌, refl, sym, ap, ap₂, ◌∙◌, subst}
-use mathlib.Core.Bool.{Bool, true, false, ◌&&◌, ◌||◌, not, cond, and-true, and-false, or_true, true≢false, false≢true}
+use mathlib.Core.Bool.{Bool, true, false, ◌&&◌, ◌||◌, not, cond, and-true, and-false, or-true, true≢false, false≢true}
 use mathlib.Core.Logic.{⊎_elim}
 use mathlib.Core.List.{List, [], ◌∷◌, map}
 use Prim.Native.Nat.{ℕ, zero, suc, ◌+◌, ◌<◌, ◌^◌}
@@ -52,7 +52,7 @@ unfolding any_of
 closed-each f [] n h = tt
 closed-each f (x ∷ xs) n h = (
   h x (ap (λ (b : Bool). b || any_of (λ (y : ℕ). eqb y x) xs) (eq-eqb x x refl)),
-  closed-each f xs n (λ i e. h i (ap (λ (b : Bool). eqb x i || b) e ∙ or_true (eqb x i))),
+  closed-each f xs n (λ i e. h i (ap (λ (b : Bool). eqb x i || b) e ∙ or-true (eqb x i))),
 )
 
 closed-below_at : (n : ℕ) (f : ℕ → ℕ) (m i : ℕ) → Closed (below n f) m → i < n → Takes (f i) m

@@ -1,6 +1,6 @@
 -- Blocks, attachments, bars and statuses of two worlds, seen from a circle in which their rules and marks agree: steps 6 to 8.
 use mathlib.Core.Path.{◌≡◌, refl, sym, ap, ap₂, ◌∙◌, subst}
-use mathlib.Core.Bool.{Bool, true, false, ◌&&◌, ◌||◌, not, cond, and-false, or_false}
+use mathlib.Core.Bool.{Bool, true, false, ◌&&◌, ◌||◌, not, cond, and-false, or-false}
 use mathlib.Core.List.{List}
 use mathlib.Core.Logic.{◌⊎◌, inl, inr}
 use Prim.Native.Nat.{ℕ, ◌<◌, ◌≤◌}
@@ -240,7 +240,7 @@ module _ (C : ℕ → Bool) (P : Plan) (roster : ℕ) (K : Uncrossed C P) (a b :
     where
       go : (x : Bool) → has (cond x (move i (union (block_of s (anchor i)) (movers marks i)) (movers marks i) s) s).moved j ≡ (has s.moved j || (x && eqb i j))
       go true = has-union s.moved (one i) j ∙ ap (λ (x : Bool). has s.moved j || x) (has_one i j)
-      go false = sym (or_false (has s.moved j))
+      go false = sym (or-false (has s.moved j))
 
   abbrev Moved : State → State → Type 0
   Moved s t = Flag C (with_anchor P) (has s.moved) (has t.moved)

@@ -1,7 +1,7 @@
 -- `observations::said_unknown`: a fact was said to be unknown, or is by one of the records left.
 use Prim.Native.Nat.{ℕ, ◌≤◌, ◌<◌, ◌-◌}
 use mathlib.Core.Path.{◌≡◌, sym, ap, ◌∙◌}
-use mathlib.Core.Bool.{Bool, ◌||◌, or_false}
+use mathlib.Core.Bool.{Bool, ◌||◌, or-false}
 use mathlib.Core.List.{map}
 use lib.ListN.{length, take, drop, length-map}
 use borrow.Author.Rules.{rules}
@@ -31,7 +31,7 @@ returns : tie.Need-returns invariant-loop decreases-loop
 returns c = λ f h.
     let l = c.before in
     let a = c.before.before.before.args in
-    sym (ap (λ (b : Bool). has l.loop.m f || b) (said-none a.t1.items a.t1.count f l.loop.i (search rules)) ∙ or_false (has l.loop.m f)) ∙ l.loop.invariant.2 f h
+    sym (ap (λ (b : Bool). has l.loop.m f || b) (said-none a.t1.items a.t1.count f l.loop.i (search rules)) ∙ or-false (has l.loop.m f)) ∙ l.loop.invariant.2 f h
 
 pub said-unknown-spec : {M : Type 1} → statement M
 said-unknown-spec =

@@ -1,6 +1,6 @@
 -- `observations::with_number`: a case for each test.
 use mathlib.Core.Path.{sym, ap, ◌∙◌}
-use mathlib.Core.Bool.{Bool, ◌&&◌, ◌||◌, and-false, or_false, and-true}
+use mathlib.Core.Bool.{Bool, ◌&&◌, ◌||◌, and-false, or-false, and-true}
 use native.Mathlib.Omega.{arith}
 use lib.Dec.{eqb}
 use borrow.Author.Tests.{not-true, not-false, ne_eqb}
@@ -13,12 +13,12 @@ use Rattle.expressions.proofs.observations.with_number.Tie as tie
 returns : tie.Need-returns
 returns c = λ f h.
     let a = c.before.args in
-    sym (ap (λ (b : Bool). has a.m f || (eqb a.number f && b)) (not-true a.said c.if1.true) ∙ ap (λ (b : Bool). has a.m f || b) (and-false (eqb a.number f)) ∙ or_false (has a.m f))
+    sym (ap (λ (b : Bool). has a.m f || (eqb a.number f && b)) (not-true a.said c.if1.true) ∙ ap (λ (b : Bool). has a.m f || b) (and-false (eqb a.number f)) ∙ or-false (has a.m f))
 
 returns-2 : tie.Need-returns-2
 returns-2 c = λ f h.
     let a = c.before.before.args in
-    sym (ap (λ (b : Bool). has a.m f || (b && a.said)) (ne_eqb a.number f (λ q. omega (arith, c.if2.true, h, q))) ∙ or_false (has a.m f))
+    sym (ap (λ (b : Bool). has a.m f || (b && a.said)) (ne_eqb a.number f (λ q. omega (arith, c.if2.true, h, q))) ∙ or-false (has a.m f))
 
 returns-3 : tie.Need-returns-3
 returns-3 c = λ f h.

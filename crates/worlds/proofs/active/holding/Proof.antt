@@ -1,6 +1,6 @@
 -- `active::holding`: what is found, with those of the rules left that hold, is the whole.
 use mathlib.Core.Path.{◌≡◌, sym, ap, ◌∙◌}
-use mathlib.Core.Bool.{Bool, ◌&&◌, ◌||◌, or_false}
+use mathlib.Core.Bool.{Bool, ◌&&◌, ◌||◌, or-false}
 use mathlib.Core.Logic.{⊎_elim}
 use Prim.Native.Nat.{ℕ, ◌<◌, ◌^◌}
 use native.Mathlib.Nat.{lt_trans}
@@ -70,7 +70,7 @@ returns c =
     let s = l.before in
     let h : ℕ → Bool = λ i. on s.args.values.now (entry s.args.conditions.now i) in
     λ i. sym (ap (λ (x : ℕ). has l.loop.found i || (has x i && h i)) c.loop-test.false
-    ∙ ap (λ (b : Bool). has l.loop.found i || (b && h i)) (has-none i) ∙ or_false (has l.loop.found i)) ∙ l.loop.invariant.1 i
+    ∙ ap (λ (b : Bool). has l.loop.found i || (b && h i)) (has-none i) ∙ or-false (has l.loop.found i)) ∙ l.loop.invariant.1 i
 
 pub holding-spec : {M : Type 1} → statement M
 holding-spec =

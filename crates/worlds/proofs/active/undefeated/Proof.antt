@@ -1,6 +1,6 @@
 -- `active::undefeated`: what is found, with those of the edges left that no defeater holds back, is the whole.
 use mathlib.Core.Path.{◌≡◌, sym, ap, ◌∙◌}
-use mathlib.Core.Bool.{Bool, ◌&&◌, ◌||◌, not, or_false}
+use mathlib.Core.Bool.{Bool, ◌&&◌, ◌||◌, not, or-false}
 use mathlib.Core.List.{List, []}
 use mathlib.Core.Logic.{⊎_elim}
 use Prim.Native.Nat.{ℕ, ◌<◌, ◌^◌}
@@ -80,7 +80,7 @@ returns c =
     let s = l.before in
     let h : ℕ → Bool = λ i. free s.args.counts.now s.args.defeaters.now s.args.values.now i in
     λ i. sym (ap (λ (x : ℕ). has l.loop.found i || (has x i && h i)) c.loop-test.false
-    ∙ ap (λ (b : Bool). has l.loop.found i || (b && h i)) (has-none i) ∙ or_false (has l.loop.found i)) ∙ l.loop.invariant.1 i
+    ∙ ap (λ (b : Bool). has l.loop.found i || (b && h i)) (has-none i) ∙ or-false (has l.loop.found i)) ∙ l.loop.invariant.1 i
 
 pub undefeated-spec : {M : Type 1} → statement M
 undefeated-spec =

@@ -1,6 +1,6 @@
 -- `lay::lay_decisions`: after i decisions one row holds the edges of the first i, the other has them at their cuts.
 use mathlib.Core.Path.{◌≡◌, refl, sym, ap, ap₂, ◌∙◌, subst}
-use mathlib.Core.Bool.{Bool, ◌&&◌, ◌||◌, or_false}
+use mathlib.Core.Bool.{Bool, ◌&&◌, ◌||◌, or-false}
 use mathlib.Core.List.{List, [], ◌∷◌}
 use Prim.Native.Nat.{ℕ, ◌+◌, ◌≤◌, ◌<◌, ◌-◌}
 use native.Mathlib.Omega.{arith}
@@ -55,7 +55,7 @@ loop-holds c =
     let u = c.args.t2 in (
       search rules,
       each_none _ _ _ _ _,
-      λ x d. sym (ap (λ (b : Bool). has (row c.args.t.now 9 x) d || (b && eqb (get_or (opens_of u) d none).cut x)) (le-ltb d 0 (omega arith)) ∙ or_false (has (row c.args.t.now 9 x) d)),
+      λ x d. sym (ap (λ (b : Bool). has (row c.args.t.now 9 x) d || (b && eqb (get_or (opens_of u) d none).cut x)) (le-ltb d 0 (omega arith)) ∙ or-false (has (row c.args.t.now 9 x) d)),
       same_start _ _,
     )
 

@@ -1,6 +1,6 @@
 -- `lay::said_blocked`: what is found are the edges on which one of the decisions passed says blocked; past the array there is no verdict.
 use mathlib.Core.Path.{◌≡◌, sym, ap, ap₂, ◌∙◌}
-use mathlib.Core.Bool.{Bool, ◌&&◌, ◌||◌, and-true, or_false}
+use mathlib.Core.Bool.{Bool, ◌&&◌, ◌||◌, and-true, or-false}
 use mathlib.Core.Logic.{⊎_elim}
 use Prim.Native.Nat.{ℕ, ◌+◌, ◌≤◌, ◌<◌, ◌-◌, min}
 use native.Mathlib.Omega.{arith}
@@ -61,7 +61,7 @@ loop-again c =
           (λ w. ap (λ (m : ℕ). has m e) (w.2 ∙ ap (union l.loop.found) w.1.ensures) ∙ has-union l.loop.found (one edge) e
           ∙ ap₂ ◌||◌ (l.loop.invariant.1 e) (has_one edge e ∙ sym (ap (λ (b : Bool). eqb edge e && b) (eq-eqb verdict 1 w.0.taken) ∙ and-true (eqb edge e))))
           (λ w. ap (λ (m : ℕ). has m e) w.1 ∙ l.loop.invariant.1 e
-          ∙ sym (ap (λ (b : Bool). any_of (blocked e) (below l.loop.i (given d)) || b) (other_verdict edge e verdict 1 w.0.left) ∙ or_false (any_of (blocked e) (below l.loop.i (given d)))))
+          ∙ sym (ap (λ (b : Bool). any_of (blocked e) (below l.loop.i (given d)) || b) (other_verdict edge e verdict 1 w.0.left) ∙ or-false (any_of (blocked e) (below l.loop.i (given d)))))
           c.if1.branch ∙ sym (any_more (blocked e) (given d) l.loop.i),
     )
 

@@ -1,6 +1,6 @@
 -- `over::meeting`: what is found, with those of the numbers left that meet the set, is the whole.
 use mathlib.Core.Path.{◌≡◌, sym, ap, ◌∙◌}
-use mathlib.Core.Bool.{Bool, ◌&&◌, ◌||◌, or_false}
+use mathlib.Core.Bool.{Bool, ◌&&◌, ◌||◌, or-false}
 use mathlib.Core.Logic.{⊎_elim}
 use Prim.Native.Nat.{ℕ, ◌<◌, ◌^◌}
 use native.Mathlib.Nat.{lt_trans}
@@ -65,7 +65,7 @@ returns c =
     let l = c.before in
     let s = l.before in
     λ i. sym (ap (λ (x : ℕ). has l.loop.found i || (has x i && meets (entry s.args.table.now i) s.args.other)) c.loop-test.false
-    ∙ ap (λ (b : Bool). has l.loop.found i || (b && meets (entry s.args.table.now i) s.args.other)) (has-none i) ∙ or_false (has l.loop.found i)) ∙ l.loop.invariant.1 i
+    ∙ ap (λ (b : Bool). has l.loop.found i || (b && meets (entry s.args.table.now i) s.args.other)) (has-none i) ∙ or-false (has l.loop.found i)) ∙ l.loop.invariant.1 i
 
 pub meeting-spec : {M : Type 1} → statement M
 meeting-spec =

@@ -1,6 +1,6 @@
 -- `relate::later_cuts`: what is found, with those of the cuts left whose members come after the set, is the whole.
 use mathlib.Core.Path.{◌≡◌, sym, ap, ◌∙◌}
-use mathlib.Core.Bool.{Bool, ◌&&◌, ◌||◌, or_false}
+use mathlib.Core.Bool.{Bool, ◌&&◌, ◌||◌, or-false}
 use mathlib.Core.Logic.{⊎_elim}
 use Prim.Native.Nat.{ℕ, ◌<◌, ◌^◌}
 use native.Mathlib.Nat.{lt_trans}
@@ -69,7 +69,7 @@ returns c =
     let l = c.before in
     let s = l.before in
     λ i. sym (ap (λ (x : ℕ). has l.loop.found i || (has x i && rising_less s.args.set (entry s.args.members.now i))) c.loop-test.false
-    ∙ ap (λ (b : Bool). has l.loop.found i || (b && rising_less s.args.set (entry s.args.members.now i))) (has-none i) ∙ or_false (has l.loop.found i)) ∙ l.loop.invariant.1 i
+    ∙ ap (λ (b : Bool). has l.loop.found i || (b && rising_less s.args.set (entry s.args.members.now i))) (has-none i) ∙ or-false (has l.loop.found i)) ∙ l.loop.invariant.1 i
 
 pub later-cuts-spec : {M : Type 1} → statement M
 later-cuts-spec =
