@@ -8,7 +8,7 @@ ghost use Rattle.billing.specs.Shown.{Shows};
 use report::line::LINE;
 use sets::numbers::to_u64;
 
-#[derive(Drop)]
+#[derive(Clone, Copy)]
 pub struct Fields {
     pub person: u8,
     pub kind: u8,

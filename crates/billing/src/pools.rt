@@ -3,7 +3,7 @@ ghost use Rattle.std.specs.Prelude.{◌≡◌, ◌&&◌, not, [], ◌*◌, ◌�
 ghost use Rattle.sets.specs.paper.Sets.{only};
 ghost use Rattle.report.specs.paper.Line.{line_length};
 ghost use Rattle.report.specs.paper.LineAt.{lines_from};
-ghost use Rattle.billing.specs.paper.Pools.{shares, pooled_as, pool_of, mark_of, unplaced as unplacedOf, pools as poolsOf};
+ghost use Rattle.billing.specs.paper.Pools.{shares, pooled_as, pool_of, mark_of, unplaced as unplaced_of, pools as pools_of};
 ghost use Rattle.billing.specs.Shown.{laid};
 
 use crate::fields::{Fields, fields_at};
@@ -97,7 +97,7 @@ fn mark_of(lines: &[u8], n: usize, block: u64) -> bool
 // The amounts of whoever is not pooled.
 fn unplaced_of(lines: &[u8], n: usize, amounts: &[u32]) -> u64
     requires { (n ≤ 64) × (line_length * n ≤ length lines.now) × (n ≤ length amounts.now) }
-    ensures { result ≡ unplacedOf (shares (lines_from lines.now 0 n) amounts.now) }
+    ensures { result ≡ unplaced_of (shares (lines_from lines.now 0 n) amounts.now) }
 {
     let mut sum: u64 = 0;
     let mut k: usize = 0;
@@ -126,7 +126,7 @@ pub fn no_pools() -> Pools
 // Over the first n lines, and as many amounts.
 pub fn pools_of(lines: &[u8], n: usize, amounts: &[u32]) -> Pools
     requires { (n ≤ 64) × (line_length * n ≤ length lines.now) × (n ≤ length amounts.now) }
-    ensures { result ≡ laid (poolsOf (lines_from lines.now 0 n) amounts.now) (unplacedOf (shares (lines_from lines.now 0 n) amounts.now)) }
+    ensures { result ≡ laid (pools_of (lines_from lines.now 0 n) amounts.now) (unplaced_of (shares (lines_from lines.now 0 n) amounts.now)) }
 {
     let units = units_of(lines, n);
     let mut blocks = [0u64; 64];

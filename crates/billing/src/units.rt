@@ -9,7 +9,7 @@ ghost use Rattle.billing.specs.Shown.{IsUnits};
 use crate::fields::fields_at;
 
 // The first `count` of `blocks`.
-#[derive(Drop)]
+#[derive(Clone, Copy)]
 pub struct Units {
     pub blocks: [u64; 64],
     pub count: usize,

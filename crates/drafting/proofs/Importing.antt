@@ -6,7 +6,7 @@ use Prim.Native.Nat.{ℕ, ◌-◌, ◌≤◌, ◌<◌}
 use lib.ListN.{length, take, drop, replicate}
 use native.Mathlib.Omega.{arith}
 use lib.Seq.{take-append_seam, drop-append_seam}
-use Rattle.records.specs.paper.Fields.{Verdict, fine, refused}
+use Rattle.records.specs.paper.Fields.{fine, refused}
 use Rattle.records.specs.paper.Plan.{Plan, checked_plan}
 use Rattle.spreadsheet.specs.paper.Table.{drafted, tabled}
 use Rattle.encoding.specs.paper.Encoded.{plan_bytes}

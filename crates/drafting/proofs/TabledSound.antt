@@ -6,7 +6,7 @@ use native.Mathlib.Omega.{arith}
 use lib.ListN.{length}
 use Rattle.sets.specs.paper.Sets.{All}
 use Rattle.sets.proofs.Every.{all_then}
-use Rattle.records.specs.paper.Fields.{fine, person, citation}
+use Rattle.records.specs.paper.Fields.{fine}
 use Rattle.records.specs.paper.Plan.{Plan, Edge, Status, facts_rise, unresolved, election_faults}
 use Rattle.records.specs.promises.Sound.{Person, Citation, SoundEdge, SoundStatus, Sound}
 use Rattle.spreadsheet.specs.paper.Rows.{Row, row, row_of}

@@ -1,2 +1,4 @@
 // Plans made: out of a table.
+#![tactic(auto)]
+
 pub mod import;

@@ -1,4 +1,6 @@
 // The encoder of a plan: each record put into a lent buffer behind what stands there.
+#![tactic(auto)]
+
 pub mod attachments;
 pub mod bars;
 pub mod bits;

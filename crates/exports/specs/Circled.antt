@@ -2,7 +2,7 @@
 use Rattle.std.specs.Prelude.{cond, List, ℕ, ltb}
 use Rattle.records.specs.paper.Fields.{Verdict, fine, refused, on_fine}
 use Rattle.records.specs.paper.Plan.{Plan, checked_plan}
-use Rattle.records.specs.paper.Case.{Case, read_case}
+use Rattle.records.specs.paper.Case.{read_case}
 use Rattle.expressions.specs.paper.Bindings.{frame_of}
 use Rattle.expressions.specs.paper.Influence.{circle}
 

@@ -1,13 +1,15 @@
 // What a host links: the operations, pools, the lister's work, a person's circle and imported plans, under C names.
+#![tactic(auto)]
+
 mod circle;
 mod made;
 mod pools;
 mod tell;
 
 ghost use Rattle.std.specs.Prelude.{◌≡◌, length};
-ghost use Rattle.report.specs.paper.Operations.{told as toldOf, check as checkOf, answer as answer_of, show as showOf};
+ghost use Rattle.report.specs.paper.Operations.{told as told_of, check as check_of, answer as answer_of, show as show_of};
 ghost use Rattle.listing.specs.Shown.{Listed};
-ghost use Rattle.billing.specs.paper.Pooling.{pool as poolOver};
+ghost use Rattle.billing.specs.paper.Pooling.{pool as pool_over};
 ghost use Rattle.drafting.specs.paper.Importing.{imported};
 ghost use Rattle.exports.specs.Handed.{numbers, handed, handed_pools, handed_plan};
 ghost use Rattle.exports.specs.Circled.{circle_in};
@@ -24,7 +26,7 @@ use tell::tell;
 // Check a plan: the refusal's number, 0 for none. The seven numbers of document 01 go behind the reference.
 #[unsafe(no_mangle)]
 pub extern "C" fn lukhveri_check(plan: &[u8], told: &mut [u64; 7]) -> u8
-    ensures { (result ≡ (toldOf (checkOf plan.now)).refusal) × (told.new ≡ numbers (toldOf (checkOf plan.now))) }
+    ensures { (result ≡ (told_of (check_of plan.now)).refusal) × (told.new ≡ numbers (told_of (check_of plan.now))) }
 {
     let answer = check(plan);
     tell(answer, told)
@@ -39,7 +41,7 @@ pub extern "C" fn lukhveri_answer(
     events: &mut [u8],
     told: &mut [u64; 7],
 ) -> u8
-    ensures* { λ r. ⌜ record { result = r; told = told.new; lines = lines.new; events = events.new } ≡ handed (answer_of plan.now case.now (length lines.old) (length events.old)) ⌝ }
+    ensures { record { result = result; told = told.new; lines = lines.new; events = events.new } ≡ handed (answer_of plan.now case.now (length lines.old) (length events.old)) }
 {
     let answer = answer(plan, case, lines, events);
     tell(answer, told)
@@ -55,7 +57,7 @@ pub extern "C" fn lukhveri_show(
     events: &mut [u8],
     told: &mut [u64; 7],
 ) -> u8
-    ensures* { λ r. ⌜ record { result = r; told = told.new; lines = lines.new; events = events.new } ≡ handed (showOf plan.now case.now world (length lines.old) (length events.old)) ⌝ }
+    ensures { record { result = result; told = told.new; lines = lines.new; events = events.new } ≡ handed (show_of plan.now case.now world (length lines.old) (length events.old)) }
 {
     let answer = show(plan, case, world, lines, events);
     tell(answer, told)
@@ -75,7 +77,7 @@ pub extern "C" fn lukhveri_pool(
     marks: &mut [u8; 64],
     told: &mut [u64; 9],
 ) -> u8
-    ensures* { λ r. ⌜ record { result = r; told = told.new; lines = lines.new; events = events.new; blocks = blocks.new; pools = pools.new; marks = marks.new } ≡ handed_pools (poolOver plan.now case.now amounts.now (length lines.old) (length events.old)) ⌝ }
+    ensures { record { result = result; told = told.new; lines = lines.new; events = events.new; blocks = blocks.new; pools = pools.new; marks = marks.new } ≡ handed_pools (pool_over plan.now case.now amounts.now (length lines.old) (length events.old)) }
 {
     let found = pool(plan, case, amounts, lines, events);
     let answer = found.answer;
@@ -114,7 +116,7 @@ pub extern "C" fn lukhveri_circle(plan: &[u8], case: &[u8], person: u8) -> u64
 // Import a table: the plan's bytes go to the start of `plan`, zeros behind them. The three numbers: the refusal, its row, the plan's length.
 #[unsafe(no_mangle)]
 pub extern "C" fn lukhveri_import(table: &[u8], plan: &mut [u8], made: &mut [u64; 3]) -> u8
-    ensures* { λ r. ⌜ record { result = r; made = made.new; plan = plan.new } ≡ handed_plan (imported table.now (length plan.old)) ⌝ }
+    ensures { record { result = result; made = made.new; plan = plan.new } ≡ handed_plan (imported table.now (length plan.old)) }
 {
     let found = import(table, plan);
     tell_made(found, made)

@@ -1,7 +1,7 @@
 // Pools as numbers and bytes that a host reads.
 ghost use Rattle.std.specs.Prelude.{◌≡◌, [], ◌∷◌, ◌++◌, map};
 ghost use Rattle.sets.specs.paper.Sets.{only};
-ghost use Rattle.report.specs.paper.Operations.{told as toldOf};
+ghost use Rattle.report.specs.paper.Operations.{told as told_of};
 ghost use Rattle.exports.specs.Handed.{numbers};
 
 use crate::tell::tell;
@@ -22,7 +22,7 @@ pub fn mark_bytes(marks: [bool; 64]) -> [u8; 64]
 
 // The seven numbers of the answer, then the count of units and the unplaced sum; the result is the refusal's number.
 pub fn tell_pools(answer: Answer, count: usize, unplaced: u64, told: &mut [u64; 9]) -> u8
-    ensures { (result ≡ (toldOf answer).refusal) × (told.new ≡ numbers (toldOf answer) ++ (count ∷ unplaced ∷ [])) }
+    ensures { (result ≡ (told_of answer).refusal) × (told.new ≡ numbers (told_of answer) ++ (count ∷ unplaced ∷ [])) }
 {
     let mut seven = [0u64; 7];
     let result = tell(answer, &mut seven);

@@ -1,13 +1,13 @@
 // An answer as document 01's numbers.
 ghost use Rattle.std.specs.Prelude.{◌≡◌};
-ghost use Rattle.report.specs.paper.Operations.{told as toldOf};
+ghost use Rattle.report.specs.paper.Operations.{told as told_of};
 ghost use Rattle.exports.specs.Handed.{numbers};
 
 use report::Answer;
 
 // Refusal, record, count, maximum, lines, events and worlds; the result is the refusal's number.
 pub fn tell(answer: Answer, told: &mut [u64; 7]) -> u8
-    ensures { (result ≡ (toldOf answer).refusal) × (told.new ≡ numbers (toldOf answer)) }
+    ensures { (result ≡ (told_of answer).refusal) × (told.new ≡ numbers (told_of answer)) }
 {
     match answer {
         Answer::Accepted => {

@@ -101,9 +101,9 @@ unfolding uses_from
 uses-next = table-next 0 uses uses_from (λ done. refl) (λ n ns done. refl) uses-agree
 
 -- over a plan's own nodes these are the definition's
-pub values_of : (plan : Plan) (facts : ℕ) → values_from facts (nodes_of plan.nodes) [] ≡ values (plan_of plan) facts
+pub values_of_lem : (plan : Plan) (facts : ℕ) → values_from facts (nodes_of plan.nodes) [] ≡ values (plan_of plan) facts
 unfolding plan_of values
-values_of plan facts = refl
+values_of_lem plan facts = refl
 
 pub uses_of_lem : (plan : Plan) → uses_from (nodes_of plan.nodes) [] ≡ node_uses (plan_of plan)
 unfolding plan_of node_uses

@@ -5,7 +5,7 @@ ghost use Rattle.sets.specs.paper.Sets.{any_of};
 ghost use Rattle.records.specs.paper.Fields.{fine, first_fault};
 ghost use Rattle.records.specs.code.Decoded.{case_of, family_of, boolean_of, observations_of};
 ghost use Rattle.records.specs.code.Check.{checked_of};
-ghost use Rattle.expressions.specs.paper.Bindings.{family_faults, boolean_faults, bindable as bindableCase};
+ghost use Rattle.expressions.specs.paper.Bindings.{family_faults, boolean_faults, bindable as bindable_case};
 
 use records::case::{Boolean, Booleans, Case, Families};
 use records::checked::Checked;
@@ -92,7 +92,7 @@ fn boolean_faults(booleans: Booleans, first: usize) -> Checked
 }
 
 pub fn bindable(case: Case) -> Checked
-    ensures { result ≡ checked_of (bindableCase (case_of case)) }
+    ensures { result ≡ checked_of (bindable_case (case_of case)) }
 {
     let families = case.families;
     let booleans = case.booleans;

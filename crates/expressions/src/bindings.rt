@@ -16,7 +16,7 @@ use sets::numbers::upto;
 use sets::{bit, contains, union};
 
 // What is told of a fact: its observations, whether it is said to be unknown, the first election on it.
-#[derive(Drop)]
+#[derive(Clone, Copy)]
 pub struct Told {
     pub seen: Sight,
     pub unknown: bool,

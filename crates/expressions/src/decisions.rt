@@ -14,7 +14,7 @@ use records::plan::{Cuts, Decisions, Edges, Plan};
 use sets::numbers::{upto, wide};
 use sets::{contains, union};
 
-#[derive(Drop)]
+#[derive(Clone, Copy)]
 pub struct Undecided {
     pub count: usize,
     pub cuts: [u8; 16],

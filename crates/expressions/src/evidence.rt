@@ -73,7 +73,7 @@ fn note_booleans(table: &mut [u64; 256], booleans: Booleans)
 
 fn note_relations(table: &mut [u64; 256], relations: Relations)
     requires { All EvidentRelation (map relation_of (take relations.count relations.items)) }
-    ensures* { λ r. ⌜ ((f : ℕ) → get_or table.new f 0 ≡ union (get_or table.old f 0) (union_of (λ r. only (eqb r.fact f) (evidence_mark r.observation)) (map relation_of (take relations.count relations.items)))) ⌝ }
+    ensures { (f : ℕ) → get_or table.new f 0 ≡ union (get_or table.old f 0) (union_of (λ r. only (eqb r.fact f) (evidence_mark r.observation)) (map relation_of (take relations.count relations.items))) }
 {
     let n = upto(relations.count, 256);
     let mut i: usize = 0;

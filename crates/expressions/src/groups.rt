@@ -1,7 +1,7 @@
 // The sets that a closing goes by, made once.
 ghost use Rattle.std.specs.Prelude.{◌≡◌, ◌≤◌, length, take};
 
-#[derive(Drop)]
+#[derive(Clone, Copy)]
 pub struct Groups {
     pub count: usize,
     pub sets: [u64; 144],

@@ -9,7 +9,7 @@ use sets::whole::whole_80_words;
 use sets::{bit, close, contains, union};
 
 // The sets of the facts, then those of the unresolved decisions.
-#[derive(Drop)]
+#[derive(Clone, Copy)]
 pub struct Influence {
     pub count: usize,
     pub sets: [u64; 80],

@@ -1,4 +1,6 @@
 // Conditions, bindings, variables and influence.
+#![tactic(auto)]
+
 pub mod bindable;
 pub mod bindings;
 pub mod circle;

@@ -10,7 +10,7 @@ use sets::numbers::{upto, wide};
 use sets::{bit, union};
 
 // What was seen of a fact so far: the first pair of value and evidence, whether another pair came, whether another value did.
-#[derive(Drop)]
+#[derive(Clone, Copy)]
 pub struct Sight {
     pub any: bool,
     pub value: u8,

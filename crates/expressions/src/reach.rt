@@ -15,7 +15,7 @@ use records::plan::{Facts, Plan};
 use sets::numbers::upto;
 
 // `count`: how many facts there are
-#[derive(Drop)]
+#[derive(Clone, Copy)]
 pub struct Reach {
     pub groups: Groups,
     pub bound: u64,

@@ -12,7 +12,7 @@ use borrow.Author.Tests.{lt-ltb, lt-leb, leb-true}
 use Rattle.records.specs.paper.Fields.{Read, got, bad, Format, no_format, Raw, format_of, record_at, Verdict, fine, refused, read_from}
 use Rattle.records.proofs.ReadLaws.{OnFine}
 use Rattle.sets.proofs.SetLaws.{lt_or_le}
-use mathlib.Core.Logic.{◌⊎◌, ⊎_elim}
+use mathlib.Core.Logic.{⊎_elim}
 use Rattle.listing.specs.Rooms.{records_most, longest_record, room_for}
 use Rattle.listing.proofs.Alike.{Ended, Alike, Begins, Reaches, record_alike, longest-some}
 use Rattle.listing.proofs.Counted.{bump, used, Within, within-most, bump_length, bump_used, bump_within}

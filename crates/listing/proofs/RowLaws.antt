@@ -2,7 +2,6 @@
 use mathlib.Core.Path.{◌≡◌, sym, ap, ap₂, ◌∙◌}
 use mathlib.Core.List.{List}
 use Prim.Native.Nat.{ℕ, ◌+◌, ◌-◌, ◌≤◌, ◌<◌}
-use lib.ListN.{length}
 use Rattle.sets.specs.paper.Sets.{members}
 use Rattle.page.specs.Page.{Page, put_byte, puts}
 use Rattle.page.specs.Decimal.{decimal}

@@ -2,7 +2,7 @@
 ghost use Rattle.std.specs.Prelude.{◌≡◌, ◌*◌, ◌≤◌, length};
 ghost use Rattle.page.specs.Page.{puts};
 ghost use Rattle.report.specs.paper.Line.{line_length};
-ghost use Rattle.report.specs.paper.Operations.{told as toldOf};
+ghost use Rattle.report.specs.paper.Operations.{told as told_of};
 ghost use Rattle.report.specs.paper.LineAt.{lines_from};
 ghost use Rattle.billing.specs.paper.Households.{household_count};
 ghost use Rattle.listing.specs.Text.{table, last_row};
@@ -25,7 +25,7 @@ struct Told {
 }
 
 fn tell(found: Answer) -> Told
-    ensures { TellsAnswer (toldOf found) result }
+    ensures { TellsAnswer (told_of found) result }
 {
     match found {
         Answer::Accepted => Told {

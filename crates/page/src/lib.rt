@@ -1,4 +1,6 @@
 // Bytes put into a lent buffer, one after another. A byte for which there is no room is left out, and the count stays.
+#![tactic(auto)]
+
 pub mod clear;
 pub mod little;
 pub mod number;

@@ -1,8 +1,10 @@
 // A case answered, and the amounts that billing brings pooled by unit.
+#![tactic(auto)]
+
 ghost use Rattle.std.specs.Prelude.{◌≡◌, [], length};
 ghost use Rattle.report.specs.paper.Operations.{refusal};
 ghost use Rattle.report.specs.declared.Answer.TheVariants.{Refused};
-ghost use Rattle.billing.specs.paper.Pooling.{unpooled as unpooledOf, pool as poolOver};
+ghost use Rattle.billing.specs.paper.Pooling.{unpooled as unpooled_of, pool as pool_over};
 ghost use Rattle.billing.specs.Shown.{laid};
 ghost use Rattle.pooling.specs.Given.{given};
 
@@ -29,7 +31,7 @@ fn unpooled(answer: Answer) -> PoolAnswer
 
 // 15: the list's length is not the roster's. What the answer wrote is taken away.
 fn turned_away(lines: &mut [u8], events: &mut [u8]) -> PoolAnswer
-    ensures { record { answer = result.answer; lines = lines.new; events = events.new; pools = result.pools } ≡ given (unpooledOf (refusal (length lines.old) (length events.old) (Refused 15 0))) }
+    ensures { record { answer = result.answer; lines = lines.new; events = events.new; pools = result.pools } ≡ given (unpooled_of (refusal (length lines.old) (length events.old) (Refused 15 0))) }
 {
     clear(lines);
     clear(events);
@@ -47,7 +49,7 @@ pub fn pool(
     lines: &mut [u8],
     events: &mut [u8],
 ) -> PoolAnswer
-    ensures { record { answer = result.answer; lines = lines.new; events = events.new; pools = result.pools } ≡ given (poolOver plan.now case.now amounts.now (length lines.old) (length events.old)) }
+    ensures { record { answer = result.answer; lines = lines.new; events = events.new; pools = result.pools } ≡ given (pool_over plan.now case.now amounts.now (length lines.old) (length events.old)) }
 {
     let found = answer(plan, case, lines, events);
     match found {

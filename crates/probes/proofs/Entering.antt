@@ -1,7 +1,7 @@
 -- From what was read to the definitions: a plan and a case that were read are the accepted ones, and bind as the code's structs say.
 use mathlib.Core.Path.{◌≡◌, refl, sym, ap, ◌∙◌, subst}
 use mathlib.Core.Bool.{Bool, true, false, cond}
-use mathlib.Core.List.{List, []}
+use mathlib.Core.List.{List}
 use Prim.Native.Nat.{ℕ, zero, suc, ◌≤◌, ◌<◌}
 use native.Mathlib.Nat.{le_trans}
 use native.Mathlib.Omega.{arith}
@@ -26,8 +26,7 @@ use Rattle.expressions.specs.paper.Variables.{is_variable, slots_by, slots, bool
 use Rattle.expressions.specs.code.Codes.{bound_of}
 use Rattle.expressions.specs.code.Counted.{count_against, Counts}
 use Rattle.expressions.specs.code.Reached.{Reached}
-use Rattle.expressions.specs.code.Influences.{influence_by, sets_of}
-use Rattle.expressions.specs.declared.influence.Influence.{Influence}
+use Rattle.expressions.specs.code.Influences.{influence_by}
 use Rattle.expressions.specs.declared.reach.Reach.{Reach}
 use Rattle.expressions.specs.declared.variables.Count.{Count}
 use Rattle.expressions.proofs.SlotLaws.{variable_from, order_of}

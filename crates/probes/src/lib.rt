@@ -1,4 +1,6 @@
 // What binding finds, under C names: no operation of document 01, but what comparisons of the proved code with other programs look into.
+#![tactic(auto)]
+
 mod bind;
 mod code;
 mod refusal;

@@ -2,7 +2,7 @@
 ghost use Rattle.std.specs.Prelude.{◌≡◌, [], ◌∷◌, ◌++◌, map, ◌+◌, ◌<◌, length, get_or};
 ghost use Rattle.expressions.specs.code.Codes.{bound_of};
 ghost use Rattle.expressions.specs.code.Slots.{slot_of, slots_of};
-ghost use Rattle.probes.specs.Entries.{varies as variesIn, variable_code, variable_codes, variables};
+ghost use Rattle.probes.specs.Entries.{varies as varies_in, variable_code, variable_codes, variables};
 ghost use Rattle.probes.specs.Binds.{codes_of};
 
 use crate::bind::bind;
@@ -27,7 +27,7 @@ fn add(mut known: Variables, item: u16) -> Variables
 
 // Whether it is a variable: a decision, or a fact whose binding's code is from 3 on.
 fn varies(codes: [u8; 64], item: u8) -> bool
-    ensures { result ≡ variesIn (map bound_of codes) (slot_of item) }
+    ensures { result ≡ varies_in (map bound_of codes) (slot_of item) }
 {
     let at = wide(item);
     if at < 64 { codes[at] >= 3 } else { true }

@@ -10,7 +10,7 @@ use Rattle.sets.proofs.SumLaws.{count_parted}
 use Rattle.records.specs.paper.Case.{case_heading}
 use Rattle.report.specs.paper.Line.{Line}
 use Rattle.report.specs.paper.LineAt.{lines_from}
-use Rattle.report.specs.paper.Units.{units as unitsOf}
+use Rattle.report.specs.paper.Units.{units as units_of}
 use Rattle.report.specs.paper.Operations.{told, Outcome, answer}
 use Rattle.report.proofs.OpenedLaws.{answered_read}
 use Rattle.billing.specs.paper.Pooling.{PoolOutcome, pooled_over, pool}
@@ -52,9 +52,9 @@ module _ (plan case : List ℕ) (line_room event_room : ℕ) where
   all_excluded given b unit = unit_excluded lines count (parts given).1 b unit
 
 -- "counts the other blocks only": households and units that are none are all units, of whatever lines
-pub counted-others : (ls : List Line) → household_count ls + count_of (λ b. not (household ls b)) (unitsOf ls) ≡ length (unitsOf ls)
+pub counted-others : (ls : List Line) → household_count ls + count_of (λ b. not (household ls b)) (units_of ls) ≡ length (units_of ls)
 unfolding household_count
-counted-others ls = count_parted (household ls) (unitsOf ls)
+counted-others ls = count_parted (household ls) (units_of ls)
 
 -- ---- "Pools of Ticket 1 list these blocks still, with pool 0", and without a mark
 

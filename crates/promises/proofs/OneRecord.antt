@@ -34,6 +34,7 @@ map_all Q f (x ∷ xs) h = (h.0, map_all Q f xs h.1)
 
 any_none : {A : Type 0} (f : A → Bool) (xs : List A) → any_of f xs ≡ false → (x : A) → Among x xs → f x ≡ false
 unfolding any_of
+any_none f [] e x h = elim h [ ]
 any_none f (y ∷ ys) e x (inl same) = ap f same ∙ first (f y) (any_of f ys) e
   where
     first : (a b : Bool) → (a || b) ≡ false → a ≡ false

@@ -4,7 +4,6 @@ use mathlib.Core.List.{List, [], ◌∷◌, ◌++◌, map, flat_map}
 use Prim.Native.Nat.{ℕ, ◌*◌}
 use lib.ListN.{length}
 use Rattle.sets.specs.paper.Sets.{members}
-use Rattle.expressions.specs.paper.Variables.{worlds}
 use Rattle.report.specs.paper.Line.{line_length}
 use Rattle.report.specs.paper.EventList.{event_length}
 use Rattle.report.specs.paper.Operations.{told, answer}

@@ -1,4 +1,6 @@
 // DEMAND 3 OF THE PROGRAM: two cases over one plan, answered into four lent buffers.
+#![tactic(auto)]
+
 ghost use Rattle.std.specs.Prelude.{◌≡◌, length};
 ghost use Rattle.report.specs.paper.Operations.{answer as answer_of};
 ghost use Rattle.promises.specs.Private.{PrivateLines};

@@ -1,6 +1,6 @@
 -- Each kind of record in a case: what one more of them changes and what is wrong with it; and the first pass.
 use mathlib.Core.Path.{◌≡◌, refl, sym, ap, ◌∙◌}
-use mathlib.Core.Bool.{Bool, true, false, ◌&&◌, not, cond, or-false}
+use mathlib.Core.Bool.{Bool, true, ◌&&◌, not, cond, or-false}
 use mathlib.Core.List.{List, [], ◌∷◌, ◌++◌}
 use Prim.Native.Nat.{ℕ, ◌≤◌}
 use native.Mathlib.Omega.{arith}

@@ -3,7 +3,7 @@ pub mod naming;
 pub mod reading;
 
 // scope and segment: 0 is empty; `complete`: the roster's completeness evidence is given
-#[derive(Drop)]
+#[derive(Clone, Copy)]
 pub struct CaseHeading {
     pub relation: u8,
     pub scope: u8,
@@ -15,7 +15,7 @@ pub struct CaseHeading {
     pub most_worlds: u16,
 }
 
-#[derive(Drop)]
+#[derive(Clone, Copy)]
 pub struct Family {
     pub number: u8,
     pub scope: u8,
@@ -24,7 +24,7 @@ pub struct Family {
 }
 
 // Up to sixteen observations, each a value and its evidence.
-#[derive(Drop)]
+#[derive(Clone, Copy)]
 pub struct Observations {
     pub count: u8,
     pub values: [u8; 16],
@@ -32,7 +32,7 @@ pub struct Observations {
 }
 
 // `unknown`: explicit unknown, with its evidence
-#[derive(Drop)]
+#[derive(Clone, Copy)]
 pub struct Boolean {
     pub fact: u8,
     pub unknown: bool,
@@ -40,39 +40,39 @@ pub struct Boolean {
     pub observations: Observations,
 }
 
-#[derive(Drop)]
+#[derive(Clone, Copy)]
 pub struct Relation {
     pub fact: u8,
     pub value: u8,
     pub evidence: u8,
 }
 
-#[derive(Drop)]
+#[derive(Clone, Copy)]
 pub struct Families {
     pub count: usize,
     pub items: [Family; 16],
 }
 
-#[derive(Drop)]
+#[derive(Clone, Copy)]
 pub struct Booleans {
     pub count: usize,
     pub items: [Boolean; 64],
 }
 
-#[derive(Drop)]
+#[derive(Clone, Copy)]
 pub struct Relations {
     pub count: usize,
     pub items: [Relation; 256],
 }
 
-#[derive(Drop)]
+#[derive(Clone, Copy)]
 pub struct Constraints {
     pub count: usize,
     pub items: [u8; 16],
 }
 
 // `headings` is 1 once the heading is read.
-#[derive(Drop)]
+#[derive(Clone, Copy)]
 pub struct Case {
     pub headings: usize,
     pub heading: CaseHeading,

@@ -1,5 +1,7 @@
 // Runs the vectors of vectors.txt, pools.txt, tables.txt and lists.txt, one a line, and says of each list how many agree: what an operation answers, and
 // what it writes in the buffers lent to it, is compared with what the line expects. A line that is no vector differs.
+#![tactic(auto)]
+
 mod lent;
 mod listed;
 mod pooled;
@@ -8,7 +10,12 @@ mod tally;
 mod trial;
 mod vector;
 
+ghost use Rattle.std.specs.Prelude.{◌≤◌, length, IfOk};
+
 use scan::Scan;
+use std::fs::File;
+use std::io;
+use std::io::Read;
 use tally::Tally;
 use trial::agrees;
 use vector::{fields, known};
@@ -73,8 +80,28 @@ fn finish(run: Run, store: &mut [u8], lines: &mut [u8], events: &mut [u8]) -> Ta
     last.tally
 }
 
+// A chunk of a file, as long as the buffer where the file goes on.
+fn read_full(file: &mut File, buf: &mut [u8]) -> io::Result<usize>
+    ensures { IfOk result (λ n. n ≤ length buf.new) }
+{
+    let mut done: usize = 0;
+    while done < buf.len() {
+        let more = file.read(&mut buf[done..])?;
+        if more == 0 {
+            break;
+        }
+        done += more;
+    }
+    Ok(done)
+}
+
 // A proved loop has to end, and nothing says that a file does: the turns count down from a number that no run uses up.
-fn replay(fd: i32, store: &mut [u8], lines: &mut [u8], events: &mut [u8]) -> Tally {
+fn replay(
+    file: &mut File,
+    store: &mut [u8],
+    lines: &mut [u8],
+    events: &mut [u8],
+) -> io::Result<Tally> {
     let mut run = Run {
         scan: Scan::new(),
         empty: true,
@@ -83,51 +110,68 @@ fn replay(fd: i32, store: &mut [u8], lines: &mut [u8], events: &mut [u8]) -> Tal
     let mut turns = u64::MAX;
     let mut more = true;
     while turns > 0 && more {
-        let mut buf = io::large_buffer();
-        let n = io::read_full(fd, &mut buf);
+        let mut buf = [0u8; 65536];
+        let n = read_full(file, &mut buf)?;
         run = feed_all(run, &buf[..n], store, lines, events);
         more = n == 65536;
         turns -= 1;
     }
-    finish(run, store, lines, events)
+    Ok(finish(run, store, lines, events))
 }
 
-// A list and the counts of it.
-fn replay_list(file: &[u8], list: &[u8], store: &mut [u8], lines: &mut [u8], events: &mut [u8]) {
-    let fd = os::open_read(file);
-    if fd < 0 {
-        os::fail(file);
-        return;
+fn replay_file(
+    rt: &HostRuntime,
+    file: &str,
+    store: &mut [u8],
+    lines: &mut [u8],
+    events: &mut [u8],
+) -> io::Result<Tally> {
+    let mut opened = File::open(rt, file)?;
+    replay(&mut opened, store, lines, events)
+}
+
+// A list and the counts of it; of a list that cannot be read, why.
+fn replay_list(
+    rt: &HostRuntime,
+    file: &str,
+    list: &str,
+    store: &mut [u8],
+    lines: &mut [u8],
+    events: &mut [u8],
+) -> io::Result<()> {
+    match replay_file(rt, file, store, lines, events) {
+        Ok(tally) => tally.print(rt, list),
+        Err(error) => eprintln!(rt; "{file}: {error}"),
     }
-    let tally = replay(fd, store, lines, events);
-    libc::close(fd);
-    tally.print(list);
 }
 
-fn main() {
-    let mut store = io::large_buffer();
-    let mut lines = io::large_buffer();
-    let mut events = io::large_buffer();
-    replay_list(b"vectors.txt", b"", &mut store, &mut lines, &mut events);
+fn main(rt: HostRuntime) -> io::Result<()> {
+    let mut store = [0u8; 65536];
+    let mut lines = [0u8; 65536];
+    let mut events = [0u8; 65536];
+    replay_list(&rt, "vectors.txt", "", &mut store, &mut lines, &mut events)?;
     replay_list(
-        b"pools.txt",
-        b"pools: ",
+        &rt,
+        "pools.txt",
+        "pools: ",
         &mut store,
         &mut lines,
         &mut events,
-    );
+    )?;
     replay_list(
-        b"tables.txt",
-        b"tables: ",
+        &rt,
+        "tables.txt",
+        "tables: ",
         &mut store,
         &mut lines,
         &mut events,
-    );
+    )?;
     replay_list(
-        b"lists.txt",
-        b"lists: ",
+        &rt,
+        "lists.txt",
+        "lists: ",
         &mut store,
         &mut lines,
         &mut events,
-    );
+    )
 }

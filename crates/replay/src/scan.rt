@@ -4,7 +4,7 @@
 use crate::vector::Vector;
 use sets::numbers::to_u64;
 
-#[derive(Drop)]
+#[derive(Clone, Copy)]
 pub struct Scan {
     pub field: u8,
     // something that no vector has was met

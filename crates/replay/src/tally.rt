@@ -1,5 +1,5 @@
 // How many vectors agree or differ, and the first lines that differ.
-use libc::STDOUT_FILENO;
+use std::io;
 
 #[derive(Drop)]
 pub struct Tally {
@@ -44,30 +44,25 @@ impl Tally {
     }
 
     // The lines that differ, one a row, then the counts; each row begins with the list's name.
-    pub fn print(self, list: &[u8]) {
+    pub fn print(self, rt: &HostRuntime, list: &str) -> io::Result<()> {
         let first = self.first;
-        print_rows(list, first);
-        io::write_all(STDOUT_FILENO, list);
-        io::print_decimal(STDOUT_FILENO, self.agree);
-        io::write_all(STDOUT_FILENO, b" agree, ");
-        io::print_decimal(STDOUT_FILENO, self.differ);
-        io::write_all(STDOUT_FILENO, b" differ\n");
+        print_rows(rt, list, first)?;
+        println!(rt; "{list}{} agree, {} differ", self.agree, self.differ)
     }
 }
 
-fn print_row(list: &[u8], line: u64) {
+fn print_row(rt: &HostRuntime, list: &str, line: u64) -> io::Result<()> {
     if line > 0 {
-        io::write_all(STDOUT_FILENO, list);
-        io::write_all(STDOUT_FILENO, b"line ");
-        io::print_decimal(STDOUT_FILENO, line);
-        io::write_all(STDOUT_FILENO, b" differs\n");
+        println!(rt; "{list}line {line} differs")?;
     }
+    Ok(())
 }
 
-fn print_rows(list: &[u8], lines: [u64; 16]) {
+fn print_rows(rt: &HostRuntime, list: &str, lines: [u64; 16]) -> io::Result<()> {
     let mut i: usize = 0;
     while i < 16 {
-        print_row(list, lines[i]);
+        print_row(rt, list, lines[i])?;
         i += 1;
     }
+    Ok(())
 }

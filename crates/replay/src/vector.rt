@@ -15,7 +15,7 @@ pub const IMPORT: u64 = 0x696d706f7274;
 pub const LIST: u64 = 0x6c697374;
 
 // What an operation answers, as the numbers of a line.
-#[derive(Drop)]
+#[derive(Clone, Copy)]
 pub struct Outcome {
     pub refusal: u64,
     pub record: u64,
@@ -27,7 +27,7 @@ pub struct Outcome {
 }
 
 // Where in the store each of a line's fields of bytes ends; each begins where the one before it ends.
-#[derive(Drop)]
+#[derive(Clone, Copy)]
 pub struct Ends {
     pub plan: usize,
     pub case: usize,
@@ -37,7 +37,7 @@ pub struct Ends {
     pub pools: usize,
 }
 
-#[derive(Drop)]
+#[derive(Clone, Copy)]
 pub struct Vector {
     pub op: u64,
     pub world: u64,

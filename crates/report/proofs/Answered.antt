@@ -3,7 +3,7 @@ use mathlib.Core.Path.{◌≡◌, refl, sym, ap, ◌∙◌, subst}
 use mathlib.Core.Bool.{Bool, true, false, cond}
 use mathlib.Core.List.{List, [], ◌∷◌, map}
 use mathlib.Core.Logic.{◌⊎◌, inl, inr}
-use Prim.Native.Nat.{ℕ, zero, suc, ◌+◌, ◌*◌, ◌-◌, ◌^◌}
+use Prim.Native.Nat.{ℕ, zero, suc, ◌+◌, ◌*◌}
 use native.Mathlib.Omega.{arith}
 use lib.ListN.{length}
 use lib.Dec.{eqb, ltb}
@@ -21,7 +21,7 @@ use Rattle.report.specs.paper.Line.{Line, line_bytes, bare_line, line_over}
 use Rattle.report.specs.paper.EventList.{event_length}
 use Rattle.report.specs.paper.Operations.{told, Opened, stopped, incomplete, ready, or_stop, unless_fault, heading_fault, too_many, counted, bound_and_counted, bound, opened, Outcome, filled, refusal, written, influences, all_worlds, lines_over, answer_ready, answer_opened, answer}
 use Rattle.report.specs.declared.Answer.{Answer}
-use Rattle.report.specs.declared.Answer.TheVariants.{Refused, TooManyWorlds}
+use Rattle.report.specs.declared.Answer.TheVariants.{Refused}
 
 -- what the admissible worlds say of a person, and the person's line
 abbrev pub views_of : Frame → List Bound → List Values → ℕ → List View

@@ -1,4 +1,6 @@
 // The three operations: check a plan, answer a case, show a world.
+#![tactic(auto)]
+
 pub mod bare;
 pub mod classes;
 pub mod event;

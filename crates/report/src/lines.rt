@@ -1,7 +1,7 @@
 // The lines of all persons, from what the worlds add up to.
 ghost use Rattle.std.specs.Prelude.{◌≡◌, ◌*◌, ◌≤◌, ◌<◌, ◌%◌, length};
 ghost use Rattle.sets.specs.paper.Sets.{size};
-ghost use Rattle.report.specs.paper.Line.{holding as holdingOf, line_length};
+ghost use Rattle.report.specs.paper.Line.{holding as holding_of, line_length};
 ghost use Rattle.report.specs.code.Written.{LineBy, LinesBy};
 
 use crate::line::{LINE, Line, write_line};
@@ -12,7 +12,7 @@ use sets::{bit, low, others};
 // The variables that could still concern a person: the numbers of the sets of influence that hold the person.
 fn unresolved_for_person(sets: &[u64], p: u8) -> u64
     requires { length sets.now ≤ 64 }
-    ensures { result ≡ holdingOf sets.now p }
+    ensures { result ≡ holding_of sets.now p }
 {
     let mut found: u64 = 0;
     let mut i: usize = 0;

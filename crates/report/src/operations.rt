@@ -1,6 +1,6 @@
 // The three operations of document 01, for all bytes offered and all lent lengths.
 ghost use Rattle.std.specs.Prelude.{◌≡◌, length};
-ghost use Rattle.report.specs.paper.Operations.{check as checkOf, answer as answer_of, show as showOf};
+ghost use Rattle.report.specs.paper.Operations.{check as check_of, answer as answer_of, show as show_of};
 
 use crate::Answer;
 use crate::operate::operate;
@@ -10,7 +10,7 @@ use records::plan::checks::check as checked;
 
 // CHECK A PLAN
 pub fn check(plan: &[u8]) -> Answer
-    ensures { result ≡ checkOf plan.now }
+    ensures { result ≡ check_of plan.now }
 {
     let found = checked(plan);
     match found {
@@ -35,7 +35,7 @@ pub fn answer(plan: &[u8], case: &[u8], lines: &mut [u8], events: &mut [u8]) -> 
 
 // SHOW A WORLD, counted from 0 among the admissible.
 pub fn show(plan: &[u8], case: &[u8], world: u64, lines: &mut [u8], events: &mut [u8]) -> Answer
-    ensures { record { answer = result; lines = lines.new; events = events.new } ≡ showOf plan.now case.now world (length lines.old) (length events.old) }
+    ensures { record { answer = result; lines = lines.new; events = events.new } ≡ show_of plan.now case.now world (length lines.old) (length events.old) }
 {
     let wanted = Wanted {
         all: false,

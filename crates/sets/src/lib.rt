@@ -1,4 +1,6 @@
 // Sets of persons as masks: bit p stands for person p. Sets of other numbers (facts, rules, citations, evidence, worlds) are masks too.
+#![tactic(auto)]
+
 pub mod numbers;
 pub mod persons;
 pub mod whole;

@@ -54,6 +54,7 @@ some_record f (suc n) s = some-on (f s) _ (λ t rest. some_if (eqb (get_or rest 
 
 module _ (k l r : List ℕ) where
   long : (c : List ℕ) (q : Record) → Some q → four (before k (before l (before r (before c q)))) ≡ Row.broken
+  long c (fields [] rest) x = elim x [ ]
   long c (fields (t ∷ ts) rest) some = refl
   long c Record.broken none = refl
 

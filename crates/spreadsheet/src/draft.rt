@@ -1,10 +1,10 @@
 // The plan of a table, or the first row with a fault.
 ghost use Rattle.std.specs.Prelude.{◌≡◌, [], ◌∷◌};
-ghost use Rattle.records.specs.paper.Fields.{fine, refused as refusedAt};
+ghost use Rattle.records.specs.paper.Fields.{fine, refused as refused_at};
 ghost use Rattle.records.specs.paper.Plan.{literal};
 ghost use Rattle.records.specs.code.Decoded.{numbers_of, edge_of, nodes_of, edges_of, statuses_of, plan_of};
 ghost use Rattle.records.specs.code.PlanRead.{plan_read_of};
-ghost use Rattle.spreadsheet.specs.paper.Table.{drafted as draftedPlan, tabled};
+ghost use Rattle.spreadsheet.specs.paper.Table.{drafted as drafted_plan, tabled};
 ghost use Rattle.spreadsheet.specs.code.RuleSeen.{edge_seen};
 
 use crate::rule::{Ends, Rule, Start, header, rule_at};
@@ -55,7 +55,7 @@ fn edge_from(ends: Ends) -> Edge
 }
 
 fn drafted(edges: Edges, statuses: Statuses) -> Plan
-    ensures { plan_of result ≡ draftedPlan (edges_of edges) (statuses_of statuses) }
+    ensures { plan_of result ≡ drafted_plan (edges_of edges) (statuses_of statuses) }
 {
     Plan {
         headings: 1,
@@ -73,7 +73,7 @@ fn drafted(edges: Edges, statuses: Statuses) -> Plan
 }
 
 fn refused(row: usize) -> PlanRead
-    ensures { plan_read_of result ≡ refusedAt 16 row }
+    ensures { plan_read_of result ≡ refused_at 16 row }
 {
     PlanRead {
         number: 16,
@@ -83,7 +83,7 @@ fn refused(row: usize) -> PlanRead
 }
 
 fn accepted(edges: Edges, statuses: Statuses) -> PlanRead
-    ensures { plan_read_of result ≡ fine (draftedPlan (edges_of edges) (statuses_of statuses)) }
+    ensures { plan_read_of result ≡ fine (drafted_plan (edges_of edges) (statuses_of statuses)) }
 {
     PlanRead {
         number: 0,

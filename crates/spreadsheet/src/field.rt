@@ -1,6 +1,6 @@
 // A field of a row: where its text starts and ends, and the place behind it.
 ghost use Rattle.std.specs.Prelude.{◌≡◌, ◌+◌, ◌≤◌, ◌<◌, length, drop, get_or};
-ghost use Rattle.spreadsheet.specs.paper.Quoting.{strange as strangeByte, ends as endsText, quoted, plain};
+ghost use Rattle.spreadsheet.specs.paper.Quoting.{strange as strange_byte, ends as ends_text, quoted, plain};
 ghost use Rattle.spreadsheet.specs.paper.Rows.{comma, last};
 ghost use Rattle.spreadsheet.specs.code.FieldSeen.{until, clean, clean_at, field_seen, within, past};
 
@@ -12,7 +12,7 @@ pub enum Field {
 }
 
 fn strange(b: u8) -> bool
-    ensures { result ≡ strangeByte b }
+    ensures { result ≡ strange_byte b }
 {
     if b == b'"' {
         return true;
@@ -24,7 +24,7 @@ fn strange(b: u8) -> bool
 }
 
 fn ends(b: u8) -> bool
-    ensures { result ≡ endsText b }
+    ensures { result ≡ ends_text b }
 {
     if b == b',' {
         return true;
@@ -35,7 +35,7 @@ fn ends(b: u8) -> bool
 // Up to a comma, a quote or the row's end.
 fn plain_end(s: &[u8], at: usize) -> usize
     requires { at ≤ length s.now }
-    ensures { (result ≡ at + until endsText (drop at s.now)) × (result ≤ length s.now) }
+    ensures { (result ≡ at + until ends_text (drop at s.now)) × (result ≤ length s.now) }
 {
     let mut i = at;
     while i < s.len() {
@@ -50,7 +50,7 @@ fn plain_end(s: &[u8], at: usize) -> usize
 // Up to a quote, CR or LF.
 fn quoted_end(s: &[u8], at: usize) -> usize
     requires { at ≤ length s.now }
-    ensures { (result ≡ at + until strangeByte (drop at s.now)) × (result ≤ length s.now) }
+    ensures { (result ≡ at + until strange_byte (drop at s.now)) × (result ≤ length s.now) }
 {
     let mut i = at;
     while i < s.len() {

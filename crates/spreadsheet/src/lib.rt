@@ -1,4 +1,6 @@
 // A plan out of a table of rules by RFC 4180.
+#![tactic(auto)]
+
 pub mod draft;
 pub mod field;
 pub mod number;

@@ -13,7 +13,7 @@ use Rattle.expressions.specs.paper.Nodes.{on}
 use Rattle.worlds.specs.paper.World.{World, about}
 use Rattle.worlds.specs.paper.View.{leads, cut_citations}
 use Rattle.worlds.proofs.CiteLaws.{meets_in}
-use Rattle.worlds.proofs.CiteRules.{either, or_in, any_in, any_of}
+use Rattle.worlds.proofs.CiteRules.{either, or_in, any_in, any_of_lem}
 
 module _ (P : Plan) (w : World) where
   abbrev pub own_cuts : ℕ → ℕ
@@ -44,8 +44,8 @@ module _ (P : Plan) (w : World) where
       cites : has (one (cut P which).citation) q ≡ true
       holds : has (cut P which).members x ≡ true
 
-    own_of : (x q : ℕ) → has (own_cuts x) q ≡ true → Own x q
-    own_of x q e =
+    own_of_lem : (x q : ℕ) → has (own_cuts x) q ≡ true → Own x q
+    own_of_lem x q e =
         let r = union_find (cut_count P) (λ c. only (on w.applied c && has (cut P c).members x) (one (cut P c).citation)) q e in
         let t = of_only (on w.applied r.0 && has (cut P r.0).members x) (one (cut P r.0).citation) q r.2 in
         let u = and_parts (on w.applied r.0) (has (cut P r.0).members x) t.0 in
@@ -77,20 +77,20 @@ module _ (P : Plan) (w : World) where
     unfolding leads
     leads_of m e h = ⊎_elim (λ x. inl (and_parts _ _ x)) (λ x. inr (and_parts _ _ x)) (either (has b (edge P e).left && has m (edge P e).right) _ h)
 
-    cut_of : (q : ℕ) → has (cut_citations P w p b) q ≡ true
+    cut_of_lem : (q : ℕ) → has (cut_citations P w p b) q ≡ true
         → (c : ℕ) × (c < cut_count P) × (on w.applied c ≡ true) × (has (one (cut P c).citation) q ≡ true) × ((has (cut P c).members p || through-edges c) ≡ true)
     unfolding cut_citations through-edges
-    cut_of q h =
+    cut_of_lem q h =
         let r = union_find (cut_count P) _ q h in
         let c = r.0 in
         let t = of_only (on w.applied c && (has (cut P c).members p || through-edges c)) (one (cut P c).citation) q r.2 in
         let u = and_parts (on w.applied c) (has (cut P c).members p || through-edges c) t.0 in
         (c, r.1, u.0, t.1, u.1)
 
-    edge_of : (c : ℕ) → through-edges c ≡ true → (e : ℕ) × (e < edge_count P) × (on w.active.frozen e ≡ true) × (leads P w b (cut P c).members e ≡ true)
+    edge_of_lem : (c : ℕ) → through-edges c ≡ true → (e : ℕ) × (e < edge_count P) × (on w.active.frozen e ≡ true) × (leads P w b (cut P c).members e ≡ true)
     unfolding through-edges about
-    edge_of c h =
-        let r = any_of (edge_count P) _ h in
+    edge_of_lem c h =
+        let r = any_of_lem (edge_count P) _ h in
         let e = r.0 in
         let t = and_parts (meets b (pair P e)) (on w.active.frozen e && leads P w b (cut P c).members e) r.2 in
         let u = and_parts (on w.active.frozen e) (leads P w b (cut P c).members e) t.1 in
@@ -106,7 +106,7 @@ module _ (P : Plan) (w : World) where
         ends = union_below (edge_count P) end
 
         mine : (q : ℕ) → has (own_cuts p) q ≡ true → has (cut_citations P w p b) q ≡ true
-        mine q h = let o = own_of p q h in cut_in q o.which o.below o.applied o.cites (or_in _ _ (inl o.holds))
+        mine q h = let o = own_of_lem p q h in cut_in q o.which o.below o.applied o.cites (or_in _ _ (inl o.holds))
 
         via : (q : ℕ) (c : ℕ) → through-edges c ≡ true → c < cut_count P → on w.applied c ≡ true → has (one (cut P c).citation) q ≡ true → has (cut_citations P w p b) q ≡ true
         via q c t l x h = cut_in q c l x h (or_in (has (cut P c).members p) (through-edges c) (inr t))
@@ -119,22 +119,22 @@ module _ (P : Plan) (w : World) where
             ⊎_elim
             (λ x.
             let u = of_only (has b (edge P e).left) (own_cuts (edge P e).right) q x in
-            let o = own_of (edge P e).right q u.1 in
+            let o = own_of_lem (edge P e).right q u.1 in
             via q o.which (led o.which e (edge P e).left r.1 t.0 (end_left e) u.0 (leads-out (cut P o.which).members e (u.0, o.holds))) o.below o.applied o.cites)
             (λ x.
             let u = of_only (has b (edge P e).right) (own_cuts (edge P e).left) q x in
-            let o = own_of (edge P e).left q u.1 in
+            let o = own_of_lem (edge P e).left q u.1 in
             via q o.which (led o.which e (edge P e).right r.1 t.0 (end_right e) u.0 (leads_back (cut P o.which).members e (u.0, o.holds))) o.below o.applied o.cites)
             (of_union (only (has b (edge P e).left) (own_cuts (edge P e).right)) (only (has b (edge P e).right) (own_cuts (edge P e).left)) q t.1)
 
         back : (q : ℕ) → has (cut_citations P w p b) q ≡ true → has (union (own_cuts p) ends) q ≡ true
         back q h =
-            let r = cut_of q h in
+            let r = cut_of_lem q h in
             let c = r.0 in
             let own = own_in q c in
             ⊎_elim (λ x. (in_union_l (own_cuts p) ends).at q (own p r.1 r.2 r.3 x))
             (λ x.
-            let d = edge_of c x in
+            let d = edge_of_lem c x in
             let e = d.0 in
             let left = only (has b (edge P e).left) (own_cuts (edge P e).right) in
             let right = only (has b (edge P e).right) (own_cuts (edge P e).left) in

@@ -84,10 +84,10 @@ meets-person p m b = both_ways (meets (meet (one p) m) b) (has b p && has m p) o
 pub any_in : (n : ℕ) (f : ℕ → Bool) (i : ℕ) → i < n → f i ≡ true → any_below n f ≡ true
 any_in n f i l h = ⊎_elim (λ e. e) (λ e. clash h (any_false n f e i l)) (which (any_below n f))
 
-pub any_of : (n : ℕ) (f : ℕ → Bool) → any_below n f ≡ true → (i : ℕ) × (i < n) × (f i ≡ true)
+pub any_of_lem : (n : ℕ) (f : ℕ → Bool) → any_below n f ≡ true → (i : ℕ) × (i < n) × (f i ≡ true)
 unfolding any_below
-any_of zero f e = absurd (false≢true e)
-any_of (suc n) f e = pick (either (any_below n f) (f n) e) (any_of n f)
+any_of_lem zero f e = absurd (false≢true e)
+any_of_lem (suc n) f e = pick (either (any_below n f) (f n) e) (any_of_lem n f)
   where
     pick : (any_below n f ≡ true) ⊎ (f n ≡ true) → (any_below n f ≡ true → (i : ℕ) × (i < n) × (f i ≡ true)) → (i : ℕ) × (i < suc n) × (f i ≡ true)
     pick (inl h) ih =

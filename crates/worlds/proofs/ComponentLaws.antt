@@ -1,15 +1,13 @@
 -- The component of a person, grown by those to whom its persons are led; and the components that are at discretion, each at one person.
 use mathlib.Core.Path.{◌≡◌, refl, sym, ap, ◌∙◌, subst, fun_ext}
-use mathlib.Core.Bool.{Bool, true, false}
+use mathlib.Core.Bool.{true, false}
 use mathlib.Core.Logic.{◌⊎◌, inl, inr, ⊎_elim}
 use mathlib.Core.List.{List, map}
-use Prim.Native.Nat.{ℕ, ◌+◌, ◌≤◌, ◌<◌, ◌^◌}
+use Prim.Native.Nat.{ℕ, ◌≤◌, ◌<◌, ◌^◌}
 use native.Mathlib.Omega.{arith}
-use lib.Bits.{bit_and, bit_or, or_add_and, and_comm, and_le_l}
-use lib.Dec.{eqb}
-use borrow.Author.Tests.{eqb-true}
-use Rattle.sets.specs.paper.Sets.{has, one, union, only, union_of, members, all_of, subset, close_of}
-use Rattle.sets.proofs.SetLaws.{Within, has-none, has_one, antisym, along, in_union_l, in_union_r, of_union}
+use lib.Bits.{bit_or, or_add_and, and_comm, and_le_l}
+use Rattle.sets.specs.paper.Sets.{has, one, union, only, union_of, members, all_of, subset}
+use Rattle.sets.proofs.SetLaws.{Within, has-none, antisym, along, in_union_l, in_union_r, of_union}
 use Rattle.sets.proofs.Closing.{Closed, close_closed, close_within, close_least, in_one, one-within}
 use Rattle.sets.proofs.BelowLaws.{of_only, in_only}
 use Rattle.sets.proofs.Local.{which, clash}

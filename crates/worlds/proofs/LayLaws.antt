@@ -4,7 +4,6 @@ use mathlib.Core.Bool.{Bool, true, false, ◌&&◌, ◌||◌, cond, and-false, o
 use mathlib.Core.List.{List, []}
 use mathlib.Core.Logic.{⊎_elim}
 use Prim.Native.Nat.{ℕ, ◌+◌, ◌≤◌, ◌<◌}
-use native.Mathlib.Numerals.{add-one}
 use native.Mathlib.Omega.{arith}
 use lib.ListN.{length, get_or, set}
 use lib.Seq.{get_or-set_same, get_or-set_other}
@@ -14,8 +13,6 @@ use borrow.Author.Tests.{eqb-true, eqb-false, eq-eqb, ne_eqb, lt-ltb, le-ltb}
 use Rattle.sets.specs.paper.Sets.{has, one, union, any_of, below, All}
 use Rattle.sets.proofs.SetLaws.{has_one, has-union, lt_or_le}
 use Rattle.sets.proofs.LoopLaws.{get_or-below, length-below, all_at}
-use Rattle.records.proofs.Listing
-use Rattle.expressions.proofs.ListLaws.{any_last}
 use Rattle.worlds.specs.code.Tables.{row}
 use Rattle.worlds.specs.code.Laid.{Laid, Row, Same}
 

@@ -1,5 +1,5 @@
 -- Step 2 by loops over masks: to whom edges lead, which sets are at discretion, and the classes that pass a test, each once.
-use mathlib.Core.Path.{◌≡◌, refl, sym, ap, ap₂, ◌∙◌, subst, fun_ext}
+use mathlib.Core.Path.{◌≡◌, refl, sym, ap, ap₂, ◌∙◌, subst}
 use mathlib.Core.Bool.{Bool, true, false, ◌&&◌, ◌||◌, not, cond, true≢false}
 use mathlib.Core.Logic.{◌⊎◌, inl, inr, ⊎_elim}
 use mathlib.Core.List.{List, [], ◌∷◌, map}
@@ -9,20 +9,15 @@ use native.Mathlib.Omega.{arith}
 use lib.Bits.{bit_and, and_le_l}
 use lib.Count.{ones_in, ones}
 use lib.Dec.{eqb, ltb}
-use lib.ListN.{length, set}
-use lib.Seq.{get_or-set_same, get_or-set_other}
 use borrow.Author.Tests.{eqb-true, eqb-false, eq-eqb, lt-ltb, le-ltb}
 use Rattle.sets.specs.paper.Sets.{has, one, union, meet, minus, only, subset, size, union_of, all_of, members, lowest, close_of}
-use Rattle.sets.proofs.SetLaws.{Within, has-none, has_one, has_meet, has-minus, ext, within-refl, along, in_union_l, in_union_r, of_union, of_minus, subset-true, within-subset, and_parts, and-not, ones-size}
-use Rattle.sets.proofs.Closing.{Closed, close_least, close_same, in_one, one-within}
+use Rattle.sets.proofs.SetLaws.{Within, has-none, has_one, has_meet, has-minus, ext, within-refl, in_union_l, in_union_r, of_union, of_minus, subset-true, within-subset, and_parts, and-not, ones-size}
+use Rattle.sets.proofs.Closing.{Closed, close_same, in_one}
 use Rattle.sets.proofs.Local.{which, clash}
 use Rattle.sets.proofs.UnionLaws.{union_assoc, union-none}
 use Rattle.worlds.specs.code.Over.{entry}
-use Rattle.worlds.specs.code.Classes.{Alone, ClassesBy, Joins, joinable}
-use Rattle.worlds.specs.code.Discretion.{near, clique_by, loose_by, Heads, LooseParts}
+use Rattle.worlds.specs.code.Discretion.{near, clique_by, loose_by, Heads}
 use Rattle.sets.proofs.TurnLaws.{members-next, members-none}
-use Rattle.worlds.proofs.ClassLaws.{closed-inside}
-use Rattle.worlds.proofs.FirstBlocks.{close_class}
 
 -- ---- a class of one person is never at discretion
 

@@ -81,15 +81,15 @@ module _ (C : ℕ → Bool) (P : Plan) (K : Uncrossed C P) (applied : List Bool)
 -- ---- step 7: an attachment outside changes nothing inside, one inside does the same in both
 
 -- a block of a state that is made anew
-block_at : (Q : ℕ → Type 0) (f : ℕ → ℕ) (p : ℕ) → Q 0 → Q (f p) → Q (get_or (below 64 f) p 0)
-block_at Q f p z h = below_two (λ x (y : ℕ). Q x) 64 f f 0 0 z p h
+block_at_lem : (Q : ℕ → Type 0) (f : ℕ → ℕ) (p : ℕ) → Q 0 → Q (f p) → Q (get_or (below 64 f) p 0)
+block_at_lem Q f p z h = below_two (λ x (y : ℕ). Q x) 64 f f 0 0 z p h
 
 move-far : (C : ℕ → Bool) (i target movers : ℕ) → Outside C target → Outside C movers → (s t : State) → Alike C s t → Alike C (move i target movers s) t
 unfolding move
 move-far C i target movers to mo s t A = record {
   same = λ p e. kept p e ∙ A.same p e;
   inner = λ p e. subst (Inside C) (sym (kept p e)) (A.inner p e);
-  left_out = λ p e. block_at (Outside C) moved p (in_zero (outer C)) (in_cond (outer C) (has target p) to (in_less (outer C) movers (A.left_out p e)));
+  left_out = λ p e. block_at_lem (Outside C) moved p (in_zero (outer C)) (in_cond (outer C) (has target p) to (in_less (outer C) movers (A.left_out p e)));
   right-out = A.right-out;
   left-past = λ p l. get_d_past 64 moved 0 p l;
   right-past = A.right-past;
@@ -113,9 +113,9 @@ move-near : (C : ℕ → Bool) (i target movers : ℕ) → Inside C target → I
 unfolding move
 move-near C i target movers ti mi s t A = record {
   same = λ p e. below_two ◌≡◌ 64 _ _ 0 0 refl p (ap (λ (x : ℕ). cond (has target p) target (minus x movers)) (A.same p e));
-  inner = λ p e. block_at (Inside C) _ p (in_zero C) (in_cond C (has target p) ti (in_less C movers (A.inner p e)));
-  left_out = λ p e. block_at (Outside C) _ p (in_zero (outer C)) (outside_of p (block_of s p) e (A.left_out p e));
-  right-out = λ p e. block_at (Outside C) _ p (in_zero (outer C)) (outside_of p (block_of t p) e (A.right-out p e));
+  inner = λ p e. block_at_lem (Inside C) _ p (in_zero C) (in_cond C (has target p) ti (in_less C movers (A.inner p e)));
+  left_out = λ p e. block_at_lem (Outside C) _ p (in_zero (outer C)) (outside_of p (block_of s p) e (A.left_out p e));
+  right-out = λ p e. block_at_lem (Outside C) _ p (in_zero (outer C)) (outside_of p (block_of t p) e (A.right-out p e));
   left-past = λ p l. get_d_past 64 _ 0 p l;
   right-past = λ p l. get_d_past 64 _ 0 p l;
   attached = agree-union C A.attached (agree_refl C movers);
@@ -162,9 +162,9 @@ module _ (C : ℕ → Bool) (P : Plan) (roster : ℕ) (K : Uncrossed C P) (a b :
   unfolding first_state
   first_alike = record {
     same = λ p e. below_two ◌≡◌ 64 _ _ 0 0 refl p (first-same p e);
-    inner = λ p e. block_at (Inside C) _ p (in_zero C) (first_in C P K ka roster m _ (rest_weak C P K ka a (rest m ka)) p e);
-    left_out = λ p e. block_at (Outside C) _ p (in_zero (outer C)) (first_out C P K ka roster m _ (rest_weak C P K ka a (rest m ka)) p e);
-    right-out = λ p e. block_at (Outside C) _ p (in_zero (outer C)) (first_out C P K kb roster n _ (rest_weak C P K kb b (rest n kb)) p e);
+    inner = λ p e. block_at_lem (Inside C) _ p (in_zero C) (first_in C P K ka roster m _ (rest_weak C P K ka a (rest m ka)) p e);
+    left_out = λ p e. block_at_lem (Outside C) _ p (in_zero (outer C)) (first_out C P K ka roster m _ (rest_weak C P K ka a (rest m ka)) p e);
+    right-out = λ p e. block_at_lem (Outside C) _ p (in_zero (outer C)) (first_out C P K kb roster n _ (rest_weak C P K kb b (rest n kb)) p e);
     left-past = λ p l. get_d_past 64 _ 0 p l;
     right-past = λ p l. get_d_past 64 _ 0 p l;
     attached = agree_refl C 0;

@@ -1,4 +1,6 @@
 // One world: steps 1 to 8 on one valuation.
+#![tactic(auto)]
+
 pub mod active;
 pub mod cite;
 pub mod classes;

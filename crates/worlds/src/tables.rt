@@ -59,7 +59,7 @@ pub const BLOCKINGS: usize = 1;
 pub const CLASHES: usize = 2;
 
 // `base`: the Base edges that can mark discretion, none where there is a chain citation; attachments, bars, statuses: all of them.
-#[derive(Drop)]
+#[derive(Clone, Copy)]
 pub struct Common {
     pub roster: u64,
     pub base: u64,
@@ -69,7 +69,7 @@ pub struct Common {
 }
 
 // What a valuation says of the rules: which edges are frozen, which rules active, which decisions true.
-#[derive(Drop)]
+#[derive(Clone, Copy)]
 pub struct Active {
     pub frozen: u64,
     pub cuts: u64,
@@ -82,7 +82,7 @@ pub struct Active {
 // What a world settles by sets: the lowest persons of the components at discretion, and those of them at whom this component was not noted yet;
 // the marks; the applied cuts; the attachments that were not skipped, and whom they attached; the bars that hold, and whom they bar; whom a
 // status excludes.
-#[derive(Drop)]
+#[derive(Clone, Copy)]
 pub struct Settled {
     pub heads: u64,
     pub fresh: u64,

@@ -1,5 +1,5 @@
 -- Bound facts and the refusals that come with them. Document 01, "Bound facts".
-use Rattle.std.specs.Prelude.{Bool, true, false, ◌&&◌, ◌||◌, not, cond, ℕ, ◌+◌, length, get_or, eqb}
+use Rattle.std.specs.Prelude.{Bool, true, false, ◌&&◌, ◌||◌, not, cond, ℕ, length, get_or, eqb}
 use mathlib.Core.List.{List, [], ◌∷◌, ◌++◌, flat_map}
 use Rattle.sets.specs.paper.Sets.{has, one, union, below, all_of, any_of, union_of, set_of}
 use Rattle.records.specs.paper.Fields.{Verdict, fine, first_fault, fault}

@@ -4,7 +4,7 @@ ghost use Rattle.records.specs.code.Passes.{at_start, end_number};
 
 // number 0: nothing is refused so far, `record` records were read, and `at` is the place after them; else the refusal's number and record, and the
 // place is free. `headed`: there is a heading.
-#[derive(Drop)]
+#[derive(Clone, Copy)]
 pub struct Passing {
     pub number: u8,
     pub record: usize,

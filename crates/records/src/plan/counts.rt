@@ -5,7 +5,7 @@ ghost use Rattle.records.specs.code.Named.{CountsOf, CountLimits};
 use crate::plan::Plan;
 use sets::numbers::upto;
 
-#[derive(Drop)]
+#[derive(Clone, Copy)]
 pub struct Counts {
     pub headings: usize,
     pub facts: usize,

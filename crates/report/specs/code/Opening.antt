@@ -1,5 +1,5 @@
 -- The refusals of a case's heading, as the code finds them.
-use Rattle.std.specs.Prelude.{◌≡◌, List, ℕ, take}
+use Rattle.std.specs.Prelude.{◌≡◌, ℕ, take}
 use Rattle.records.specs.paper.Plan.{Plan}
 use Rattle.records.specs.code.Decoded.{case_heading_of, statuses_of}
 use Rattle.records.specs.declared.case.CaseHeading.{CaseHeading}

@@ -1,5 +1,5 @@
 -- Check a plan, answer a case, show a world. Document 01, "Refused, by operation": result, refusal and every byte of both lent buffers.
-use Rattle.std.specs.Prelude.{Bool, ◌||◌, not, cond, ℕ, zero, suc, ◌+◌, ◌*◌, ◌-◌, length, get_or, replicate, drop, eqb, ltb}
+use Rattle.std.specs.Prelude.{Bool, ◌||◌, not, cond, ℕ, zero, suc, ◌*◌, ◌-◌, length, get_or, replicate, drop, eqb, ltb}
 use mathlib.Core.List.{List, [], ◌∷◌, ◌++◌, map, flat_map}
 use Rattle.sets.specs.paper.Sets.{subset, size, members}
 use Rattle.records.specs.paper.Fields.{Verdict, fine, refused}

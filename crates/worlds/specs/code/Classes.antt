@@ -1,5 +1,5 @@
 -- Classes of persons in a table: at each person all who are joined to that person.
-use Rattle.std.specs.Prelude.{◌≡◌, true, false, cond, List, ◌++◌, ℕ, ◌<◌, ◌^◌}
+use Rattle.std.specs.Prelude.{◌≡◌, true, false, List, ◌++◌, ℕ, ◌<◌, ◌^◌}
 use Rattle.sets.specs.paper.Sets.{has, one, only, subset, all_of, close_of}
 use Rattle.worlds.specs.code.Over.{entry}
 

@@ -1,5 +1,5 @@
 -- What is made once for a case and lent to its worlds, and what of one world stands in masks.
-use Rattle.std.specs.Prelude.{◌≡◌, Bool, true, ◌&&◌, ◌||◌, not, List, [], ℕ, ◌<◌, ◌^◌, get_or, eqb, ltb}
+use Rattle.std.specs.Prelude.{◌≡◌, Bool, true, ◌&&◌, not, List, [], ℕ, ◌<◌, ◌^◌, get_or, eqb, ltb}
 use Rattle.sets.specs.paper.Sets.{has, one, meets, subset, rising_less}
 use Rattle.records.specs.paper.Plan.{Plan, one_end}
 use Rattle.records.specs.promises.Sound.{Sound}

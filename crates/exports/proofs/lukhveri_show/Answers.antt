@@ -1,0 +1,6 @@
+-- `lukhveri_show`: what a world shown hands over.
+use Rattle.exports.proofs.HandLaws.{hands}
+use Rattle.exports.proofs.lukhveri_show.Goals as goal
+
+pub returns : goal.returns
+returns c = let t = c.tell.ensures in hands t.0 t.1 c.show-answer.ensures

@@ -1,0 +1,25 @@
+use mathlib.Core.Path.{refl, ap}
+use native.Mathlib.Omega.{arith}
+use Rattle.records.specs.code.Decoded.{cut_of}
+use Rattle.expressions.specs.code.Listed.{used_at}
+use Rattle.expressions.proofs.RuleLaws.{adding_none, adding_next, adding_end}
+use Rattle.expressions.proofs.rules.add_cuts.Goals as goal
+
+pub loop-i-init : goal.loop-i-init
+loop-i-init c = adding_none (omega (arith, c.well_formed)) c.upto-n.ensures.0
+
+pub overflow_add-at : goal.overflow_add-at
+overflow_add-at c = omega (arith, c.upto-n.ensures.1, c.requires)
+
+pub push-requires : goal.push-requires
+push-requires c = omega (arith, c.upto-n.ensures.1, c.requires)
+
+pub loop-i-preserved : goal.loop-i-preserved
+unfolding cut_of
+loop-i-preserved c = adding_next c.loop-i.invariant _ c.loop-i-test.true c.push.ensures (ap (used_at c.args.nodes.now) c.wide-k.ensures.0) refl
+
+pub overflow_add-result : goal.overflow_add-result
+overflow_add-result c = omega (arith, c.upto-n.ensures.1, c.requires)
+
+pub returns : goal.returns
+returns c = (adding_end c.loop-i.invariant c.loop-i-test.false, omega (arith, c.upto-n.ensures.1))

@@ -1,0 +1,41 @@
+use mathlib.Core.Path.{◌≡◌, sym, ◌∙◌}
+use native.Mathlib.Nat.{min-le_right}
+use native.Mathlib.Omega.{arith}
+use lib.ListN.{length}
+use borrow.Author.Tests.{not-true, not-false}
+use Rattle.records.specs.code.Decoded.{relation_of}
+use Rattle.records.specs.paper.Case as case
+use Rattle.records.specs.code.CaseNamed.{relation_faults}
+use Rattle.records.proofs.ListLaws.{length_front}
+use Rattle.records.proofs.FaultLaws.{none_yet, one_faulty, one-sound, none_left}
+use Rattle.records.proofs.case.naming.relation_faults.Goals as goal
+
+pub loop-k-init : goal.loop-k-init
+loop-k-init c =
+    let x = c.args.relations in
+    let long : length x.items ≡ 256 = omega (arith, c.well_formed) in
+    (omega arith, omega (arith, c.upto-count.ensures.0, min-le_right x.count 256), c.upto-count.ensures.0 ∙ sym (length_front relation_of x.items x.count 256 long), λ P C e. none_yet c.args.first (relation_faults P C x) C)
+
+pub returns-then-not-contains : goal.returns-then-not-contains
+unfolding relation_of
+returns-then-not-contains c =
+    let a = c.args in let l = c.loop-k in let r = c.contains in λ P C e.
+    one_faulty (case.relation_sound P C) relation_of a.relations.items a.relations.count _ l.invariant.2 a.first C l.k (l.invariant.3 P C e) _ c.loop-k-test.true
+    (sym (r.ensures ∙ e (relation_of _)) ∙ not-true r.result c.if-not-contains.true-raw)
+
+pub loop-k-preserved : goal.loop-k-preserved
+unfolding relation_of
+loop-k-preserved c =
+    let a = c.args in let l = c.loop-k in let r = c.contains in (
+      omega arith,
+      l.invariant.1,
+      l.invariant.2,
+      λ P C e.
+          one-sound (case.relation_sound P C) relation_of a.relations.items a.relations.count _ l.invariant.2 a.first C l.k (l.invariant.3 P C e) _ c.loop-k-test.true
+          (sym (r.ensures ∙ e (relation_of _)) ∙ not-false r.result c.if-not-contains.false-raw),
+    )
+
+pub returns : goal.returns
+returns c =
+    let a = c.args in let l = c.loop-k in λ P C e.
+    none_left (case.relation_sound P C) relation_of a.relations.items a.relations.count _ l.invariant.2 a.first C l.k (l.invariant.3 P C e) c.loop-k-test.false

@@ -1,0 +1,79 @@
+use mathlib.Core.Path.{refl}
+use native.Mathlib.Omega.{arith}
+use lib.ListN.{length, length-set}
+use Rattle.records.specs.paper.Fields as fields
+use Rattle.records.specs.code.Decoded.{status_of, statuses_of}
+use Rattle.records.specs.code.PlanPasses.{status_read}
+use Rattle.sets.proofs.LoopLaws.{length-made}
+use Rattle.records.proofs.Reading.{seen}
+use Rattle.records.proofs.Passing.{going, ends-short, ends_other, ends-refused, refused-bad, refused_judged, goes_on, goes_later, counted}
+use Rattle.records.proofs.KindLaws.{status_kind, needs_test, made_more, judge-same}
+use borrow.Author.Rules.{rules}
+use Rattle.records.proofs.plan.reading.statuses.read_statuses.Goals as goal
+
+pub loop-here-init : goal.loop-here-init
+loop-here-init c =
+    let a = c.args in
+    let e = c.no_statuses-statuses.ensures in
+    (c.requires, omega (arith, e.1), e.2, going status_kind a.s.now a.from (statuses_of c.no_statuses-statuses.result) e.0, refl)
+
+pub bounds-statuses-n : goal.bounds-statuses-n
+bounds-statuses-n c = let h = c.judged.ensures.1 c.if-here-ne0.false in search (rules, h)
+
+pub overflow_add-statuses : goal.overflow_add-statuses
+overflow_add-statuses c = let h = c.judged.ensures.1 c.if-here-ne0.false in search (rules, h)
+
+pub overflow_add-at : goal.overflow_add-at
+overflow_add-at c = search rules
+
+pub overflow_add-here : goal.overflow_add-here
+overflow_add-here c = counted c.loop-here.invariant.0 (search rules)
+
+pub loop-here-smaller : goal.loop-here-smaller
+loop-here-smaller c =
+    let i = c.loop-here.invariant in
+    let z = goes_later status_kind _ _ i.3 c.if-here-eq0.true-raw i.0 c.loop-here-test.true c.if-s-at-ne8.false tt (seen status_read c.status_at.ensures c.in-Got.is) in
+    omega (arith, z)
+
+pub loop-here-preserved : goal.loop-here-preserved
+loop-here-preserved c =
+    let i = c.loop-here.invariant in
+    let l = c.loop-here.statuses in
+    let b = c.in-Got.bits in
+    let f = seen status_read c.status_at.ensures c.in-Got.is in
+    let z = goes_later status_kind _ _ i.3 c.if-here-eq0.true-raw i.0 c.loop-here-test.true c.if-s-at-ne8.false tt f in
+    let h = c.judged.ensures.1 c.if-here-ne0.false in
+    let j = judge-same 32 l.count (length (statuses_of l)) _ (fields.needs 7 b) c.args.from.headed c.judged.ensures.0 (length-made status_of l.items l.count (omega (arith, i.1, i.2))) (needs_test b 7) in (
+      omega (arith, z),
+      omega (arith, h),
+      rw length-set i.2,
+      goes_on status_kind _ _ i.3 c.if-here-eq0.true-raw i.0 c.loop-here-test.true c.if-s-at-ne8.false tt f _ j c.if-here-ne0.false _ (made_more status_of l.items l.count _ (omega (arith, i.2, h))),
+      i.4,
+    )
+
+pub returns-in_default : goal.returns-in_default
+returns-in_default c =
+    let i = c.loop-here.invariant in
+    rw c.refused.ensures (refused-bad status_kind _ _ i.3 c.if-here-eq0.true-raw i.0 c.loop-here-test.true c.if-s-at-ne8.false (seen status_read c.status_at.ensures c.in_default.is), i.0, i.4)
+
+pub returns-else-here-eq0 : goal.returns-else-here-eq0
+returns-else-here-eq0 c =
+    let i = c.loop-here.invariant in
+    (ends-refused status_kind _ _ i.3 c.if-here-eq0.false-raw, i.0, i.4)
+
+pub returns-after-loop-here : goal.returns-after-loop-here
+returns-after-loop-here c =
+    let i = c.loop-here.invariant in
+    (ends-short status_kind _ _ i.3 c.loop-here-test.false, i.0, i.4)
+
+pub returns-then-s-at-ne8 : goal.returns-then-s-at-ne8
+returns-then-s-at-ne8 c =
+    let i = c.loop-here.invariant in
+    (ends_other status_kind _ _ i.3 c.if-s-at-ne8.true, i.0, i.4)
+
+pub returns-then-here-ne0 : goal.returns-then-here-ne0
+returns-then-here-ne0 c =
+    let i = c.loop-here.invariant in
+    let l = c.loop-here.statuses in
+    let j = judge-same 32 l.count (length (statuses_of l)) _ (fields.needs 7 c.in-Got.bits) c.args.from.headed c.judged.ensures.0 (length-made status_of l.items l.count (omega (arith, i.1, i.2))) (needs_test c.in-Got.bits 7) in
+    (refused_judged status_kind _ _ i.3 c.if-here-eq0.true-raw i.0 c.loop-here-test.true c.if-s-at-ne8.false tt (seen status_read c.status_at.ensures c.in-Got.is) _ j c.if-here-ne0.true, i.0, i.4)

@@ -1,0 +1,8 @@
+-- `sets::union`: `a | b`.
+use mathlib.Core.Path.{refl}
+use Rattle.sets.specs.paper.Sets.{union}
+use Rattle.sets.proofs.union.Goals as goal
+
+pub returns : goal.returns
+unfolding union
+returns c = refl

@@ -1,0 +1,13 @@
+-- `conditions::lay_condition`: one store.
+use Prim.Native.Nat.{◌<◌}
+use native.Mathlib.Omega.{arith}
+use lib.ListN.{length}
+use Rattle.worlds.proofs.LayLaws.{laid_at}
+use Rattle.worlds.proofs.conditions.lay_condition.Goals as goal
+
+pub returns : goal.returns
+returns c =
+    let s = c in
+    let w = c.whole_6_rows_of_bytes.ensures in
+    let rows : s.args.k < length s.args.conditions.now = omega (arith, w.0, s.requires) in
+    laid_at s.args.conditions.now s.args.k s.args.i s.args.node rows (omega (arith, w.1 s.args.k s.requires.0, s.requires.1))

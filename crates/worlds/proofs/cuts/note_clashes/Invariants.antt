@@ -1,0 +1,15 @@
+-- `cuts::note_clashes`: with what is to be noted at the cuts left, the table is the one asked for.
+use mathlib.Core.Path.{◌≡◌}
+use Prim.Native.Nat.{ℕ, ◌<◌, ◌^◌}
+use lib.ListN.{length}
+use Rattle.sets.specs.paper.Sets.{meet}
+use Rattle.worlds.specs.code.Tables.{row}
+use Rattle.worlds.proofs.NoteLaws.{noting}
+use Rattle.worlds.proofs.cuts.note_clashes.Given as goal
+
+abbrev pub invariant-loop-m : goal.invariant-loop-m
+invariant-loop-m l =
+    (l.m < 2 ^ 64) × (length l.noted ≡ 64) × ((i : ℕ) → noting (λ c. meet (row l.t 6 c) l.cuts) l.m l.noted i ≡ noting (λ c. meet (row l.t 6 c) l.cuts) l.cuts l.initial.noted i)
+
+abbrev pub decreases-loop-m : goal.decreases-loop-m
+decreases-loop-m l = l.m
