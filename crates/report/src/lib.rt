@@ -25,7 +25,7 @@ pub mod sums;
 pub mod walk;
 
 // What an operation answers; `specs/paper/Operations.antt` gives document 01's numbers for each.
-#[derive(Drop)]
+#[derive(Clone, Copy)]
 pub enum Answer {
     // a plan without fault
     Accepted,
