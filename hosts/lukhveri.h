@@ -1,7 +1,7 @@
 /* Lukhveri for C hosts: finds the units of a roster, the people whom a fee scheme counts together.
  *
  * A plan holds the scheme's rules, a case holds what is known of a roster's people; the answer is one line for each person. Link
- * target/staticlib/libexports.a, which `rt staticlib exports` makes (x86-64, C calling convention; of the C library it needs memcpy and memset).
+ * target/staticlib/libexports.a, which `tools/build exports` makes (x86-64, C calling convention; of the C library it needs memcpy and memset).
  *
  * Rules of use
  *   - Any bytes may be given as plan, case and table, any numbers as amounts, and buffers of any length and content may be lent: nothing is asked of

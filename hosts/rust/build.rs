@@ -29,7 +29,7 @@ fn main() {
     println!("cargo::rerun-if-changed={}", library.display());
     if !library.is_file() {
         println!(
-            "cargo::error=target/staticlib/libexports.a is missing: run `rt staticlib exports` in the repository's root"
+            "cargo::error=target/staticlib/libexports.a is missing: run `tools/build exports` in the repository's root"
         );
         return;
     }

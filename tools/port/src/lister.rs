@@ -4,7 +4,7 @@ use std::path::PathBuf;
 use std::process::{Command, Output, Stdio};
 use std::{env, fs, io, process};
 
-/// Where `rt check lister` puts it.
+/// Where `tools/build lister` puts it.
 const PROGRAM: &str = concat!(env!("CARGO_MANIFEST_DIR"), "/../../target/bin/lister");
 
 /// Bytes that it reads of a file.
