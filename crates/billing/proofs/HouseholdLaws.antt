@@ -15,7 +15,7 @@ use Rattle.report.specs.paper.Line.{Line}
 use Rattle.report.specs.paper.LineAt.{line_at, decoded, lines_from}
 use Rattle.report.specs.paper.Units.{join_unit, units_with, units}
 use Rattle.billing.specs.paper.Households.{makes_household, household, household_count}
-use Rattle.billing.specs.Shown.{Shows}
+use Rattle.billing.specs.Shown.{with_block}
 use Rattle.billing.specs.declared.fields.Fields.{Fields}
 use Rattle.billing.proofs.UnitLaws.{lines_next, lines_none}
 use Rattle.billing.proofs.ByUnits.{units-once, units_any}
@@ -24,15 +24,7 @@ use Rattle.billing.proofs.LinePlaces.{any_at, at_all}
 -- ---- lines with a block only where the person makes it a household
 
 abbrev pub making : Line → Line
-making l = record {
-  person = l.person;
-  kind = l.kind;
-  role = l.role;
-  block = only (makes_household l.kind l.role) l.block;
-  open_facts = l.open_facts;
-  open_decisions = l.open_decisions;
-  citations = l.citations;
-}
+making l = with_block (λ l. only (makes_household l.kind l.role) l.block) l
 
 -- their units
 abbrev pub making_units : List Line → List ℕ
@@ -86,20 +78,3 @@ households_made ls =
     sym (sum_where _ _ (making_units ls) (making_once ls) ∙ count_all (making_units ls))
     ∙ sum_by (λ u. u) (λ u. true) (λ u. 1) (making_units ls) (units ls) (all_then _ _ (λ u e. units-once (map making ls) u) (units ls) (units_making ls))
     ∙ sum_where _ _ (units ls) (all_then _ _ (λ u e. ap (λ (b : Bool). only b 1) e) (units ls) (units_making ls))
-
--- ---- line after line: what is still to come from line k on
-
-pub makes_same : (l : Line) (f : Fields) → Shows l f → only (makes_household f.kind f.role) f.block ≡ (making l).block
-makes_same l f shows = rw (shows.kind, shows.role, shows.block) refl
-
-abbrev pub making_from : List ℕ → List ℕ → ℕ → ℕ → List ℕ
-making_from us s k n = units_with us (map making (lines_from s k (n - k)))
-
-pub making_next : (s us : List ℕ) (k n b : ℕ) → k < n → b ≡ (making (decoded (line_at s k))).block → making_from (join_unit us b) s (k + 1) n ≡ making_from us s k n
-unfolding units_with
-making_next s us k n b h e =
-    ap (λ (b : ℕ). making_from (join_unit us b) s (k + 1) n) e ∙ sym (ap (λ (ls : List Line). units_with us (map making ls)) (lines_next s k n h))
-
-pub making_end : (s us : List ℕ) (k n : ℕ) → n ≤ k → us ≡ making_from us s k n
-unfolding units_with
-making_end s us k n h = sym (ap (λ (ls : List Line). units_with us (map making ls)) (lines_none s k n h))

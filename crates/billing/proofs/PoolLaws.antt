@@ -2,12 +2,14 @@
 use mathlib.Core.Path.{◌≡◌, refl, sym, ap, ap₂, ◌∙◌}
 use mathlib.Core.Bool.{Bool, true, false, ◌&&◌, ◌||◌, not}
 use mathlib.Core.List.{List, ◌∷◌}
-use Prim.Native.Nat.{ℕ, suc, ◌+◌, ◌-◌, ◌≤◌, ◌<◌}
+use Prim.Native.Nat.{ℕ, zero, suc, ◌+◌, ◌-◌, ◌≤◌, ◌<◌}
+use native.Mathlib.Numerals.{add-one}
 use native.Mathlib.Omega.{arith}
 use lib.ListN.{length, get_or, drop}
 use lib.Seq.{drop-cons}
 use lib.Dec.{eqb}
-use Rattle.sets.specs.paper.Sets.{only, any_of, sum_of}
+use Rattle.std.specs.List.{list_any, range_with_len}
+use Rattle.sets.specs.paper.Sets.{any_of, sum_of}
 use Rattle.sets.proofs.SumLaws.{sum_first, sum_end}
 use Rattle.report.specs.paper.Line.{Line}
 use Rattle.report.specs.paper.LineAt.{line_at, decoded, lines_from}
@@ -40,29 +42,8 @@ pub shares-ended : (f : Share → ℕ) (s cs : List ℕ) (k n sum : ℕ) → n �
 unfolding shares
 shares-ended f s cs k n sum h = sym (sum_end f sum _ (ap (λ (ls : List Line). shares ls (drop k cs)) (lines_none s k n h)))
 
--- ---- a test of some line, from line k on
-
-module _ (f : Line → Bool) (s : List ℕ) (k n : ℕ) where
-  pub some-here : k < n → f (decoded (line_at s k)) ≡ true → any_of f (lines_from s k (n - k)) ≡ true
-  unfolding any_of
-  some-here h e = ap (any_of f) (lines_next s k n h) ∙ ap (λ (b : Bool). b || any_of f (lines_from s (k + 1) (n - (k + 1)))) e
-
-  pub some-later : k < n → f (decoded (line_at s k)) ≡ false → any_of f (lines_from s k (n - k)) ≡ any_of f (lines_from s (k + 1) (n - (k + 1)))
-  unfolding any_of
-  some-later h e = ap (any_of f) (lines_next s k n h) ∙ ap (λ (b : Bool). b || any_of f (lines_from s (k + 1) (n - (k + 1)))) e
-
-  pub some-none : n ≤ k → any_of f (lines_from s k (n - k)) ≡ false
-  unfolding any_of
-  some-none h = ap (any_of f) (lines_none s k n h)
-
--- ---- what a line read back is counted for
-
-module _ (l : Line) (f : Fields) (shows : Shows l f) where
-  pub part_same : (b c d : ℕ) → c ≡ d → only (pooled_as f.kind f.role && eqb f.block b) c ≡ only (pooled l && eqb l.block b) d
-  part_same b c d e = rw (shows.kind, shows.role, shows.block, e) refl
-
-  pub rest-same : (c d : ℕ) → c ≡ d → only (not (pooled_as f.kind f.role)) c ≡ only (not (pooled l)) d
-  rest-same c d e = rw (shows.kind, shows.role, e) refl
-
-  pub open_same : (b : ℕ) → (eqb f.kind 2 && eqb f.block b) ≡ (eqb l.kind 2 && eqb l.block b)
-  open_same b = rw (shows.kind, shows.block) refl
+-- a test of some line, by the lines' numbers
+pub some_line : (f : Line → Bool) (s : List ℕ) (k n : ℕ) → list_any (λ i. f (decoded (line_at s i))) (range_with_len k n) ≡ any_of f (lines_from s k n)
+unfolding any_of lines_from
+some_line f s k zero = refl
+some_line f s k (suc n) = ap (λ (b : Bool). f (decoded (line_at s k)) || b) (rw add-one (some_line f s (suc k) n))

@@ -1,64 +1,44 @@
 -- The units, block after block.
 use mathlib.Core.Path.{◌≡◌, refl, sym, ap, ap₂, ◌∙◌}
 use mathlib.Core.Bool.{Bool, true, false, ◌||◌, cond}
-use mathlib.Core.List.{List, [], ◌∷◌, ◌++◌}
+use mathlib.Core.List.{List, [], ◌∷◌, ◌++◌, map}
 use Prim.Native.Nat.{ℕ, zero, suc, ◌+◌, ◌-◌, ◌≤◌, ◌<◌}
 use native.Mathlib.Omega.{arith}
-use lib.ListN.{length, get_or, take, drop, set}
-use lib.Seq.{drop-cons, get_or-take, length-take-le, take-suc-set}
+use lib.ListN.{length, get_or, take, set}
+use lib.Seq.{get_or-take, length-take-le, take-suc-set}
 use lib.Dec.{eqb}
 use borrow.Author.Tests.{eq-eqb, ne_eqb}
+use Rattle.std.specs.List.{list_any}
 use Rattle.sets.specs.paper.Sets.{any_of}
+use Rattle.sets.proofs.SetLaws.{eqb_swap}
+use Rattle.report.specs.paper.Line.{Line}
 use Rattle.report.specs.paper.LineAt.{line_at, decoded, lines_from}
 use Rattle.report.specs.paper.Units.{join_unit, units_with}
-use Rattle.billing.specs.Shown.{IsUnits}
+use Rattle.billing.specs.Shown.{IsUnits, with_block}
 use Rattle.billing.specs.declared.units.Units.{Units}
 
--- ---- a search through the first n
-
-module _ (f : ℕ → Bool) (xs : List ℕ) (n : ℕ) (fits : n ≤ length xs) where
-  abbrev pub any_from : ℕ → Bool
-  any_from i = any_of f (drop i (take n xs))
-
-  there : (i : ℕ) → i < n → drop i (take n xs) ≡ get_or xs i 0 ∷ drop (i + 1) (take n xs)
-  there i h =
-      let l = length-take-le n xs fits in
-      drop-cons (take n xs) i 0 (omega arith) ∙ ap₂ (λ (x k : ℕ). x ∷ drop k (take n xs)) (get_or-take n xs i 0 h) (let e : suc i ≡ i + 1 = omega arith in e)
-
-  pub any_here : (i : ℕ) → i < n → f (get_or xs i 0) ≡ true → any_from i ≡ true
-  unfolding any_of
-  any_here i h e = ap (any_of f) (there i h) ∙ ap (λ (b : Bool). b || any_from (i + 1)) e
-
-  pub any_on : (i : ℕ) → i < n → f (get_or xs i 0) ≡ false → any_from i ≡ any_from (i + 1)
-  unfolding any_of
-  any_on i h e = ap (any_of f) (there i h) ∙ ap (λ (b : Bool). b || any_from (i + 1)) e
-
-  pub any_end : (i : ℕ) → n ≤ i → any_from i ≡ false
-  unfolding any_of
-  any_end i h = ap (any_of f) (drop_all i (take n xs) (let l = length-take-le n xs fits in omega arith))
-    where
-      drop_all : (i : ℕ) (ys : List ℕ) → length ys ≤ i → drop i ys ≡ []
-      drop_all zero [] l = refl
-      drop_all zero (y ∷ ys) l = absurd (omega arith)
-      drop_all (suc i) [] l = refl
-      drop_all (suc i) (y ∷ ys) l = drop_all i ys (omega arith)
-
 -- ---- a block joins
+
+-- a search that compares the other way round
+turned : (b : ℕ) (us : List ℕ) → list_any (λ u. eqb u b) us ≡ any_of (eqb b) us
+unfolding any_of
+turned b [] = refl
+turned b (u ∷ us) = ap₂ ◌||◌ (eqb_swap u b) (turned b us)
 
 pub joins-none : (us : List ℕ) (b : ℕ) → b ≡ 0 → us ≡ join_unit us b
 joins-none us b e = sym (ap (λ (t : Bool). cond (t || any_of (eqb b) us) us (us ++ (b ∷ []))) (eq-eqb b 0 e))
 
-pub joins-known : (us : List ℕ) (b : ℕ) → any_of (eqb b) us ≡ true → us ≡ join_unit us b
-joins-known us b e = sym (ap (λ (t : Bool). cond (eqb b 0 || t) us (us ++ (b ∷ []))) e ∙ ap (λ (t : Bool). cond t us (us ++ (b ∷ []))) (or-true (eqb b 0)))
+pub joins-known : (us : List ℕ) (b : ℕ) → list_any (λ u. eqb u b) us ≡ true → us ≡ join_unit us b
+joins-known us b e = sym (ap (λ (t : Bool). cond (eqb b 0 || t) us (us ++ (b ∷ []))) (sym (turned b us) ∙ e) ∙ ap (λ (t : Bool). cond t us (us ++ (b ∷ []))) (or-true (eqb b 0)))
   where
     or-true : (t : Bool) → (t || true) ≡ true
     or-true true = refl
     or-true false = refl
 
-pub joins_new : (xs : List ℕ) (n b : ℕ) → n < length xs → (b ≡ 0 → ⊥) → any_of (eqb b) (take n xs) ≡ false → take (n + 1) (set xs n b) ≡ join_unit (take n xs) b
+pub joins_new : (xs : List ℕ) (n b : ℕ) → n < length xs → (b ≡ 0 → ⊥) → list_any (λ u. eqb u b) (take n xs) ≡ false → take (n + 1) (set xs n b) ≡ join_unit (take n xs) b
 joins_new xs n b h z e =
     ap (λ (k : ℕ). take k (set xs n b)) (let f : n + 1 ≡ suc n = omega arith in f) ∙ take-suc-set xs n b h
-    ∙ sym (ap₂ (λ (s t : Bool). cond (s || t) (take n xs) (take n xs ++ (b ∷ []))) (ne_eqb b 0 z) e)
+    ∙ sym (ap₂ (λ (s t : Bool). cond (s || t) (take n xs) (take n xs ++ (b ∷ []))) (ne_eqb b 0 z) (sym (turned b (take n xs)) ∙ e))
 
 -- ---- the units that were found
 
@@ -83,12 +63,15 @@ pub lines_none : (s : List ℕ) (k n : ℕ) → n ≤ k → lines_from s k (n - 
 unfolding lines_from
 lines_none s k n h = ap (lines_from s k) (let f : n - k ≡ 0 = omega arith in f)
 
-pub units-next : (s us : List ℕ) (k n b : ℕ) → k < n → b ≡ (decoded (line_at s k)).block
-    → units_with (join_unit us b) (lines_from s (k + 1) (n - (k + 1))) ≡ units_with us (lines_from s k (n - k))
-unfolding units_with
-units-next s us k n b h e =
-    ap (λ (b : ℕ). units_with (join_unit us b) (lines_from s (k + 1) (n - (k + 1)))) e ∙ sym (ap (units_with us) (lines_next s k n h))
+module _ (block : Line → ℕ) (s us : List ℕ) (k n : ℕ) where
+  abbrev pub units_from : List ℕ
+  units_from = units_with us (map (with_block block) (lines_from s k (n - k)))
 
-pub units_end : (s us : List ℕ) (k n : ℕ) → n ≤ k → us ≡ units_with us (lines_from s k (n - k))
+pub units-next : (block : Line → ℕ) (s us : List ℕ) (k n b : ℕ) → k < n → b ≡ block (decoded (line_at s k)) → units_from block s (join_unit us b) (k + 1) n ≡ units_from block s us k n
 unfolding units_with
-units_end s us k n h = sym (ap (units_with us) (lines_none s k n h))
+units-next block s us k n b h e =
+    ap (λ (b : ℕ). units_from block s (join_unit us b) (k + 1) n) e ∙ sym (ap (λ (ls : List Line). units_with us (map (with_block block) ls)) (lines_next s k n h))
+
+pub units_end : (block : Line → ℕ) (s us : List ℕ) (k n : ℕ) → n ≤ k → us ≡ units_from block s us k n
+unfolding units_with
+units_end block s us k n h = sym (ap (λ (ls : List Line). units_with us (map (with_block block) ls)) (lines_none s k n h))

@@ -12,6 +12,10 @@ pub record Shows (l : paper.Line) (r : Fields) : Type 0 where
   pub role : r.role ≡ l.role
   pub block : r.block ≡ l.block
 
+-- a line with the block that it is given
+abbrev pub with_block : (paper.Line → ℕ) → paper.Line → paper.Line
+with_block block l = record l { block = block l }
+
 pub record IsUnits (us : List ℕ) (r : Units) : Type 0 where
   pub blocks : take r.count r.blocks ≡ us
   pub few : r.count ≤ 64

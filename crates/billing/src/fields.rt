@@ -6,7 +6,6 @@ ghost use Rattle.report.specs.paper.LineAt.{line_at, decoded};
 ghost use Rattle.billing.specs.Shown.{Shows};
 
 use report::line::LINE;
-use sets::numbers::to_u64;
 
 #[derive(Clone, Copy)]
 pub struct Fields {
@@ -21,15 +20,9 @@ fn block_of(line: &[u8]) -> u64
     requires { 11 ≤ length line.now }
     ensures { result ≡ little (take 8 (drop 3 line.now)) }
 {
-    let h = to_u64(line[10]);
-    let g = to_u64(line[9]);
-    let f = to_u64(line[8]);
-    let e = to_u64(line[7]);
-    let d = to_u64(line[6]);
-    let c = to_u64(line[5]);
-    let b = to_u64(line[4]);
-    let a = to_u64(line[3]);
-    a + 256 * (b + 256 * (c + 256 * (d + 256 * (e + 256 * (f + 256 * (g + 256 * h))))))
+    u64::from_le_bytes([
+        line[3], line[4], line[5], line[6], line[7], line[8], line[9], line[10],
+    ])
 }
 
 fn fields_of(line: &[u8]) -> Fields
@@ -50,6 +43,5 @@ pub fn fields_at(lines: &[u8], k: usize) -> Fields
     ensures { Shows (decoded (line_at lines.now k)) result }
 {
     let from = LINE * k;
-    let to = from + LINE;
-    fields_of(&lines[from..to])
+    fields_of(&lines[from..from + LINE])
 }

@@ -1,12 +1,12 @@
 // The units of lines: the different blocks.
-ghost use Rattle.std.specs.Prelude.{◌≡◌, [], ◌+◌, ◌*◌, ◌≤◌, ◌<◌, length, take, eqb};
-ghost use Rattle.sets.specs.paper.Sets.{any_of};
-ghost use Rattle.report.specs.paper.Line.{line_length};
+ghost use Rattle.std.specs.Prelude.{◌≡◌, ℕ, [], ◌+◌, ◌*◌, ◌≤◌, ◌<◌, length, take, map};
+ghost use Rattle.report.specs.paper.Line.{Line, line_length};
 ghost use Rattle.report.specs.paper.LineAt.{lines_from};
 ghost use Rattle.report.specs.paper.Units.{join_unit, units};
-ghost use Rattle.billing.specs.Shown.{IsUnits};
+ghost use Rattle.billing.specs.declared.fields.Fields.{Fields};
+ghost use Rattle.billing.specs.Shown.{Shows, IsUnits, with_block};
 
-use crate::fields::fields_at;
+use crate::fields::{Fields, fields_at};
 
 // The first `count` of `blocks`.
 #[derive(Clone, Copy)]
@@ -26,38 +26,34 @@ impl Units {
         }
     }
 
-    // Whether a block is among them.
-    fn has(self, block: u64) -> bool
-        requires { (self.count ≤ 64) × (length self.blocks ≡ 64) }
-        ensures { result ≡ any_of (eqb block) (take self.count self.blocks) }
-    {
-        let mut i: usize = 0;
-        while i < self.count {
-            if self.blocks[i] == block {
-                return true;
-            }
-            i += 1;
-        }
-        false
-    }
-
     // With this block, if it is one and is not there yet.
     pub fn join(mut self, block: u64) -> Units
-        requires { (self.count < 64) × (length self.blocks ≡ 64) }
+        requires { self.count < 64 }
         ensures units { IsUnits (join_unit (take self.count self.blocks) block) result }
         ensures count_bound { result.count ≤ self.count + 1 }
     {
-        if block == 0 {
+        if block == 0 || self.blocks[..self.count].contains(&block) {
             return self;
         }
-        if self.has(block) {
-            return self;
-        }
-        let at = self.count;
-        self.blocks[at] = block;
-        self.count = at + 1;
+        self.blocks[self.count] = block;
+        self.count += 1;
         self
     }
+}
+
+// Of the first n lines, each with the block that it is given.
+pub fn units_by<F: Fn(Fields) -> u64>(lines: &[u8], n: usize, block_of: F) -> Units
+    ghost block: { Line → ℕ }
+    requires n_fits { (n ≤ 64) × (line_length * n ≤ length lines.now) }
+    requires callable { F.IsAlwaysCallable block_of }
+    requires given { (l : Line) (x : Fields) (b : ℕ) → Shows l x → F.post block_of x b → b ≡ block l }
+    ensures { IsUnits (units (map (with_block block) (lines_from lines.now 0 n))) result }
+{
+    let mut found = Units::none();
+    for k in 0..n {
+        found = found.join(block_of(fields_at(lines, k)));
+    }
+    found
 }
 
 // Of the first n lines.
@@ -65,12 +61,5 @@ pub fn units_of(lines: &[u8], n: usize) -> Units
     requires { (n ≤ 64) × (line_length * n ≤ length lines.now) }
     ensures { IsUnits (units (lines_from lines.now 0 n)) result }
 {
-    let mut found = Units::none();
-    let mut k: usize = 0;
-    while k < n {
-        let line = fields_at(lines, k);
-        found = found.join(line.block);
-        k += 1;
-    }
-    found
+    units_by(lines, n, |line| line.block)
 }

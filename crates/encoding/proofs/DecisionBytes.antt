@@ -12,7 +12,8 @@ use Rattle.sets.proofs.LoopLaws.{length-below, get_or-below}
 use Rattle.records.specs.paper.Plan.{Decision}
 use Rattle.records.proofs.Listing.{decided}
 use Rattle.records.proofs.UsedLaws.{rest-next}
-use Rattle.page.specs.Page.{Page, put_byte, puts}
+use Rattle.page.specs.Page.{Page, puts}
+use Rattle.page.proofs.PageLaws.{puts_then}
 use Rattle.encoding.specs.paper.Encoded.{some, decision_bytes}
 use Rattle.encoding.specs.code.Written.{pair_bytes}
 use Rattle.encoding.proofs.FieldsBack.{decisions-long}
@@ -43,12 +44,12 @@ module _ (edges verdicts : List ℕ) (n : ℕ) where
   pair_start z =
       ap (λ (b : Bool). cond b (length pairs ∷ decision_bytes pairs) []) (pairs_stand ∙ lt-ltb 0 n (omega arith)) ∙ ap (λ (k : ℕ). k ∷ decision_bytes pairs) (length-below n (decided edges verdicts))
 
-  pub pair-next : (i : ℕ) (p q r : Page) → i < n → q ≡ put_byte p (get_or edges i 0) → r ≡ put_byte q (get_or verdicts i 0) → puts r (decision_bytes (drop (i + 1) pairs)) ≡ puts p (decision_bytes (drop i pairs))
-  unfolding puts decision_bytes
-  pair-next i p q r l e f =
+  pub pair-next : (i : ℕ) (p q : Page) → i < n → q ≡ puts p (get_or edges i 0 ∷ get_or verdicts i 0 ∷ []) → puts q (decision_bytes (drop (i + 1) pairs)) ≡ puts p (decision_bytes (drop i pairs))
+  unfolding decision_bytes
+  pair-next i p q l e =
       let d : Decision = record { edge = 0; verdict = 0 } in
       let m = length-below n (decided edges verdicts) in
-      ap (λ (x : Page). puts x (decision_bytes (drop (i + 1) pairs))) (f ∙ ap (λ (x : Page). put_byte x (get_or verdicts i 0)) e)
+      puts_then _ _ _ _ _ e refl
       ∙ ap (λ (ds : List Decision). puts p (decision_bytes ds))
       (sym (rest-next pairs i d (omega arith) ∙ ap (λ (x : Decision). x ∷ drop (i + 1) pairs) (get_or-below n (decided edges verdicts) d i l)))
 

@@ -2,7 +2,7 @@
 use mathlib.Core.Path.{◌≡◌, refl, sym, ap, ap₂, ◌∙◌}
 use mathlib.Core.Bool.{Bool, true, false, cond, not, true≢false, false≢true}
 use mathlib.Core.List.{List, [], ◌∷◌, ◌++◌, append-nil}
-use Prim.Native.Nat.{ℕ, zero, suc, ◌+◌, ◌/◌, min}
+use Prim.Native.Nat.{ℕ, zero, suc, ◌+◌, ◌/◌, ◌≤◌, min}
 use native.Mathlib.Nat.{div-one}
 use native.Mathlib.Omega.{arith}
 use lib.ListN.{length, get_or, take}
@@ -74,25 +74,36 @@ unfolding plan_formats field_bytes bits_of node_parts node_by
 or_bytes s n is e =
     ap (λ (t : List ℕ). 3 ∷ 8 ∷ t) (sym (listed is)) ∙ sym (record_bytes_lem 3 (node_parts (paper.disj is))) ∙ ap (λ (k : ℕ). record_bytes plan_formats (node_raw (node_by k n is))) (sym e)
 
-pub node_bytes : (s n : ℕ) (is : List ℕ) (b : ℕ) → (s ≡ 2 → ⊥) → (s ≡ 3 → ⊥) → b ≡ cond (eqb s 0) 1 (cond (eqb s 1) 2 16) → 3 ∷ b ∷ n ∷ [] ≡ record_bytes plan_formats (node_raw (node_by s n is))
+pub literal_bytes : (s n : ℕ) (is : List ℕ) → s ≡ 0 → 3 ∷ 1 ∷ n ∷ [] ≡ record_bytes plan_formats (node_raw (node_by s n is))
 unfolding plan_formats field_bytes bits_of node_parts node_by
-node_bytes zero n is b x y e = ap (λ (k : ℕ). 3 ∷ k ∷ n ∷ []) e ∙ sym (record_bytes_lem 3 (node_parts (paper.literal n)))
-node_bytes (suc zero) n is b x y e = ap (λ (k : ℕ). 3 ∷ k ∷ n ∷ []) e ∙ sym (record_bytes_lem 3 (node_parts (paper.fact n)))
-node_bytes (suc (suc zero)) n is b x y e = absurd (x refl)
-node_bytes (suc (suc (suc zero))) n is b x y e = absurd (y refl)
-node_bytes (suc (suc (suc (suc k)))) n is b x y e =
-    ap (λ (k : ℕ). 3 ∷ k ∷ n ∷ [])
-    (e ∙ ap₂ (λ (u v : Bool). cond u 1 (cond v 2 16)) (ne_eqb (suc (suc (suc (suc k)))) 0 (λ z. omega arith)) (ne_eqb (suc (suc (suc (suc k)))) 1 (λ z. omega arith)))
-    ∙ sym (record_bytes_lem 3 (node_parts (paper.neg n)))
+literal_bytes s n is e = sym (record_bytes_lem 3 (node_parts (paper.literal n))) ∙ ap (λ (k : ℕ). record_bytes plan_formats (node_raw (node_by k n is))) (sym e)
+
+pub fact_node_bytes : (s n : ℕ) (is : List ℕ) → s ≡ 1 → 3 ∷ 2 ∷ n ∷ [] ≡ record_bytes plan_formats (node_raw (node_by s n is))
+unfolding plan_formats field_bytes bits_of node_parts node_by
+fact_node_bytes s n is e = sym (record_bytes_lem 3 (node_parts (paper.fact n))) ∙ ap (λ (k : ℕ). record_bytes plan_formats (node_raw (node_by k n is))) (sym e)
+
+pub not_bytes : (s n : ℕ) (is : List ℕ) → 4 ≤ s → 3 ∷ 16 ∷ n ∷ [] ≡ record_bytes plan_formats (node_raw (node_by s n is))
+unfolding plan_formats field_bytes bits_of node_parts node_by
+not_bytes zero n is h = absurd (omega arith)
+not_bytes (suc zero) n is h = absurd (omega arith)
+not_bytes (suc (suc zero)) n is h = absurd (omega arith)
+not_bytes (suc (suc (suc zero))) n is h = absurd (omega arith)
+not_bytes (suc (suc (suc (suc k)))) n is h = sym (record_bytes_lem 3 (node_parts (paper.neg n)))
 
 -- ---- edges
 
-pub edge-bytes : (e : paper.Edge) (b : ℕ) → b ≡ bit true (bit true (bit true (bit true (bit (some e.defeaters) (bit e.combination 0)))))
-    → 4 ∷ b ∷ e.left ∷ e.right ∷ e.condition ∷ e.citation ∷ list_bytes e.defeaters ≡ record_bytes plan_formats (edge_raw e)
+weighed-two : (a b : Bool) → 15 + cond a 16 0 + cond b 32 0 ≡ bit true (bit true (bit true (bit true (bit a (bit b 0)))))
+weighed-two true true = refl
+weighed-two true false = refl
+weighed-two false true = refl
+weighed-two false false = refl
+
+pub edge-bytes : (e : paper.Edge) (n : ℕ) → n ≡ 15 + cond (some e.defeaters) 16 0 + cond e.combination 32 0
+    → 4 ∷ n ∷ e.left ∷ e.right ∷ e.condition ∷ e.citation ∷ list_bytes e.defeaters ≡ record_bytes plan_formats (edge_raw e)
 unfolding plan_formats field_bytes bits_of
-edge-bytes e b h =
+edge-bytes e n h =
     let front : ℕ → List ℕ → List ℕ = λ n t. 4 ∷ n ∷ e.left ∷ e.right ∷ e.condition ∷ e.citation ∷ t in
-    ap₂ front h (sym (append-nil (list_bytes e.defeaters)) ∙ ap₂ (λ (x y : List ℕ). x ++ y) (sym (counted e.defeaters)) (sym (ap (λ (t : List ℕ). t ++ []) (no_field e.combination))))
+    ap₂ front (h ∙ weighed-two (some e.defeaters) e.combination) (sym (append-nil (list_bytes e.defeaters)) ∙ ap₂ (λ (x y : List ℕ). x ++ y) (sym (counted e.defeaters)) (sym (ap (λ (t : List ℕ). t ++ []) (no_field e.combination))))
     ∙ sym (record_bytes_lem 4 (one e.left ∷ one e.right ∷ one e.condition ∷ one e.citation ∷ given e.defeaters ∷ flag e.combination ∷ []))
 
 -- ---- cuts
@@ -108,7 +119,7 @@ weighed false false true = refl
 weighed false false false = refl
 
 pub cut-bytes : (c : paper.Cut) (n : ℕ) → n ≡ 7 + cond (some (election_bytes c.election)) 8 0 + cond (some c.decisions) 16 0 + cond (some c.precedes) 32 0
-    → (5 ∷ n ∷ (little_bytes 8 c.members ++ (c.condition ∷ c.citation ∷ []))) ++ (election_bytes c.election ++ (pair_bytes c.decisions ++ list_bytes c.precedes)) ≡ record_bytes plan_formats (cut_raw c)
+    → 5 ∷ n ∷ (little_bytes 8 c.members ++ (c.condition ∷ c.citation ∷ (election_bytes c.election ++ (pair_bytes c.decisions ++ list_bytes c.precedes)))) ≡ record_bytes plan_formats (cut_raw c)
 unfolding plan_formats field_bytes bits_of little_bytes
 cut-bytes c n h =
     let front : ℕ → List ℕ → List ℕ = λ n t. (5 ∷ n ∷ (little_bytes 8 c.members ++ (c.condition ∷ c.citation ∷ []))) ++ t in
@@ -118,9 +129,6 @@ cut-bytes c n h =
     (sym (append-nil (list_bytes c.precedes)) ∙ ap (λ (x : List ℕ). x ++ []) (sym (counted c.precedes)))))
     ∙ sym (record_bytes_lem 5 (mask_of c.members ∷ one c.condition ∷ one c.citation ∷ given (election_bytes c.election) ∷ given (decision_bytes c.decisions) ∷ given c.precedes ∷ []))
 
-pub weigh_same : {x y z u v w : Bool} {n : ℕ} → n ≡ 7 + cond x 8 0 + cond y 16 0 + cond z 32 0 → x ≡ u → y ≡ v → z ≡ w → n ≡ 7 + cond u 8 0 + cond v 16 0 + cond w 32 0
-weigh_same {x} {y} {z} {u} {v} {w} h a b c = h ∙ ap₂ (λ (x y : Bool). 7 + cond x 8 0 + cond y 16 0 + cond z 32 0) a b ∙ ap (λ (z : Bool). 7 + cond u 8 0 + cond v 16 0 + cond z 32 0) c
-
 -- ---- attachments
 
 weighed-one : (b : Bool) → 31 + cond b 32 0 ≡ bit true (bit true (bit true (bit true (bit true (bit b 0)))))
@@ -128,7 +136,7 @@ weighed-one true = refl
 weighed-one false = refl
 
 pub attachment-bytes : (a : paper.Attachment) (n : ℕ) → n ≡ 31 + cond (some (election_bytes a.election)) 32 0
-    → (6 ∷ n ∷ (little_bytes 8 a.members ++ (a.anchor ∷ a.condition ∷ a.citation ∷ a.actor ∷ []))) ++ election_bytes a.election ≡ record_bytes plan_formats (attachment_raw a)
+    → 6 ∷ n ∷ (little_bytes 8 a.members ++ (a.anchor ∷ a.condition ∷ a.citation ∷ a.actor ∷ election_bytes a.election)) ≡ record_bytes plan_formats (attachment_raw a)
 unfolding plan_formats field_bytes bits_of little_bytes
 attachment-bytes a n h =
     ap₂ (λ (n : ℕ) (t : List ℕ). (6 ∷ n ∷ (little_bytes 8 a.members ++ (a.anchor ∷ a.condition ∷ a.citation ∷ a.actor ∷ []))) ++ t)
@@ -144,7 +152,3 @@ status-bytes t = sym (record_bytes_lem 8 (one t.person ∷ one t.condition ∷ o
 pub bar-bytes : (b : paper.Bar) → 7 ∷ 7 ∷ (little_bytes 8 b.members ++ (b.condition ∷ b.citation ∷ [])) ≡ record_bytes plan_formats (bar_raw b)
 unfolding plan_formats field_bytes bits_of little_bytes
 bar-bytes b = sym (record_bytes_lem 7 (mask_of b.members ∷ one b.condition ∷ one b.citation ∷ []))
-
--- the eight bytes of a list
-abbrev pub eight : List ℕ → List ℕ
-eight b = get_or b 0 0 ∷ get_or b 1 0 ∷ get_or b 2 0 ∷ get_or b 3 0 ∷ get_or b 4 0 ∷ get_or b 5 0 ∷ get_or b 6 0 ∷ get_or b 7 0 ∷ []

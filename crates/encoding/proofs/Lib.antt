@@ -13,7 +13,6 @@ pub mod ElectionBytes
 pub mod DecisionBytes
 pub mod KindBytes
 pub mod FlatLaws
-pub mod EachPut
 pub mod PlanPut
 pub mod PlanLength
 pub mod PlacedLaws

@@ -2,7 +2,7 @@
 use mathlib.Core.Path.{◌≡◌, refl, sym, ap, ◌∙◌}
 use mathlib.Core.Bool.{Bool, true, cond}
 use mathlib.Core.List.{List, [], ◌∷◌}
-use Prim.Native.Nat.{ℕ, suc, min}
+use Prim.Native.Nat.{ℕ, zero, suc, min}
 use native.Mathlib.Omega.{arith}
 use lib.ListN.{length, take, length-take}
 use lib.Dec.{ltb}
@@ -16,8 +16,10 @@ some-long [] = refl
 some-long (x ∷ xs) = sym (lt-ltb 0 (suc (length xs)) (omega arith))
 
 -- the count alone says whether there is any
-pub some_taken : (n : ℕ) (xs : List ℕ) → length xs ≡ 16 → (n ≡ 0 → ⊥) → some (take n xs) ≡ true
-some_taken n xs long z = some-long (take n xs) ∙ lt-ltb 0 (length (take n xs)) (let l = length-take n xs in omega arith)
+pub some_taken : (n : ℕ) (xs : List ℕ) → length xs ≡ 16 → some (take n xs) ≡ ltb 0 n
+some_taken zero xs long = refl
+some_taken (suc n) [] long = let z : length {A = ℕ} [] ≡ 0 = refl in absurd (omega arith)
+some_taken (suc n) (x ∷ xs) long = sym (lt-ltb 0 (suc n) (omega arith))
 
 module _ (xs : List ℕ) (count n : ℕ) (long : length xs ≡ 16) (few : n ≡ min count 16) where
   pub list-none : n ≡ 0 → list_bytes (take count xs) ≡ []
@@ -25,7 +27,7 @@ module _ (xs : List ℕ) (count n : ℕ) (long : length xs ≡ 16) (few : n ≡ 
 
   pub list-some : (n ≡ 0 → ⊥) → list_bytes (take count xs) ≡ n ∷ take n xs
   list-some z =
-      ap list_bytes (sym taken) ∙ ap (λ (b : Bool). cond b (length (take n xs) ∷ take n xs) []) (some_taken n xs long z)
+      ap list_bytes (sym taken) ∙ ap (λ (b : Bool). cond b (length (take n xs) ∷ take n xs) []) (some_taken n xs long ∙ lt-ltb 0 n (omega arith))
       ∙ ap (λ (k : ℕ). k ∷ take n xs) (ap length taken ∙ used_length xs count 16 n long few)
     where
       taken : take n xs ≡ take count xs

@@ -4,8 +4,5 @@ ghost use Rattle.std.specs.Prelude.{◌≡◌, cond, ◌≤◌};
 pub fn weigh(stands: bool, weight: u8) -> u8
     ensures { (result ≡ cond stands weight 0) × (result ≤ weight) }
 {
-    if stands {
-        return weight;
-    }
-    0
+    if stands { weight } else { 0 }
 }

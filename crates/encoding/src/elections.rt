@@ -11,8 +11,7 @@ pub fn put_election(out: &mut [u8], at: usize, e: Election) -> usize
     ensures { record { count = result; out = out.new } ≡ puts (record { count = at; out = out.old }) (election_bytes (election_of e)) }
 {
     if e.given {
-        let four = [e.fact, e.actor, e.policy, e.citation];
-        return put_all(out, at, &four);
+        return put_all(out, at, &[e.fact, e.actor, e.policy, e.citation]);
     }
     at
 }

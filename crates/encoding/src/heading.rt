@@ -11,9 +11,7 @@ pub fn put_heading(out: &mut [u8], at: usize, relation: u8, chained: bool, chain
     ensures { record { count = result; out = out.new } ≡ puts (record { count = at; out = out.old }) (record_bytes plan_formats (heading_raw (record { relation = relation; chain = if_given chained chain }))) }
 {
     if chained {
-        let four = [1, 3, relation, chain];
-        return put_all(out, at, &four);
+        return put_all(out, at, &[1, 3, relation, chain]);
     }
-    let three = [1, 1, relation];
-    put_all(out, at, &three)
+    put_all(out, at, &[1, 1, relation])
 }

@@ -5,6 +5,7 @@ pub mod attachments;
 pub mod bars;
 pub mod bits;
 pub mod cuts;
+pub mod each;
 pub mod edges;
 pub mod elections;
 pub mod facts;
@@ -20,14 +21,8 @@ ghost use Rattle.records.specs.code.Decoded.{plan_of};
 ghost use Rattle.page.specs.Page.{puts};
 ghost use Rattle.encoding.specs.paper.Encoded.{plan_bytes};
 
-use crate::attachments::put_attachments;
-use crate::bars::put_bars;
-use crate::cuts::put_cuts;
-use crate::edges::put_edges;
-use crate::facts::put_facts;
+use crate::each::put_each;
 use crate::heading::put_heading;
-use crate::nodes::put_nodes;
-use crate::statuses::put_statuses;
 use records::plan::Plan;
 
 // A PLAN AS BYTES, behind what stands there.
@@ -35,19 +30,20 @@ pub fn put_plan(out: &mut [u8], at: usize, plan: Plan) -> usize
     requires { Sound (plan_of plan) }
     ensures { record { count = result; out = out.new } ≡ puts (record { count = at; out = out.old }) (plan_bytes (plan_of plan)) }
 {
-    let facts = plan.facts;
-    let nodes = plan.nodes;
-    let edges = plan.edges;
-    let cuts = plan.cuts;
-    let attachments = plan.attachments;
-    let bars = plan.bars;
-    let statuses = plan.statuses;
-    let a = put_heading(out, at, plan.relation, plan.chained, plan.chain);
-    let b = put_facts(out, a, facts);
-    let c = put_nodes(out, b, nodes);
-    let d = put_edges(out, c, edges);
-    let e = put_cuts(out, d, cuts);
-    let f = put_attachments(out, e, attachments);
-    let g = put_bars(out, f, bars);
-    put_statuses(out, g, statuses)
+    let mut next = put_heading(out, at, plan.relation, plan.chained, plan.chain);
+    next = put_each(out, next, &plan.facts.items[..plan.facts.count.min(64)]);
+    next = put_each(out, next, &plan.nodes.items[..plan.nodes.count.min(256)]);
+    next = put_each(out, next, &plan.edges.items[..plan.edges.count.min(64)]);
+    next = put_each(out, next, &plan.cuts.items[..plan.cuts.count.min(16)]);
+    next = put_each(
+        out,
+        next,
+        &plan.attachments.items[..plan.attachments.count.min(32)],
+    );
+    next = put_each(out, next, &plan.bars.items[..plan.bars.count.min(32)]);
+    put_each(
+        out,
+        next,
+        &plan.statuses.items[..plan.statuses.count.min(32)],
+    )
 }

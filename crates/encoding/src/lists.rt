@@ -7,27 +7,22 @@ ghost use Rattle.encoding.specs.code.Written.{list_bytes};
 
 use page::{put, put_all};
 use records::plan::Numbers;
-use sets::numbers::upto;
 
 // Whether it has any.
 pub fn any(list: Numbers) -> bool
     ensures { result ≡ some (numbers_of list) }
 {
-    if list.count == 0 {
-        return false;
-    }
-    true
+    list.count > 0
 }
 
 // "A list is a count byte and its entries", and an empty one is absent.
 pub fn put_list(out: &mut [u8], at: usize, list: Numbers) -> usize
     ensures { record { count = result; out = out.new } ≡ puts (record { count = at; out = out.old }) (list_bytes (numbers_of list)) }
 {
-    let items = list.items;
-    let n = upto(list.count as usize, 16);
+    let n = usize::from(list.count).min(16);
     if n == 0 {
         return at;
     }
     let next = put(out, at, n as u8);
-    put_all(out, next, &items[..n])
+    put_all(out, next, &list.items[..n])
 }

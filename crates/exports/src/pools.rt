@@ -12,10 +12,8 @@ pub fn mark_bytes(marks: [bool; 64]) -> [u8; 64]
     ensures { result ≡ map (λ b. only b 1) marks }
 {
     let mut bytes = [0u8; 64];
-    let mut i: usize = 0;
-    while i < 64 {
+    for i in 0..64 {
         bytes[i] = marks[i] as u8;
-        i += 1;
     }
     bytes
 }

@@ -3,26 +3,29 @@ use Prim.Native.Nat.{ℕ, ◌+◌, ◌≤◌, ◌<◌, min}
 use mathlib.Core.Path.{◌≡◌, refl, sym, ap, ap₂, ◌∙◌, subst}
 use mathlib.Core.Bool.{Bool, false, ◌&&◌, ◌||◌, or-false, and-false}
 use mathlib.Core.List.{List, [], ◌∷◌, ◌++◌}
+use mathlib.Core.Logic.{⊎_elim}
 use native.Mathlib.Decide.{le_ind}
 use native.Mathlib.Numerals.{add-one}
 use native.Mathlib.Omega.{arith}
-use lib.ListN.{length, get_or, set}
+use lib.ListN.{length, get_or, get_or-eq_default, set}
 use lib.Seq.{get_or-set_same, get_or-set_other}
 use lib.Dec.{eqb}
 use borrow.Author.Tests.{ne_eqb}
 use Rattle.sets.specs.paper.Sets.{union, below, any_of, All}
 use Rattle.records.specs.paper.Plan as paper
 use Rattle.records.specs.paper.Plan.{Plan}
-use Rattle.records.specs.code.Decoded.{cut_of, edge_of, cuts_of, edges_of}
+use Rattle.records.specs.code.Decoded.{decisions_of, cut_of, edge_of, cuts_of, edges_of}
 use Rattle.expressions.specs.paper.Rules.{no_cut, no_edge, cut, edge, pair, ends_of}
+use Rattle.records.specs.declared.plan.Decisions.{Decisions}
 use Rattle.records.specs.declared.plan.Cut.{Cut}
 use Rattle.records.specs.declared.plan.Edge.{Edge}
 use Rattle.records.specs.declared.plan.Cuts.{Cuts}
 use Rattle.records.specs.declared.plan.Edges.{Edges}
+use Rattle.sets.proofs.SetLaws.{lt_or_le}
 use Rattle.sets.proofs.LoopLaws.{all_at, get_or-below, length-below}
 use Rattle.expressions.specs.code.Listed.{held_by_cut}
 use Rattle.expressions.specs.declared.decisions.Undecided.{Undecided}
-use Rattle.expressions.specs.paper.Influence.{Open, open_touch}
+use Rattle.expressions.specs.paper.Influence.{Open, has_verdict, open_touch}
 use Rattle.expressions.specs.code.Undecided.{pair_of, open_at, opens_of, Named}
 use Rattle.records.proofs.Listing.{below_more, below_ext}
 use Rattle.expressions.proofs.ListLaws.{any_last, made-length, made_at}
@@ -38,6 +41,23 @@ any_past g f m n l h =
     le_ind (λ (j : ℕ). any_of g (below j f) ≡ any_of g (below m f)) refl (λ k p e.
     ap (λ (j : ℕ). any_of g (below j f)) (sym (add-one k)) ∙ any_more g f k ∙ ap₂ ◌||◌ e (h k p) ∙ or-false (any_of g (below m f))) n l
 
+pub other_verdict : (a e b v : ℕ) → (b ≡ v → ⊥) → (eqb a e && eqb b v) ≡ false
+other_verdict a e b v n = ap (λ (x : Bool). eqb a e && x) (ne_eqb b v n) ∙ and-false (eqb a e)
+
+-- ---- a verdict among the decisions in use: past the arrays there is none
+
+abbrev pub decision_at : Decisions → ℕ → paper.Decision
+decision_at d i = record { edge = get_or d.edges i 0; verdict = get_or d.verdicts i 0 }
+
+pub in_use : (d : Decisions) (e v i : ℕ) → length d.verdicts ≡ 64 → 0 < v → i ≡ min d.count 64 → has_verdict e v (below i (decision_at d)) ≡ has_verdict e v (decisions_of d)
+unfolding decisions_of
+in_use d e v i long some k =
+    ⊎_elim (λ l. let all : i ≡ d.count = omega arith in ap (λ (n : ℕ). has_verdict e v (below n (decision_at d))) all)
+    (λ l. sym (any_past _ (decision_at d) i d.count (omega arith) (λ j p.
+    let past = get_or-eq_default d.verdicts 0 {n = j} (omega arith) in
+    other_verdict (get_or d.edges j 0) e (get_or d.verdicts j 0) v (λ q. omega arith))))
+    (lt_or_le d.count 64)
+
 -- ---- the list of open decisions, one more at the end
 
 pub open_next : (cuts edges : List ℕ) (i c e : ℕ) → i < length cuts → i < length edges →
@@ -48,9 +68,6 @@ open_next cuts edges i c e h k =
     (below_ext i (open_at (set cuts i c) (set edges i e)) (open_at cuts edges) (λ j l.
     ap₂ pair_of (get_or-set_other cuts i j c 0 (λ q. absurd (omega arith))) (get_or-set_other edges i j e 0 (λ q. absurd (omega arith)))))
     (ap₂ pair_of (get_or-set_same cuts i c 0 h) (get_or-set_same edges i e 0 k))
-
-pub other_verdict : (a e b v : ℕ) → (b ≡ v → ⊥) → (eqb a e && eqb b v) ≡ false
-other_verdict a e b v n = ap (λ (x : Bool). eqb a e && x) (ne_eqb b v n) ∙ and-false (eqb a e)
 
 -- ---- whom the decision of a number touches
 

@@ -2,7 +2,7 @@
 use mathlib.Core.Path.{◌≡◌, ap, ap₂, sym, subst, ◌∙◌}
 use mathlib.Core.Bool.{Bool, true, not}
 use mathlib.Core.List.{List, ◌++◌}
-use Prim.Native.Nat.{ℕ, ◌≤◌, ◌+◌, ◌-◌, ◌^◌, min}
+use Prim.Native.Nat.{ℕ, ◌≤◌, ◌<◌, ◌+◌, ◌-◌, ◌^◌, min}
 use native.Mathlib.Nat.{lt_of_lt_of_le}
 use native.Mathlib.Omega.{arith}
 use lib.ListN.{length, take}
@@ -28,12 +28,15 @@ closed_front groups wanted xs n h =
     ∙ below_ext n (closed_if groups wanted (take n xs)) (closed_if groups wanted xs) (λ i l.
     ap (λ (t : ℕ). only (has wanted i) (close_of groups t)) (get_or-take n xs i 0 l))
 
--- where all are wanted
+-- all numbers below 64 are wanted
+pub everyone : (i : ℕ) → i < 64 → has (2 ^ 64 - 1) i ≡ true
+everyone i l = has-not 64 0 i (omega arith) l ∙ ap not (has-none i)
+
 closed_all : (groups xs : List ℕ) (n : ℕ) → n ≤ 64 → below n (closed_if groups (2 ^ 64 - 1) xs) ≡ below n (closed groups xs)
 unfolding closed_if
 closed_all groups xs n h =
     below_ext n (closed_if groups (2 ^ 64 - 1) xs) (closed groups xs) (λ i l.
-    ap (λ (b : Bool). only b (closed groups xs i)) (has-not 64 0 i (omega arith) (lt_of_lt_of_le l h) ∙ ap not (has-none i)))
+    ap (λ (b : Bool). only b (closed groups xs i)) (everyone i (omega arith)))
 
 -- facts, then decisions
 module _ (r : Reach) (variables n : ℕ) (some : n ≡ min r.groups.count 144) (long : length r.groups.sets ≡ 144)

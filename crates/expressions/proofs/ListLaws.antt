@@ -10,7 +10,10 @@ use lib.ListN.{length, get_or, take, set, replicate}
 use lib.Dec.{eqb}
 use lib.Seq.{ext_get_or, get_or-set_same, get_or-set_other, take-suc-set, get_or-take, take-suc, take_all, length-take-le}
 use borrow.Author.Tests.{eqb-true, eqb-false}
-use Rattle.sets.specs.paper.Sets.{all_of, any_of, numbers, below, All}
+use Rattle.std.specs.List.{list_any, list_all, fold}
+use Rattle.std.proofs.lemmas.List.Folds.{fold-map}
+use Rattle.sets.proofs.UnionLaws.{union_assoc, union-none, none-union}
+use Rattle.sets.specs.paper.Sets.{union, union_of, all_of, any_of, numbers, below, All}
 use Rattle.sets.proofs.LoopLaws.{get_or-below, get_d_past, length-below, all_at}
 use Rattle.sets.proofs.SetLaws.{lt_or_le}
 use Rattle.records.proofs.ListLaws.{length_front, get_d_front}
@@ -64,6 +67,31 @@ module _ {A : Type 0} (f : A → Bool) (k : A) (rest : List A) where
   pub any_stop : f k ≡ true → any_of f (k ∷ rest) ≡ true
   unfolding any_of
   any_stop e = ap (λ (b : Bool). b || any_of f rest) e
+
+-- what std says of them
+pub any_listed : {A : Type 0} (f : A → Bool) (xs : List A) → list_any f xs ≡ any_of f xs
+unfolding any_of
+any_listed f [] = refl
+any_listed f (x ∷ xs) = ap (λ (b : Bool). f x || b) (any_listed f xs)
+
+pub all_listed : {A : Type 0} (f : A → Bool) (xs : List A) → list_all f xs ≡ all_of f xs
+unfolding all_of
+all_listed f [] = refl
+all_listed f (x ∷ xs) = ap (λ (b : Bool). f x && b) (all_listed f xs)
+
+-- ---- a union that takes in one entry after another
+
+pub folded_onto : {A : Type 0} (f : A → ℕ) (m : ℕ) (xs : List A) → fold (λ n x. union n (f x)) m xs ≡ union m (union_of f xs)
+unfolding union_of
+folded_onto f m [] = sym (union-none m)
+folded_onto f m (x ∷ xs) = folded_onto f (union m (f x)) xs ∙ union_assoc m (f x) (union_of f xs)
+
+pub folded : {A : Type 0} (f : A → ℕ) (xs : List A) → fold (λ n x. union n (f x)) 0 xs ≡ union_of f xs
+folded f xs = folded_onto f 0 xs ∙ none-union (union_of f xs)
+
+-- what is made of each, taken in
+pub folded-map : {A : Type 0} (f : A → ℕ) (xs : List A) → fold union 0 (map f xs) ≡ union_of f xs
+folded-map f xs = fold-map union f 0 xs ∙ folded f xs
 
 -- ---- one entry more at the end
 
@@ -143,6 +171,13 @@ pub behind-next : {A : Type 0} (f : ℕ → A) (before : List A) (i : ℕ) {xs y
 behind-next f before i {xs} {ys} {v} e k s =
     k ∙ ap₂ (λ (l : List _) (x : _). l ++ (x ∷ [])) e s ∙ append_assoc before (below i f) (f i ∷ [])
     ∙ ap (λ (l : List _). before ++ l) (sym (below_more i f))
+
+-- the same where the entry is stored in an array, behind the first `at`
+pub stored_behind : {A : Type 0} (f : ℕ → A) (before xs : List A) (at i : ℕ) (v : A) → at + i < length xs → v ≡ f i → take (at + i) xs ≡ before ++ below i f
+    → take (at + (i + 1)) (set xs (at + i) v) ≡ before ++ below (i + 1) f
+stored_behind f before xs at i v l s e =
+    let here : at + (i + 1) ≡ suc (at + i) = omega arith in
+    behind-next f before i e (ap (λ (n : ℕ). take n (set xs (at + i) v)) here ∙ take-suc-set xs (at + i) v l) s
 
 -- an entry of one list stored behind the front of another
 pub store_next : {A : Type 0} (d : A) (sets before ms : List A) (k i : ℕ) → k < length sets → i < length ms → take k sets ≡ before ++ take i ms

@@ -1,18 +1,20 @@
 -- Laws of the table of nodes: a node by its sort, values and uses one node at a time.
-use Prim.Native.Nat.{ℕ, zero, suc, ◌+◌, ◌<◌}
+use Prim.Native.Nat.{ℕ, zero, suc, ◌+◌, ◌<◌, min}
 use mathlib.Core.Path.{◌≡◌, refl, sym, ap, ◌∙◌, subst}
 use mathlib.Core.Bool.{Bool, true, false, ◌&&◌, ◌||◌, not, beq}
 use mathlib.Core.List.{List, [], ◌∷◌, ◌++◌}
 use native.Mathlib.Nat.{add-zero}
 use native.Mathlib.Omega.{arith}
-use lib.ListN.{length, get_or, set, length-append}
+use lib.ListN.{length, take, get_or, set, length-append}
 use Rattle.sets.specs.paper.Sets.{all_of, any_of}
 use Rattle.records.specs.paper.Plan.{Node, literal, fact, conj, disj, neg}
-use Rattle.records.specs.code.Decoded.{node_by, plan_of, nodes_of}
+use Rattle.records.specs.code.Decoded.{numbers_of, node_by, plan_of, nodes_of}
+use Rattle.records.specs.declared.plan.Numbers.{Numbers}
 use Rattle.records.specs.declared.plan.Plan.{Plan}
 use Rattle.expressions.specs.paper.Nodes.{on, value, values, values_from, uses, uses_from, node_uses}
 use Rattle.expressions.specs.code.Coded.{Holds}
 use Rattle.expressions.proofs.ListLaws.{all_agree, any_agree, holds_next}
+use Rattle.records.proofs.UsedLaws.{used_take}
 use Rattle.sets.proofs.UnionLaws.{union-agree}
 
 -- ---- whether one of them is true, or false
@@ -32,6 +34,11 @@ none-false f (x ∷ xs) = pick (f x) (none-false f xs)
     pick : (b : Bool) → not (any_of (λ x. beq (f x) false) xs) ≡ all_of f xs → not (beq b false || any_of (λ x. beq (f x) false) xs) ≡ (b && all_of f xs)
     pick true e = e
     pick false e = refl
+
+-- the numbers in use, at the front of their array
+pub numbers_used : (is : Numbers) (n m : ℕ) → length is.items ≡ 16 → n ≡ is.count → m ≡ min n 16 → take m is.items ≡ numbers_of is
+unfolding numbers_of
+numbers_used is n m long e k = used_take is.items is.count 16 m long (rw (← e) k)
 
 -- ---- a node by its sort
 

@@ -1,15 +1,18 @@
 -- Laws of the list of a plan's rules, as it is put together.
 use Prim.Native.Nat.{ℕ, ◌+◌, ◌≤◌, ◌<◌, min}
-use mathlib.Core.Path.{◌≡◌, sym, ap, ap₂, ◌∙◌, subst, subst₂}
-use mathlib.Core.List.{List, [], ◌∷◌, ◌++◌, map, map-append, append_assoc, append-nil}
+use mathlib.Core.Path.{◌≡◌, refl, sym, ap, ap₂, ◌∙◌, subst, subst₂}
+use mathlib.Core.List.{List, [], ◌∷◌, ◌++◌, map, map-append, map-map, append_assoc, append-nil}
 use native.Mathlib.Nat.{add-zero, add_assoc, le_refl}
 use native.Mathlib.Omega.{arith}
-use lib.ListN.{length, get_or, take, length-append}
-use lib.Seq.{take-length}
+use lib.ListN.{length, get_or, take, set, length-append}
+use lib.Seq.{take-length, take-suc, take-suc-set}
+use Rattle.std.proofs.Common.{add-one}
 use Rattle.sets.specs.paper.Sets.{below, All}
+use Rattle.sets.proofs.Every.{all_parts, all_then, all_of_map}
+use Rattle.records.proofs.UsedLaws.{used_take}
 use Rattle.records.specs.paper.Plan.{Plan}
 use Rattle.expressions.specs.paper.Rules.{rule_sets, pair, with_anchor, edge, cut, attachment, bar, ends_of, with_anchor_of}
-use Rattle.expressions.specs.code.Listed.{Rules, lists, Added, uses_of, persons_of, held_by_cut, held_by_bar}
+use Rattle.expressions.specs.code.Listed.{Rules, lists, Added, Ruled, Tells, uses_of, persons_of, held_by_cut, held_by_bar}
 use Rattle.expressions.proofs.ListLaws.{below-map, front_below, made-next, made_all, made_each}
 
 added_none : (r : Rules) → Added r r [] []
@@ -37,43 +40,54 @@ added_next g h at i {us} {ps} {vs} {qs} {vs'} {qs'} xs ys x {u} {p} before one e
     last : (f : _ → ℕ) {v : ℕ} → v ≡ f x → map f xs ++ (v ∷ []) ≡ map f ys
     last f e = ap (λ (v : ℕ). map f xs ++ (v ∷ [])) e ∙ sym (map-append f xs (x ∷ [])) ∙ ap (map f) (sym s)
 
--- ---- the rules of a kind, one after another: those made from the first i records are there
+-- a rule stored behind those that are there
+added_one : (at u p : ℕ) (us ps : List ℕ) → at < length us → at < length ps → Added (lists at us ps) (lists (at + 1) (set us at u) (set ps at p)) (u ∷ []) (p ∷ [])
+added_one at u p us ps l k = record {
+  count = refl;
+  uses = rw add-one (take-suc-set us at u l);
+  persons = rw add-one (take-suc-set ps at p k);
+}
 
-pub record Adding {A B : Type 0} (make : A → B) (g h : B → ℕ) (items : List A) (count most at : ℕ) (us ps : List ℕ) (n i : ℕ) (vs qs : List ℕ) : Type 0 where
-  pub long : length items ≡ most
-  pub some : n ≡ min count most
-  pub few : i ≤ n
-  pub added : Added (lists at us ps) (lists (at + i) vs qs) (map g (take i (map make (take count items)))) (map h (take i (map make (take count items))))
+-- ---- the rules of some records, one after another: those of the first i are there
 
-module _ {A B : Type 0} {make : A → B} {g h : B → ℕ} {items : List A} {count most at : ℕ} {us ps : List ℕ} {n : ℕ} where
-  pub adding_none : length items ≡ most → n ≡ min count most → Adding make g h items count most at us ps n 0 us ps
-  adding_none l s = record {
-    long = l;
-    some = s;
-    few = omega arith;
-    added = subst (λ (k : ℕ). Added (lists at us ps) (lists k us ps) [] []) (sym (add-zero at)) (added_none (lists at us ps));
-  }
+pub record Ruling {A : Type 0} (says : A → ℕ × ℕ → Type 0) (xs : List A) (at : ℕ) (us ps : List ℕ) (i : ℕ) (vs qs : List ℕ) : Type 0 where
+  pub ruled : Ruled says (take i xs) (lists at us ps) (lists (at + i) vs qs)
 
-  module _ {i : ℕ} {vs qs : List ℕ} (w : Adding make g h items count most at us ps n i vs qs) where
-    -- what holds of each record holds of the next
-    pub adding_each : (Q : B → Type 0) (d : A) → i < n → All Q (map make (take count items)) → Q (make (get_or items i d))
-    adding_each Q d l q = made_each make items count most n w.long w.some Q i d l q
+module _ {A : Type 0} {says : A → ℕ × ℕ → Type 0} {xs : List A} {at : ℕ} {us ps : List ℕ} where
+  pub ruling_none : Ruling says xs at us ps 0 us ps
+  ruling_none = record { ruled = record { added = λ g h t. subst (λ (k : ℕ). Added (lists at us ps) (lists k us ps) [] []) (sym (add-zero at)) (added_none (lists at us ps)) } }
 
-    pub adding_next : {vs' qs' : List ℕ} {u p : ℕ} (d : A) → i < n → Added (lists (at + i) vs qs) (lists (at + i + 1) vs' qs') (u ∷ []) (p ∷ [])
-        → u ≡ g (make (get_or items i d)) → p ≡ h (make (get_or items i d)) → Adding make g h items count most at us ps n (i + 1) vs' qs'
-    adding_next d l one e k = record {
-      long = w.long;
-      some = w.some;
-      few = omega arith;
-      added = added_next g h at i (take i (map make (take count items))) (take (i + 1) (map make (take count items))) (make (get_or items i d)) w.added one e k
-          (made-next make items count most n w.long w.some i d l);
-    }
+  pub ruling_next : {i : ℕ} {vs qs : List ℕ} → Ruling says xs at us ps i vs qs → (x : A) (y : ℕ × ℕ) → i < length xs → x ≡ get_or xs i x
+      → at + i < length vs → at + i < length qs → says x y → Ruling says xs at us ps (i + 1) (set vs (at + i) y.0) (set qs (at + i) y.1)
+  ruling_next {i} {vs} {qs} w x y l e v q s = record { ruled = record { added = more } }
+    where
+      cut : take (i + 1) xs ≡ take i xs ++ (x ∷ [])
+      cut = rw (add-one i, take-suc xs i x l, ← e) refl
 
-    pub adding_end : n ≤ i → Added (lists at us ps) (lists (at + n) vs qs) (map g (map make (take count items))) (map h (map make (take count items)))
-    adding_end l =
-        let e : i ≡ n = omega (arith, w.few) in
-        subst₂ (λ (k : ℕ) (xs : List B). Added (lists at us ps) (lists (at + k) vs qs) (map g xs) (map h xs)) e
-        (made_all make items count most n w.long w.some i l) w.added
+      more : (g h : A → ℕ) → All (Tells says g h) (take (i + 1) xs)
+          → Added (lists at us ps) (lists (at + (i + 1)) (set vs (at + i) y.0) (set qs (at + i) y.1)) (map g (take (i + 1) xs)) (map h (take (i + 1) xs))
+      more g h t =
+          let told = all_parts (Tells says g h) (take i xs) (x ∷ []) (subst (All (Tells says g h)) cut t) in
+          let here = told.1.0 y s in
+          added_next g h at i (take i xs) (take (i + 1) xs) x (w.ruled.added g h told.0) (added_one (at + i) y.0 y.1 vs qs v q) here.0 here.1 cut
+
+  pub ruling_end : {i : ℕ} {vs qs : List ℕ} → Ruling says xs at us ps i vs qs → i ≡ length xs → Ruled says xs (lists at us ps) (lists (at + length xs) vs qs)
+  ruling_end {i} {vs} {qs} w e = subst (λ (ys : List A). Ruled says ys (lists at us ps) (lists (at + length xs) vs qs)) (ap (λ (k : ℕ). take k xs) e ∙ take-length xs) (subst (λ (k : ℕ). Ruled says (take i xs) (lists at us ps) (lists (at + k) vs qs)) e w.ruled)
+
+-- of the records in use: what holds of what each stands for, and the rules that they stand for
+module _ {A B : Type 0} (make : A → B) (items : List A) (count most n : ℕ) (long : length items ≡ most) (some : n ≡ min count most) (Q : B → Type 0) (each : All Q (map make (take count items))) where
+  pub each_in_use : {R : A → Type 0} → ((x : A) → Q (make x) → R x) → All R (take n items)
+  each_in_use {R} h =
+      all_then (λ x. Q (make x)) R h (take n items) (subst (All (λ x. Q (make x))) (sym (used_take items count most n long some)) (all_of_map make Q (take count items) each))
+
+  pub ruled_in_use : (g h : B → ℕ) {says : A → ℕ × ℕ → Type 0} {before after : Rules} → Ruled says (take n items) before after
+      → ((x : A) → Q (make x) → Tells says (λ y. g (make y)) (λ y. h (make y)) x)
+      → Added before after (map g (map make (take count items))) (map h (map make (take count items)))
+  ruled_in_use g h {says} {before} {after} r t =
+      subst₂ (Added before after) (made g) (made h) (r.added (λ x. g (make x)) (λ x. h (make x)) (each_in_use t))
+    where
+      made : (f : B → ℕ) → map (λ x. f (make x)) (take n items) ≡ map f (map make (take count items))
+      made f = ap (map (λ x. f (make x))) (used_take items count most n long some) ∙ sym (map-map f make (take count items))
 
 -- ---- rules by number, as a list of them
 

@@ -9,18 +9,15 @@ ghost use Rattle.expressions.specs.paper.Bindings.{family_faults, boolean_faults
 
 use records::case::{Boolean, Booleans, Case, Families};
 use records::checked::Checked;
-use sets::numbers::upto;
 
 // Whether a number is among these.
 fn appears(numbers: &[u8], number: u8) -> bool
     ensures { result ≡ any_of (λ e. eqb e number) numbers.now }
 {
-    let mut i: usize = 0;
-    while i < numbers.len() {
+    for i in 0..numbers.len() {
         if numbers[i] == number {
             return true;
         }
-        i = i + 1;
     }
     false
 }
@@ -30,10 +27,9 @@ fn family_faults(families: Families, first: usize) -> Checked
     requires { first < 2 }
     ensures { result ≡ checked_of {A = ℕ} (first_fault first (family_faults [] (map family_of (take families.count families.items))) (fine 0)) }
 {
-    let n = upto(families.count, 16);
+    let n = families.count.min(16);
     let mut earlier = [0u8; 16];
-    let mut i: usize = 0;
-    while i < n {
+    for i in 0..n {
         let m = families.items[i];
         if appears(&earlier[..i], m.number) {
             return Checked::Refused {
@@ -42,7 +38,6 @@ fn family_faults(families: Families, first: usize) -> Checked
             };
         }
         earlier[i] = m.number;
-        i = i + 1;
     }
     Checked::Accepted
 }
@@ -73,10 +68,9 @@ fn boolean_faults(booleans: Booleans, first: usize) -> Checked
     requires { first < 64 }
     ensures { result ≡ checked_of {A = ℕ} (first_fault first (boolean_faults [] (map boolean_of (take booleans.count booleans.items))) (fine 0)) }
 {
-    let n = upto(booleans.count, 64);
+    let n = booleans.count.min(64);
     let mut earlier = [0u8; 64];
-    let mut i: usize = 0;
-    while i < n {
+    for i in 0..n {
         let b = booleans.items[i];
         let number = fault_of(clashes(b), appears(&earlier[..i], b.fact));
         if number != 0 {
@@ -86,7 +80,6 @@ fn boolean_faults(booleans: Booleans, first: usize) -> Checked
             };
         }
         earlier[i] = b.fact;
-        i = i + 1;
     }
     Checked::Accepted
 }
@@ -96,8 +89,8 @@ pub fn bindable(case: Case) -> Checked
 {
     let families = case.families;
     let booleans = case.booleans;
-    let first = upto(case.headings, 1);
-    let before = first + upto(families.count, 16);
+    let first = case.headings.min(1);
+    let before = first + families.count.min(16);
     let twice = family_faults(families, first);
     let Checked::Accepted = twice else {
         return twice;

@@ -12,7 +12,6 @@ use crate::elections::election_policies;
 use crate::observations::{Sight, said_unknown, sights_of};
 use records::case::{Case, Families};
 use records::plan::{Election, Fact, Plan};
-use sets::numbers::upto;
 use sets::{bit, contains, union};
 
 // What is told of a fact: its observations, whether it is said to be unknown, the first election on it.
@@ -89,9 +88,8 @@ fn scope_of(case: Case) -> u8
 fn silence(families: Families, number: u8, scope: u8) -> u8
     ensures { result ≡ silent_code (scoped (number ∷ []) scope (map family_of (take families.count families.items))) }
 {
-    let n = upto(families.count, 16);
-    let mut i: usize = 0;
-    while i < n {
+    let n = families.count.min(16);
+    for i in 0..n {
         let m = families.items[i];
         if m.number == number && m.scope == scope {
             if m.complete {
@@ -99,7 +97,6 @@ fn silence(families: Families, number: u8, scope: u8) -> u8
             }
             return 3;
         }
-        i = i + 1;
     }
     0
 }
@@ -176,9 +173,8 @@ pub fn bind_facts(plan: Plan, case: Case, set: u64) -> Bound
     let elections = election_policies(cuts, attachments);
     let mut codes = [0u8; 64];
     let mut defaults: u64 = 0;
-    let n = upto(facts.count, 64);
-    let mut i: usize = 0;
-    while i < n {
+    let n = facts.count.min(64);
+    for i in 0..n {
         let k = i as u8;
         let fact = facts.items[i];
         let seen = sights.items[i];
@@ -193,7 +189,6 @@ pub fn bind_facts(plan: Plan, case: Case, set: u64) -> Bound
         if takes_default(bound, fact, told) {
             defaults = union(defaults, bit(k));
         }
-        i = i + 1;
     }
     Bound {
         codes: codes,

@@ -6,7 +6,6 @@ ghost use Rattle.expressions.specs.code.Listed.{used_at};
 
 use crate::groups::Groups;
 use sets::close;
-use sets::numbers::upto;
 use sets::persons::person_mask;
 
 // Sets of persons that are joined: by a rule, a fact or an unresolved decision.
@@ -16,19 +15,16 @@ pub struct Joins {
     pub sets: [u64; 224],
 }
 
+#[tactic(auto, using(std::proofs::lemmas::Slice::overwrites), unfolding(crate::specs::code::Joined::joins_of))]
 fn append(joins: Joins, more: &[u64]) -> Joins
     requires { joins.count + length more.now ≤ 224 }
     ensures { (result.count ≡ joins.count + length more.now) × (joins_of result ≡ joins_of joins ++ more.now) }
 {
     let mut all = joins;
-    let mut i: usize = 0;
-    while i < more.len() {
-        let k = all.count;
-        let s = more[i];
-        all.sets[k] = s;
-        all.count = k + 1;
-        i = i + 1;
-    }
+    let start = all.count;
+    let end = start + more.len();
+    all.sets[start..end].copy_from_slice(more);
+    all.count = end;
     all
 }
 
@@ -42,22 +38,19 @@ pub fn joins_of(
     requires { (count ≤ 64) × (undecided ≤ 16) }
     ensures { joins_of result ≡ take groups.count groups.sets ++ (below count (used_at facts) ++ below undecided (used_at decisions)) }
 {
-    let sets = groups.sets;
-    let n = upto(groups.count, 144);
     let none = Joins {
         count: 0,
         sets: [0; 224],
     };
-    let first = append(none, &sets[..n]);
-    let second = append(first, &facts[..count]);
-    append(second, &decisions[..undecided])
+    let rules = append(none, &groups.sets[..groups.count.min(144)]);
+    let with_facts = append(rules, &facts[..count]);
+    append(with_facts, &decisions[..undecided])
 }
 
+#[tactic(auto, using(records::proofs::ListLaws::take_min), unfolding(crate::specs::code::Joined::joins_of))]
 pub fn circle_of(joins: Joins, p: u8) -> u64
     requires { p < 64 }
     ensures { result ≡ close_of (joins_of joins) (one p) }
 {
-    let sets = joins.sets;
-    let n = upto(joins.count, 224);
-    close(&sets[..n], person_mask(p))
+    close(&joins.sets[..joins.count.min(224)], person_mask(p))
 }

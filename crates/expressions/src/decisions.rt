@@ -1,17 +1,16 @@
 // The unresolved decisions of a plan, by cut and edge.
-ghost use Rattle.std.specs.Prelude.{◌≡◌, ◌++◌, map, ℕ, ◌+◌, ◌<◌, ◌≤◌, length};
+ghost use Rattle.std.specs.Prelude.{◌≡◌, [], ◌∷◌, ◌++◌, map, ℕ, ◌+◌, ◌<◌, ◌≤◌, length};
 ghost use Rattle.sets.specs.paper.Sets.{has, below, All};
 ghost use Rattle.records.specs.paper.Plan.{Plan as Paper};
 ghost use Rattle.records.specs.code.Decoded.{decisions_of, plan_of, cuts_of, edges_of};
 ghost use Rattle.records.specs.promises.Sound.{Sound};
 ghost use Rattle.expressions.specs.code.Coded.{Holds, EndsFit};
 ghost use Rattle.expressions.specs.paper.Influence.{has_verdict, open_in, open_below, open_decisions, decision_count, open_touch, decision_touch};
-ghost use Rattle.expressions.specs.code.Undecided.{opens_of, Named};
+ghost use Rattle.expressions.specs.code.Undecided.{pair_of, opens_of, Named};
 
 use crate::observations::with_number;
 use crate::rules::ends;
 use records::plan::{Cuts, Decisions, Edges, Plan};
-use sets::numbers::{upto, wide};
 use sets::{contains, union};
 
 #[derive(Clone, Copy)]
@@ -26,16 +25,23 @@ pub fn edges_with(decisions: Decisions, verdict: u8) -> u64
     requires { 0 < verdict }
     ensures { (e : ℕ) → e < 64 → has result e ≡ has_verdict e verdict (decisions_of decisions) }
 {
-    let n = upto(wide(decisions.count), 64);
-    let mut m: u64 = 0;
-    let mut i: usize = 0;
-    while i < n {
-        let e = decisions.edges[i];
-        let v = decisions.verdicts[i];
-        m = with_number(m, e, v == verdict);
-        i = i + 1;
+    let mut m = 0;
+    for i in 0..usize::from(decisions.count).min(64) {
+        m = with_number(m, decisions.edges[i], decisions.verdicts[i] == verdict);
     }
     m
+}
+
+// One decision more, on an edge of a cut.
+#[tactic(auto, using(crate::proofs::DecisionLaws::open_next), unfolding(crate::specs::code::Undecided::opens_of))]
+fn push(found: &mut Undecided, cut: u8, edge: u8)
+    requires { found.old.count < 16 }
+    ensures { opens_of found.new ≡ opens_of found.old ++ (pair_of cut edge ∷ []) }
+{
+    let at = found.count;
+    found.cuts[at] = cut;
+    found.edges[at] = edge;
+    found.count = at + 1;
 }
 
 // The unresolved decisions of the cut c, on edges below the count.
@@ -45,16 +51,10 @@ fn open_in(found: Undecided, decisions: Decisions, c: u8, edges: usize) -> Undec
 {
     let unresolved = edges_with(decisions, 3);
     let mut out = found;
-    let mut e: usize = 0;
-    while e < edges {
-        let k = e as u8;
-        if contains(unresolved, k) {
-            let at = out.count;
-            out.cuts[at] = c;
-            out.edges[at] = k;
-            out.count = at + 1;
+    for e in 0..edges {
+        if contains(unresolved, e as u8) {
+            push(&mut out, c, e as u8);
         }
-        e = e + 1;
     }
     out
 }
@@ -63,27 +63,15 @@ fn open_over(cuts: Cuts, edges: usize) -> Undecided
     requires { (edges ≤ 64) × (length (open_below (cuts_of cuts) edges (length (cuts_of cuts))) ≤ 16) }
     ensures { opens_of result ≡ open_below (cuts_of cuts) edges (length (cuts_of cuts)) }
 {
-    let n = upto(cuts.count, 16);
     let mut out = Undecided {
         count: 0,
         cuts: [0; 16],
         edges: [0; 16],
     };
-    let mut i: usize = 0;
-    while i < n {
-        let cut = cuts.items[i];
-        let decisions = cut.decisions;
-        let c = i as u8;
-        out = open_in(out, decisions, c, edges);
-        i = i + 1;
+    for i in 0..cuts.count.min(16) {
+        out = open_in(out, cuts.items[i].decisions, i as u8, edges);
     }
     out
-}
-
-fn edge_count(edges: Edges) -> usize
-    ensures { (result ≡ length (edges_of edges)) × (result ≤ 64) }
-{
-    upto(edges.count, 64)
 }
 
 // All unresolved decisions, by cut and edge.
@@ -91,9 +79,7 @@ pub fn open_decisions(plan: Plan) -> Undecided
     requires { Sound (plan_of plan) }
     ensures { opens_of result ≡ open_decisions (plan_of plan) }
 {
-    let edges = plan.edges;
-    let cuts = plan.cuts;
-    open_over(cuts, edge_count(edges))
+    open_over(plan.cuts, plan.edges.count.min(64))
 }
 
 // Whom each decision touches: the cut's members and the edge's ends.
@@ -101,16 +87,11 @@ fn touches_over(cuts: Cuts, edges: Edges, found: Undecided) -> [u64; 16]
     requires { (found.count ≤ 16) × All (Named (length (cuts_of cuts)) (length (edges_of edges))) (opens_of found) × All EndsFit (edges_of edges) }
     ensures { (P : Paper) → P.cuts ≡ cuts_of cuts → P.edges ≡ edges_of edges → Holds 0 result (map (open_touch P) (opens_of found)) }
 {
-    let n = upto(found.count, 16);
     let mut out = [0u64; 16];
-    let mut i: usize = 0;
-    while i < n {
-        let c = wide(found.cuts[i]);
-        let cut = cuts.items[c];
-        let e = wide(found.edges[i]);
-        let edge = edges.items[e];
+    for i in 0..found.count {
+        let cut = cuts.items[usize::from(found.cuts[i])];
+        let edge = edges.items[usize::from(found.edges[i])];
         out[i] = union(cut.members, ends(edge));
-        i = i + 1;
     }
     out
 }
@@ -120,7 +101,5 @@ pub fn decision_touches(plan: Plan, found: Undecided) -> [u64; 16]
     requires { Sound (plan_of plan) × (opens_of found ≡ open_decisions (plan_of plan)) }
     ensures { Holds 0 result (below (decision_count (plan_of plan)) (decision_touch (plan_of plan))) }
 {
-    let cuts = plan.cuts;
-    let edges = plan.edges;
-    touches_over(cuts, edges, found)
+    touches_over(plan.cuts, plan.edges, found)
 }

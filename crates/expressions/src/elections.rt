@@ -6,7 +6,6 @@ ghost use Rattle.expressions.specs.paper.Bindings.{elections_in};
 ghost use Rattle.expressions.specs.code.Told.{ElectedBy};
 
 use records::plan::{Attachments, Cuts, Election};
-use sets::numbers::{upto, wide};
 
 // By fact; one that is not given where there is none.
 #[derive(Drop)]
@@ -19,12 +18,10 @@ fn elect_by_attachments(elected: Elected, attachments: Attachments) -> Elected
     ensures { (f : ℕ) → f < 64 → election_of (get_or result.items f no_election) ≡ take 1 (elections_in (map (λ a. election_of a.election) (take attachments.count attachments.items)) f ++ election_of (get_or elected.items f no_election)) }
 {
     let mut out = elected;
-    let mut i = upto(attachments.count, 32);
-    while i > 0 {
-        i = i - 1;
+    for i in (0..attachments.count.min(32)).rev() {
         let a = attachments.items[i];
         let e = a.election;
-        let f = wide(e.fact);
+        let f = usize::from(e.fact);
         if e.given && f < 64 {
             out.items[f] = e;
         }
@@ -36,12 +33,10 @@ fn elect_by_cuts(elected: Elected, cuts: Cuts) -> Elected
     ensures { (f : ℕ) → f < 64 → election_of (get_or result.items f no_election) ≡ take 1 (elections_in (map (λ c. election_of c.election) (take cuts.count cuts.items)) f ++ election_of (get_or elected.items f no_election)) }
 {
     let mut out = elected;
-    let mut i = upto(cuts.count, 16);
-    while i > 0 {
-        i = i - 1;
+    for i in (0..cuts.count.min(16)).rev() {
         let c = cuts.items[i];
         let e = c.election;
-        let f = wide(e.fact);
+        let f = usize::from(e.fact);
         if e.given && f < 64 {
             out.items[f] = e;
         }

@@ -7,8 +7,6 @@ ghost use Rattle.expressions.specs.code.Evident.{evidence_mark, boolean_evidence
 
 use crate::observations::entry;
 use records::case::{Boolean, Booleans, Case, Observations, Relations};
-use sets::numbers::{upto, wide};
-use sets::whole::whole_256_words;
 use sets::{bit, union};
 
 fn mark(m: u64, e: u8) -> u64
@@ -24,11 +22,9 @@ fn mark_all(m: u64, o: Observations) -> u64
 {
     let mut all = m;
     let n = o.count;
-    let mut i: u8 = 0;
-    while i < n {
+    for i in 0..n {
         let evidence = o.evidence;
         all = mark(all, entry(evidence, i));
-        i = i + 1;
     }
     all
 }
@@ -51,8 +47,7 @@ fn evidence_in(b: Boolean) -> u64
 fn note(table: &mut [u64; 256], fact: u8, more: u64)
     ensures { (f : ℕ) → get_or table.new f 0 ≡ union (get_or table.old f 0) (only (eqb fact f) more) }
 {
-    whole_256_words(*table);
-    let f = wide(fact);
+    let f = usize::from(fact);
     let m = union(table[f], more);
     table[f] = m;
 }
@@ -61,13 +56,11 @@ fn note_booleans(table: &mut [u64; 256], booleans: Booleans)
     requires { All EvidentBoolean (map boolean_of (take booleans.count booleans.items)) }
     ensures { (f : ℕ) → get_or table.new f 0 ≡ union (get_or table.old f 0) (union_of (λ b. only (eqb b.fact f) (boolean_evidence b)) (map boolean_of (take booleans.count booleans.items))) }
 {
-    let n = upto(booleans.count, 64);
-    let mut i: usize = 0;
-    while i < n {
+    let n = booleans.count.min(64);
+    for i in 0..n {
         let b = booleans.items[i];
         let more = evidence_in(b);
         note(table, b.fact, more);
-        i = i + 1;
     }
 }
 
@@ -75,13 +68,11 @@ fn note_relations(table: &mut [u64; 256], relations: Relations)
     requires { All EvidentRelation (map relation_of (take relations.count relations.items)) }
     ensures { (f : ℕ) → get_or table.new f 0 ≡ union (get_or table.old f 0) (union_of (λ r. only (eqb r.fact f) (evidence_mark r.observation)) (map relation_of (take relations.count relations.items))) }
 {
-    let n = upto(relations.count, 256);
-    let mut i: usize = 0;
-    while i < n {
+    let n = relations.count.min(256);
+    for i in 0..n {
         let r = relations.items[i];
         let more = mark(0, r.evidence);
         note(table, r.fact, more);
-        i = i + 1;
     }
 }
 

@@ -8,20 +8,13 @@ pub struct Groups {
 }
 
 // These sets.
+#[tactic(auto, using(std::proofs::lemmas::Slice::overwrites))]
 pub fn groups_of(persons: &[u64]) -> Groups
     requires { length persons.now ≤ 144 }
     ensures { take result.count result.sets ≡ persons.now }
 {
-    let n = persons.len();
+    let count = persons.len();
     let mut sets = [0u64; 144];
-    let mut i: usize = 0;
-    while i < n {
-        let s = persons[i];
-        sets[i] = s;
-        i = i + 1;
-    }
-    Groups {
-        count: n,
-        sets: sets,
-    }
+    sets[..count].copy_from_slice(persons);
+    Groups { count, sets }
 }

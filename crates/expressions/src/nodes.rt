@@ -6,39 +6,21 @@ ghost use Rattle.std.specs.Bool.{beq};
 ghost use Rattle.expressions.specs.paper.Nodes.{on, value as value_of, values_from};
 ghost use Rattle.expressions.specs.code.Coded.{Holds};
 
-use records::plan::{Node, Nodes, Numbers};
+use records::plan::{Node, Nodes};
 use sets::contains;
-use sets::numbers::{upto, wide};
-
-// Whether one of these nodes has the value asked for.
-fn one_is(children: Numbers, lower: &[bool; 256], wanted: bool) -> bool
-    ensures { result ≡ any_of (λ i. beq (on lower.now i) wanted) (numbers_of children) }
-{
-    let n = upto(wide(children.count), 16);
-    let mut i: usize = 0;
-    while i < n {
-        let k = wide(children.items[i]);
-        if lower[k] == wanted {
-            return true;
-        }
-        i = i + 1;
-    }
-    false
-}
 
 // A node's value from the values of the nodes below it.
+#[tactic(auto, using(crate::proofs::NodeLaws::negated), unfolding(crate::specs::paper::Nodes::value, records::specs::code::Decoded::node_of, records::specs::code::Decoded::node_by))]
 pub fn value(node: Node, facts: u64, lower: &[bool; 256]) -> bool
     ensures { result ≡ value_of facts lower.now (node_of node) }
 {
-    let sort = node.sort;
-    let number = node.number;
-    let children = node.children;
-    match sort {
-        0 => number == 1,
-        1 => contains(facts, number),
-        2 => !one_is(children, lower, false),
-        3 => one_is(children, lower, true),
-        _ => !lower[wide(number)],
+    let children = &node.children.items[..usize::from(node.children.count).min(16)];
+    match node.sort {
+        0 => node.number == 1,
+        1 => contains(facts, node.number),
+        2 => children.iter().all(|&k| lower[usize::from(k)]),
+        3 => children.iter().any(|&k| lower[usize::from(k)]),
+        _ => !lower[usize::from(node.number)],
     }
 }
 
@@ -46,14 +28,9 @@ pub fn value(node: Node, facts: u64, lower: &[bool; 256]) -> bool
 pub fn values(nodes: Nodes, facts: u64) -> [bool; 256]
     ensures { Holds false result (values_from facts (nodes_of nodes) []) }
 {
-    let n = upto(nodes.count, 256);
     let mut out = [false; 256];
-    let mut i: usize = 0;
-    while i < n {
-        let node = nodes.items[i];
-        let v = value(node, facts, &out);
-        out[i] = v;
-        i = i + 1;
+    for i in 0..nodes.count.min(256) {
+        out[i] = value(nodes.items[i], facts, &out);
     }
     out
 }

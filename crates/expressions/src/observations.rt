@@ -6,7 +6,6 @@ ghost use Rattle.expressions.specs.paper.Bindings.{unknown_in, observed_in_boole
 ghost use Rattle.expressions.specs.code.Sight.{nothing, look_at, look_all};
 
 use records::case::{Booleans, Observations, Relations};
-use sets::numbers::{upto, wide};
 use sets::{bit, union};
 
 // What was seen of a fact so far: the first pair of value and evidence, whether another pair came, whether another value did.
@@ -67,10 +66,8 @@ pub fn look_all(seen: Sight, o: Observations) -> Sight
     let n = o.count;
     let values = o.values;
     let evidence = o.evidence;
-    let mut i: u8 = 0;
-    while i < n {
+    for i in 0..n {
         s = look(s, entry(values, i), entry(evidence, i));
-        i = i + 1;
     }
     s
 }
@@ -85,18 +82,16 @@ fn look_in_booleans(sights: Sights, booleans: Booleans) -> Sights
     ensures { (f : ℕ) → f < 64 → get_or result.items f nothing ≡ look_all (get_or sights.items f nothing) (observed_in_booleans (map boolean_of (take booleans.count booleans.items)) f) }
 {
     let mut s = sights;
-    let n = upto(booleans.count, 64);
-    let mut i: usize = 0;
-    while i < n {
+    let n = booleans.count.min(64);
+    for i in 0..n {
         let b = booleans.items[i];
-        let f = wide(b.fact);
+        let f = usize::from(b.fact);
         if f < 64 {
             let o = b.observations;
             let seen = s.items[f];
             let more = look_all(seen, o);
             s.items[f] = more;
         }
-        i = i + 1;
     }
     s
 }
@@ -105,17 +100,15 @@ fn look_in_relations(sights: Sights, relations: Relations) -> Sights
     ensures { (f : ℕ) → f < 64 → get_or result.items f nothing ≡ look_all (get_or sights.items f nothing) (observed_in_relations (map relation_of (take relations.count relations.items)) f) }
 {
     let mut s = sights;
-    let n = upto(relations.count, 256);
-    let mut i: usize = 0;
-    while i < n {
+    let n = relations.count.min(256);
+    for i in 0..n {
         let r = relations.items[i];
-        let f = wide(r.fact);
+        let f = usize::from(r.fact);
         if f < 64 {
             let seen = s.items[f];
             let more = look(seen, r.value, r.evidence);
             s.items[f] = more;
         }
-        i = i + 1;
     }
     s
 }
@@ -153,13 +146,11 @@ pub fn with_number(m: u64, number: u8, said: bool) -> u64
 pub fn said_unknown(booleans: Booleans) -> u64
     ensures { (f : ℕ) → f < 64 → has result f ≡ not (eqb (length (unknown_in (map boolean_of (take booleans.count booleans.items)) f)) 0) }
 {
-    let n = upto(booleans.count, 64);
+    let n = booleans.count.min(64);
     let mut m: u64 = 0;
-    let mut i: usize = 0;
-    while i < n {
+    for i in 0..n {
         let b = booleans.items[i];
         m = with_number(m, b.fact, b.unknown);
-        i = i + 1;
     }
     m
 }

@@ -1,8 +1,8 @@
 // What is made once for a case: the sets that a closing goes by, the bound facts, whom each fact touches, and the unresolved decisions with
 // whom they touch.
-ghost use Rattle.std.specs.Prelude.{◌≡◌, ◌≤◌, length};
+ghost use Rattle.std.specs.Prelude.{◌≡◌};
 ghost use Rattle.records.specs.promises.Sound.{Sound};
-ghost use Rattle.records.specs.code.Decoded.{plan_of, facts_of};
+ghost use Rattle.records.specs.code.Decoded.{plan_of};
 ghost use Rattle.expressions.specs.code.Coded.{frame_by, HoldsUses};
 ghost use Rattle.expressions.specs.code.Reached.{Reached};
 
@@ -11,8 +11,7 @@ use crate::groups::{Groups, groups_of};
 use crate::rules::{all_rules, joining};
 use crate::touch::{bound_facts, constraint_uses, touches};
 use records::case::Constraints;
-use records::plan::{Facts, Plan};
-use sets::numbers::upto;
+use records::plan::Plan;
 
 // `count`: how many facts there are
 #[derive(Clone, Copy)]
@@ -23,12 +22,6 @@ pub struct Reach {
     pub facts: [u64; 64],
     pub undecided: Undecided,
     pub decisions: [u64; 16],
-}
-
-fn fact_count(facts: Facts) -> usize
-    ensures { (result ≡ length (facts_of facts)) × (result ≤ 64) }
-{
-    upto(facts.count, 64)
 }
 
 // `nodes`: the facts that each node uses
@@ -43,10 +36,8 @@ pub fn reach_of(plan: Plan, nodes: &[u64; 256], roster: u64, constraints: Constr
     let rules = all_rules(&mut uses, &mut persons, joined, plan, nodes);
     let used = constraint_uses(constraints, nodes);
     let bound = bound_facts(&uses[..rules], used);
-    let known = plan.facts;
-    let count = fact_count(known);
     let facts = touches(
-        known,
+        plan.facts,
         &uses[..rules],
         &persons[..rules],
         used,
@@ -56,11 +47,11 @@ pub fn reach_of(plan: Plan, nodes: &[u64; 256], roster: u64, constraints: Constr
     let undecided = open_decisions(plan);
     let decisions = decision_touches(plan, undecided);
     Reach {
-        groups: groups,
-        bound: bound,
-        count: count,
-        facts: facts,
-        undecided: undecided,
-        decisions: decisions,
+        groups,
+        bound,
+        count: plan.facts.count.min(64),
+        facts,
+        undecided,
+        decisions,
     }
 }

@@ -1,32 +1,20 @@
 // The rules of a plan in two lent lists, made once: the facts that each uses, and whom it holds.
-ghost use Rattle.std.specs.Prelude.{◌≡◌, [], ◌∷◌, map, ◌<◌, ◌≤◌, ◌+◌};
+ghost use Rattle.std.specs.Prelude.{◌≡◌, ◌≤◌, ◌<◌, ◌+◌, length};
 ghost use Rattle.sets.specs.paper.Sets.{one, All};
 ghost use Rattle.records.specs.promises.Sound.{Sound};
-ghost use Rattle.records.specs.code.Decoded.{edge_of, attachment_of, plan_of, edges_of, cuts_of, attachments_of, bars_of, statuses_of};
-ghost use Rattle.expressions.specs.code.Coded.{EndsFit, AnchorFits, PersonFits};
+ghost use Rattle.records.specs.code.Decoded.{edge_of, attachment_of, plan_of};
+ghost use Rattle.expressions.specs.code.Coded.{EndsFit, AnchorFits};
 ghost use Rattle.expressions.specs.paper.Rules.{ends_of, with_anchor_of};
 ghost use Rattle.expressions.specs.paper.Influence.{edge_used};
-ghost use Rattle.expressions.specs.code.Listed.{lists, Joining, Listed, used_at, cut_used, held_by_cut, attachment_used, bar_used, held_by_bar, status_used, held_by_status, Added};
+ghost use Rattle.expressions.specs.code.Listed.{lists, Joining, Listed, used_at, Ruled};
 
 use crate::uses::used_by;
-use records::plan::{Attachment, Attachments, Bars, Cuts, Edge, Edges, Plan, Statuses};
-use sets::numbers::{upto, wide};
+use records::plan::{Attachment, Bar, Cut, Edge, Plan, Status};
 use sets::persons::person_mask;
 use sets::union;
-use sets::whole::whole_176_words;
-
-// One rule more, behind the first `at`.
-fn push(uses: &mut [u64; 176], persons: &mut [u64; 176], at: usize, used: u64, held: u64)
-    requires { at < 176 }
-    ensures { Added (lists at uses.old persons.old) (lists (at + 1) uses.new persons.new) (used ∷ []) (held ∷ []) }
-{
-    whole_176_words(*uses);
-    whole_176_words(*persons);
-    uses[at] = used;
-    persons[at] = held;
-}
 
 // The two persons of an edge.
+#[tactic(auto, unfolding(records::specs::code::Decoded::edge_of))]
 pub fn ends(e: Edge) -> u64
     requires { EndsFit (edge_of e) }
     ensures { result ≡ ends_of (edge_of e) }
@@ -35,6 +23,7 @@ pub fn ends(e: Edge) -> u64
 }
 
 // The members of an attachment, with its anchor.
+#[tactic(auto, unfolding(records::specs::code::Decoded::attachment_of))]
 pub fn with_anchor(a: Attachment) -> u64
     requires { AnchorFits (attachment_of a) }
     ensures { result ≡ with_anchor_of (attachment_of a) }
@@ -42,128 +31,40 @@ pub fn with_anchor(a: Attachment) -> u64
     union(a.members, person_mask(a.anchor))
 }
 
+// The facts that a node uses.
+fn use_at(nodes: &[u64; 256], node: u8) -> u64
+    ensures { result ≡ used_at nodes.now node }
+{
+    nodes[usize::from(node)]
+}
+
 // The facts of an edge's condition and defeaters.
+#[tactic(auto, unfolding(records::specs::code::Decoded::edge_of))]
 fn edge_use(e: Edge, nodes: &[u64; 256]) -> u64
     ensures { result ≡ edge_used (used_at nodes.now) (edge_of e) }
 {
-    let defeaters = e.defeaters;
-    let k = wide(e.condition);
-    let own = nodes[k];
-    union(own, used_by(defeaters, nodes))
+    union(use_at(nodes, e.condition), used_by(e.defeaters, nodes))
 }
 
-fn add_edges(
+// The rules that these records are, behind the first `at`; `rule` says of one the facts that it uses, and whom it holds.
+fn add<T: Copy, F: Fn(T) -> (u64, u64)>(
     uses: &mut [u64; 176],
     persons: &mut [u64; 176],
     at: usize,
-    edges: Edges,
-    nodes: &[u64; 256],
+    records: &[T],
+    rule: F,
 ) -> usize
-    requires { (at ≤ 112) × All EndsFit (edges_of edges) }
-    ensures { Added (lists at uses.old persons.old) (lists result uses.new persons.new) (map (edge_used (used_at nodes.now)) (edges_of edges)) (map ends_of (edges_of edges)) × (result ≤ at + 64) }
+    requires room { at + length records.now ≤ 176 }
+    requires each { All (F.pre rule) records.now }
+    ensures count { result ≡ at + length records.now }
+    ensures added { Ruled (F.post rule) records.now (lists at uses.old persons.old) (lists result uses.new persons.new) }
 {
-    let n = upto(edges.count, 64);
-    let mut i: usize = 0;
-    while i < n {
-        let e = edges.items[i];
-        let used = edge_use(e, nodes);
-        let held = ends(e);
-        push(uses, persons, at + i, used, held);
-        i = i + 1;
+    for i in 0..records.len() {
+        let (used, held) = rule(records[i]);
+        uses[at + i] = used;
+        persons[at + i] = held;
     }
-    at + n
-}
-
-fn add_cuts(
-    uses: &mut [u64; 176],
-    persons: &mut [u64; 176],
-    at: usize,
-    cuts: Cuts,
-    nodes: &[u64; 256],
-) -> usize
-    requires { at ≤ 160 }
-    ensures { Added (lists at uses.old persons.old) (lists result uses.new persons.new) (map (cut_used (used_at nodes.now)) (cuts_of cuts)) (map held_by_cut (cuts_of cuts)) × (result ≤ at + 16) }
-{
-    let n = upto(cuts.count, 16);
-    let mut i: usize = 0;
-    while i < n {
-        let x = cuts.items[i];
-        let k = wide(x.condition);
-        let used = nodes[k];
-        let held = x.members;
-        push(uses, persons, at + i, used, held);
-        i = i + 1;
-    }
-    at + n
-}
-
-fn add_attachments(
-    uses: &mut [u64; 176],
-    persons: &mut [u64; 176],
-    at: usize,
-    attachments: Attachments,
-    nodes: &[u64; 256],
-) -> usize
-    requires { (at ≤ 144) × All AnchorFits (attachments_of attachments) }
-    ensures { Added (lists at uses.old persons.old) (lists result uses.new persons.new) (map (attachment_used (used_at nodes.now)) (attachments_of attachments)) (map with_anchor_of (attachments_of attachments)) × (result ≤ at + 32) }
-{
-    let n = upto(attachments.count, 32);
-    let mut i: usize = 0;
-    while i < n {
-        let x = attachments.items[i];
-        let k = wide(x.condition);
-        let used = nodes[k];
-        let held = with_anchor(x);
-        push(uses, persons, at + i, used, held);
-        i = i + 1;
-    }
-    at + n
-}
-
-fn add_bars(
-    uses: &mut [u64; 176],
-    persons: &mut [u64; 176],
-    at: usize,
-    bars: Bars,
-    nodes: &[u64; 256],
-) -> usize
-    requires { at ≤ 144 }
-    ensures { Added (lists at uses.old persons.old) (lists result uses.new persons.new) (map (bar_used (used_at nodes.now)) (bars_of bars)) (map held_by_bar (bars_of bars)) × (result ≤ at + 32) }
-{
-    let n = upto(bars.count, 32);
-    let mut i: usize = 0;
-    while i < n {
-        let x = bars.items[i];
-        let k = wide(x.condition);
-        let used = nodes[k];
-        let held = x.members;
-        push(uses, persons, at + i, used, held);
-        i = i + 1;
-    }
-    at + n
-}
-
-fn add_statuses(
-    uses: &mut [u64; 176],
-    persons: &mut [u64; 176],
-    at: usize,
-    statuses: Statuses,
-    nodes: &[u64; 256],
-) -> usize
-    requires { (at ≤ 144) × All PersonFits (statuses_of statuses) }
-    ensures { Added (lists at uses.old persons.old) (lists result uses.new persons.new) (map (status_used (used_at nodes.now)) (statuses_of statuses)) (map held_by_status (statuses_of statuses)) × (result ≤ at + 32) }
-{
-    let n = upto(statuses.count, 32);
-    let mut i: usize = 0;
-    while i < n {
-        let x = statuses.items[i];
-        let k = wide(x.condition);
-        let used = nodes[k];
-        let held = person_mask(x.person);
-        push(uses, persons, at + i, used, held);
-        i = i + 1;
-    }
-    at + n
+    at + records.len()
 }
 
 // The rules that a closing goes by: edges, cuts, attachments with anchor, bars.
@@ -176,17 +77,18 @@ pub fn joining(
     requires { Sound (plan_of plan) }
     ensures { Joining (plan_of plan) (used_at nodes.now) (lists result uses.new persons.new) }
 {
-    let edges = plan.edges;
-    let cuts = plan.cuts;
-    let attachments = plan.attachments;
-    let bars = plan.bars;
-    let first = add_edges(uses, persons, 0, edges, nodes);
-    let second = add_cuts(uses, persons, first, cuts, nodes);
-    let third = add_attachments(uses, persons, second, attachments, nodes);
-    let n = add_bars(uses, persons, third, bars, nodes);
-    whole_176_words(*uses);
-    whole_176_words(*persons);
-    n
+    let edges = &plan.edges.items[..plan.edges.count.min(64)];
+    let cuts = &plan.cuts.items[..plan.cuts.count.min(16)];
+    let attachments = &plan.attachments.items[..plan.attachments.count.min(32)];
+    let bars = &plan.bars.items[..plan.bars.count.min(32)];
+    let of_edge = |e: Edge| (edge_use(e, nodes), ends(e));
+    let of_cut = |c: Cut| (use_at(nodes, c.condition), c.members);
+    let of_attachment = |a: Attachment| (use_at(nodes, a.condition), with_anchor(a));
+    let of_bar = |b: Bar| (use_at(nodes, b.condition), b.members);
+    let n = add(uses, persons, 0, edges, of_edge);
+    let n = add(uses, persons, n, cuts, of_cut);
+    let n = add(uses, persons, n, attachments, of_attachment);
+    add(uses, persons, n, bars, of_bar)
 }
 
 // All rules: statuses come last.
@@ -200,9 +102,7 @@ pub fn all_rules(
     requires { Sound (plan_of plan) × Joining (plan_of plan) (used_at nodes.now) (lists joined uses.old persons.old) }
     ensures { Listed (plan_of plan) (used_at nodes.now) (lists result uses.new persons.new) }
 {
-    let statuses = plan.statuses;
-    let n = add_statuses(uses, persons, joined, statuses, nodes);
-    whole_176_words(*uses);
-    whole_176_words(*persons);
-    n
+    let statuses = &plan.statuses.items[..plan.statuses.count.min(32)];
+    let of_status = |s: Status| (use_at(nodes, s.condition), person_mask(s.person));
+    add(uses, persons, joined, statuses, of_status)
 }

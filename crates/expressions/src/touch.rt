@@ -8,7 +8,6 @@ ghost use Rattle.expressions.specs.code.Listed.{used_at, users_in, touched_by, t
 use crate::uses::used_by;
 use records::case::Constraints;
 use records::plan::{Fact, Facts, Numbers};
-use sets::numbers::{upto, wide};
 use sets::persons::person_mask;
 use sets::{contains, union};
 
@@ -17,27 +16,18 @@ pub fn constraint_uses(constraints: Constraints, nodes: &[u64; 256]) -> u64
     ensures { result ≡ union_of (used_at nodes.now) (take constraints.count constraints.items) }
 {
     let items = constraints.items;
-    let n = upto(constraints.count, 16);
-    used_by(
-        Numbers {
-            count: n as u8,
-            items: items,
-        },
-        nodes,
-    )
+    let used = Numbers {
+        count: constraints.count.min(16) as u8,
+        items,
+    };
+    used_by(used, nodes)
 }
 
 // Only facts that a condition, defeater or constraint uses are bound.
 pub fn bound_facts(uses: &[u64], constraints: u64) -> u64
     ensures { result ≡ union constraints (union_of (λ u. u) uses.now) }
 {
-    let mut m = constraints;
-    let mut i: usize = 0;
-    while i < uses.len() {
-        m = union(m, uses[i]);
-        i = i + 1;
-    }
-    m
+    uses.iter().fold(constraints, |m, &u| union(m, u))
 }
 
 // All persons of rules that use the fact.
@@ -45,15 +35,10 @@ fn users(uses: &[u64], persons: &[u64], f: u8) -> u64
     requires { length uses.now ≡ length persons.now }
     ensures { result ≡ users_in f uses.now persons.now }
 {
-    let mut m: u64 = 0;
-    let mut i: usize = 0;
-    while i < uses.len() {
-        if contains(uses[i], f) {
-            m = union(m, persons[i]);
-        }
-        i = i + 1;
-    }
-    m
+    uses.iter().zip(persons).fold(
+        0,
+        |m, (&u, &p)| if contains(u, f) { union(m, p) } else { m },
+    )
 }
 
 // The persons that a fact names.
@@ -61,14 +46,10 @@ fn named_persons(fact: Fact) -> u64
     requires { TupleFits (fact_of fact) }
     ensures { result ≡ set_of (fact_of fact).tuple }
 {
-    let n = upto(wide(fact.count), 4);
-    let mut m: u64 = 0;
-    let mut i: usize = 0;
-    while i < n {
-        m = union(m, person_mask(fact.tuple[i]));
-        i = i + 1;
-    }
-    m
+    fact.tuple[..usize::from(fact.count).min(4)]
+        .iter()
+        .map(|&p| person_mask(p))
+        .fold(0, union)
 }
 
 pub fn touched(
@@ -82,11 +63,11 @@ pub fn touched(
     requires { TupleFits (fact_of fact) × (length uses.now ≡ length persons.now) }
     ensures { result ≡ touched_by uses.now persons.now constraints roster f (fact_of fact) }
 {
-    let mut all: u64 = 0;
-    if contains(constraints, f) {
-        all = roster;
-    }
-    union(named_persons(fact), union(all, users(uses, persons, f)))
+    let by_constraints = if contains(constraints, f) { roster } else { 0 };
+    union(
+        named_persons(fact),
+        union(by_constraints, users(uses, persons, f)),
+    )
 }
 
 // Whom each fact touches; nobody for a fact that is not bound.
@@ -101,18 +82,14 @@ pub fn touches(
     requires { All TupleFits (facts_of facts) × (length uses.now ≡ length persons.now) }
     ensures { Holds 0 result (touches_by uses.now persons.now constraints roster bound (facts_of facts)) }
 {
-    let n = upto(facts.count, 64);
     let mut out = [0u64; 64];
-    let mut i: usize = 0;
-    while i < n {
-        let fact = facts.items[i];
+    for i in 0..facts.count.min(64) {
         let f = i as u8;
-        let mut t: u64 = 0;
-        if contains(bound, f) {
-            t = touched(fact, f, uses, persons, constraints, roster);
-        }
-        out[i] = t;
-        i = i + 1;
+        out[i] = if contains(bound, f) {
+            touched(facts.items[i], f, uses, persons, constraints, roster)
+        } else {
+            0
+        };
     }
     out
 }

@@ -11,7 +11,6 @@ ghost use Rattle.listing.specs.Listing.{longest};
 use billing::fields::{Fields, fields_at};
 use page::number::put_number;
 use page::{put, put_all};
-use sets::numbers::wide;
 use sets::{low, others};
 
 // A person, behind a comma if another stands before.
@@ -47,7 +46,7 @@ pub fn put_persons(out: &mut [u8], at: usize, block: u64) -> usize
 fn put_cell(out: &mut [u8], at: usize, n: u8) -> usize
     ensures { record { count = result; out = out.new } ≡ puts (record { count = at; out = out.old }) (cell n) }
 {
-    let next = put_number(out, at, wide(n));
+    let next = put_number(out, at, usize::from(n));
     put(out, next, b' ')
 }
 
@@ -67,11 +66,9 @@ pub fn put_rows(out: &mut [u8], at: usize, lines: &[u8], n: usize) -> usize
     ensures { record { count = result; out = out.new } ≡ puts (record { count = at; out = out.old }) (rows (lines_from lines.now 0 n)) }
 {
     let mut next = at;
-    let mut k: usize = 0;
-    while k < n {
+    for k in 0..n {
         let line = fields_at(lines, k);
         next = put_row(out, next, line);
-        k += 1;
     }
     next
 }

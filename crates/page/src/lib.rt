@@ -23,10 +23,8 @@ pub fn put_all(out: &mut [u8], at: usize, text: &[u8]) -> usize
     ensures { record { count = result; out = out.new } ≡ puts (record { count = at; out = out.old }) text.now }
 {
     let mut next = at;
-    let mut i: usize = 0;
-    while i < text.len() {
-        next = put(out, next, text[i]);
-        i += 1;
+    for &byte in text {
+        next = put(out, next, byte);
     }
     next
 }

@@ -7,7 +7,6 @@ ghost use Rattle.probes.specs.Binds.{codes_of};
 
 use crate::bind::bind;
 use expressions::slots::{Slots, candidates};
-use sets::numbers::{upto, wide};
 
 #[derive(Drop)]
 pub struct Variables {
@@ -29,7 +28,7 @@ fn add(mut known: Variables, item: u16) -> Variables
 fn varies(codes: [u8; 64], item: u8) -> bool
     ensures { result ≡ varies_in (map bound_of codes) (slot_of item) }
 {
-    let at = wide(item);
+    let at = usize::from(item);
     if at < 64 { codes[at] >= 3 } else { true }
 }
 
@@ -37,7 +36,7 @@ fn varies(codes: [u8; 64], item: u8) -> bool
 fn coded(codes: [u8; 64], item: u8) -> u16
     ensures { result ≡ variable_code (map bound_of codes) (slot_of item) }
 {
-    let at = wide(item);
+    let at = usize::from(item);
     let choice = if at < 64 { candidates(codes[at]) } else { 3 };
     item as u16 + 256 * choice as u16
 }
@@ -50,14 +49,12 @@ fn among(order: Slots, codes: [u8; 64]) -> Variables
         count: 0,
         items: [0; 80],
     };
-    let n = upto(order.count, 80);
-    let mut i: usize = 0;
-    while i < n {
+    let n = order.count.min(80);
+    for i in 0..n {
         let item = order.items[i];
         if varies(codes, item) {
             out = add(out, coded(codes, item));
         }
-        i = i + 1;
     }
     out
 }

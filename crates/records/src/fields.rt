@@ -10,7 +10,6 @@ ghost use Rattle.records.specs.paper.Plan.{election_from};
 ghost use Rattle.records.specs.code.Decoded.{no_election};
 
 use crate::plan::Election;
-use sets::numbers::{to_u64, wide};
 
 // the highest person, citation and evidence that a field holds; the lowest is 0
 pub const PERSON: u8 = 63;
@@ -52,12 +51,6 @@ pub enum Elected {
     Bad,
 }
 
-pub fn to_u16(x: u8) -> u16
-    ensures { (result ≡ x) × (result < 256) }
-{
-    x as u16
-}
-
 // a byte from `low` to `top`
 pub fn byte_at(s: &[u8], at: usize, low: u8, top: u8) -> Field
     ensures { field_read result ≡ byte_at s.now at (record { low = low; top = top }) }
@@ -88,10 +81,10 @@ fn word_at(s: &[u8], at: usize) -> u64
     requires { at + 4 ≤ length s.now }
     ensures { (result ≡ little (bytes_from s.now at 4)) × (result < 4294967296) × (bytes_at s.now at (repeat 4 (up_to 255 ∷ [])) ≡ got (bytes_from s.now at 4) (at + 4)) }
 {
-    let a = to_u64(s[at]);
-    let b = to_u64(s[at + 1]);
-    let c = to_u64(s[at + 2]);
-    let d = to_u64(s[at + 3]);
+    let a = u64::from(s[at]);
+    let b = u64::from(s[at + 1]);
+    let c = u64::from(s[at + 2]);
+    let d = u64::from(s[at + 3]);
     a + b * 256 + c * 65536 + d * 16777216
 }
 
@@ -125,7 +118,7 @@ pub fn short_at(s: &[u8], at: usize, present: bool) -> Short
     let Field::Got(high, q) = byte_at(s, p, 0, 255) else {
         return Short::Bad;
     };
-    let value = to_u16(low) + to_u16(high) * 256;
+    let value = u16::from(low) + u16::from(high) * 256;
     if value <= 4096 {
         return Short::Got(value, q);
     }
@@ -178,13 +171,11 @@ fn entries_stand(s: &[u8], at: usize, n: usize, top: u8) -> bool
     ensures { result ≡ is_got (bytes_at s.now at (repeat n (up_to top ∷ []))) }
 {
     let mut p = at;
-    let mut i: usize = 0;
-    while i < n {
+    for i in 0..n {
         let Field::Got(value, next) = byte_at(s, p, 0, top) else {
             return false;
         };
         p = next;
-        i = i + 1;
     }
     true
 }
@@ -194,8 +185,7 @@ fn pairs_stand(s: &[u8], at: usize, n: usize, top: u8, low: u8, high: u8) -> boo
     ensures { result ≡ is_got (bytes_at s.now at (repeat n (up_to top ∷ record { low = low; top = high } ∷ []))) }
 {
     let mut p = at;
-    let mut i: usize = 0;
-    while i < n {
+    for i in 0..n {
         let Field::Got(one, q) = byte_at(s, p, 0, top) else {
             return false;
         };
@@ -203,7 +193,6 @@ fn pairs_stand(s: &[u8], at: usize, n: usize, top: u8, low: u8, high: u8) -> boo
             return false;
         };
         p = r;
-        i = i + 1;
     }
     true
 }
@@ -218,7 +207,7 @@ pub fn list_at(s: &[u8], at: usize, present: bool, limit: u8, top: u8) -> Listed
     let Field::Got(count, first) = byte_at(s, at, 0, limit) else {
         return Listed::Bad;
     };
-    let n = wide(count);
+    let n = usize::from(count);
     if entries_stand(s, first, n, top) {
         return Listed::Got(first, count, first + n);
     }
@@ -235,7 +224,7 @@ pub fn pairs_at(s: &[u8], at: usize, present: bool, limit: u8, top: u8, low: u8,
     let Field::Got(count, first) = byte_at(s, at, 0, limit) else {
         return Listed::Bad;
     };
-    let n = wide(count);
+    let n = usize::from(count);
     if pairs_stand(s, first, n, top, low, high) {
         return Listed::Got(first, count, first + n * 2);
     }

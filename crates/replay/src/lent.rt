@@ -4,10 +4,8 @@
 pub const DIRT: u8 = 170;
 
 pub fn soil(out: &mut [u8]) {
-    let mut i: usize = 0;
-    while i < out.len() {
+    for i in 0..out.len() {
         out[i] = DIRT;
-        i = i + 1;
     }
 }
 
@@ -16,8 +14,7 @@ pub fn holds(out: &[u8], expected: &[u8], past: u8) -> bool {
     if expected.len() > out.len() {
         return false;
     }
-    let mut i: usize = 0;
-    while i < out.len() {
+    for i in 0..out.len() {
         let mut byte = past;
         if i < expected.len() {
             byte = expected[i];
@@ -25,7 +22,6 @@ pub fn holds(out: &[u8], expected: &[u8], past: u8) -> bool {
         if out[i] != byte {
             return false;
         }
-        i = i + 1;
     }
     true
 }

@@ -63,10 +63,8 @@ fn feed(run: Run, b: u8, store: &mut [u8], lines: &mut [u8], events: &mut [u8]) 
 
 fn feed_all(run: Run, chunk: &[u8], store: &mut [u8], lines: &mut [u8], events: &mut [u8]) -> Run {
     let mut now = run;
-    let mut i = 0;
-    while i < chunk.len() {
+    for i in 0..chunk.len() {
         now = feed(now, chunk[i], store, lines, events);
-        i += 1;
     }
     now
 }

@@ -33,10 +33,8 @@ pub fn amounts_of(bytes: &[u8]) -> [u32; 256]
     ensures { length result ≡ 256 }
 {
     let mut amounts = [0u32; 256];
-    let mut i: usize = 0;
-    while i < 256 {
+    for i in 0..256 {
         amounts[i] = word_at(bytes, 4 * i);
-        i += 1;
     }
     amounts
 }
@@ -46,11 +44,9 @@ fn put_number(out: &mut [u8], at: usize, number: u64)
     requires { at + 8 ≤ length out.old }
 {
     let mut left = number;
-    let mut i: usize = 0;
-    while i < 8 {
+    for i in 0..8 {
         out[at + i] = (left % 256) as u8;
         left = left / 256;
-        i += 1;
     }
 }
 
@@ -74,10 +70,8 @@ pub fn page_of(pools: Pools) -> [u8; 1088] {
     let cents = pools.cents;
     let marks = pools.marks;
     let mut page = [0u8; 1088];
-    let mut i: usize = 0;
-    while i < 64 {
+    for i in 0..64 {
         put_unit(&mut page, 17 * i, blocks[i], cents[i], marks[i]);
-        i += 1;
     }
     page
 }

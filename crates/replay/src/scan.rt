@@ -2,7 +2,6 @@
 // after it and the four from the fourteenth on are bytes, as lower-case hex or "-", the rest are numbers in base ten. All bytes are kept in one store,
 // one field's after another's.
 use crate::vector::Vector;
-use sets::numbers::to_u64;
 
 #[derive(Clone, Copy)]
 pub struct Scan {
@@ -82,7 +81,7 @@ impl Scan {
         if word >= 281474976710656 {
             return self.fail();
         }
-        self.number = word * 256 + to_u64(b);
+        self.number = word * 256 + u64::from(b);
         self.grown()
     }
 
@@ -90,7 +89,7 @@ impl Scan {
         if b < b'0' || b > b'9' {
             return self.fail();
         }
-        let d = to_u64(b - b'0');
+        let d = u64::from(b - b'0');
         let n = self.number;
         if n > (18446744073709551615 - d) / 10 {
             return self.fail();

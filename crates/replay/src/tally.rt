@@ -59,10 +59,8 @@ fn print_row(rt: &HostRuntime, list: &str, line: u64) -> io::Result<()> {
 }
 
 fn print_rows(rt: &HostRuntime, list: &str, lines: [u64; 16]) -> io::Result<()> {
-    let mut i: usize = 0;
-    while i < 16 {
+    for i in 0..16 {
         print_row(rt, list, lines[i])?;
-        i += 1;
     }
     Ok(())
 }

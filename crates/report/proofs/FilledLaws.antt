@@ -79,3 +79,5 @@ module _ (w : Wanted) (kind roster : ℕ) (before : List ℕ) where
         (k ∙ sym (length-map (members roster) (bare_line kind) ∙ members-length roster)) refl (lines-filled (bare_line kind) roster before after z h) (no-events room)
         ∙ by_wanted true e room;
   }
+
+pub ruleset bare = (bare_refused, bare_told)

@@ -6,6 +6,7 @@ use Prim.Native.Nat.{ℕ, ◌+◌, ◌*◌, ◌<◌, ◌≤◌, min}
 use native.Mathlib.Omega.{arith}
 use lib.Dec.{eqb, ltb}
 use lib.ListN.{length, get_or, take, drop, drop_of_length-le}
+use Rattle.std.specs.List.{fold}
 use Rattle.sets.specs.paper.Sets.{union, subset, size, below, union_below, union_of}
 use Rattle.records.specs.paper.Plan.{Plan}
 use Rattle.records.specs.paper.Case.{CaseHeading}
@@ -14,26 +15,27 @@ use Rattle.expressions.specs.code.Listed.{held_by_status}
 use Rattle.records.proofs.UsedLaws.{rest-next}
 use Rattle.expressions.proofs.ListLaws.{made-length, made_at}
 use Rattle.expressions.proofs.RuleLaws.{below-list}
-use Rattle.sets.proofs.UnionLaws.{union_assoc, union_append}
+use Rattle.sets.proofs.UnionLaws.{union_assoc, union_append, union-none, none-union}
 use Rattle.worlds.proofs.DiscretionLaws.{union-below}
 use Rattle.report.specs.paper.Line.{line_length}
 use Rattle.report.specs.code.Opening.{itself}
 use Rattle.report.specs.paper.Operations.{relation_of, mismatched, heading_fault}
 
--- ---- what is left of a list made from an array's entries in use
+-- ---- taken in one after another
 
-module _ {A B : Type 0} (f : A → B) (xs : List A) (count most n : ℕ) (long : length xs ≡ most) (some : n ≡ min count most) where
-  pub made-rest : (i : ℕ) (d : A) → i < n → drop i (map f (take count xs)) ≡ f (get_or xs i d) ∷ drop (i + 1) (map f (take count xs))
-  made-rest i d h =
-      let l = made-length f xs count most n long some in
-      let all = map f (take count xs) in
-      rest-next all i (f d) (omega arith) ∙ ap (λ (x : B). x ∷ drop (i + 1) all) (made_at f xs count most n long some i d (f d) h)
+folded-onto : {A : Type 0} (f : A → ℕ) (m : ℕ) (xs : List A) → fold (λ a x. union a (f x)) m xs ≡ union m (union_of f xs)
+unfolding union_of
+folded-onto f m [] = sym (union-none m)
+folded-onto f m (x ∷ xs) = folded-onto f (union m (f x)) xs ∙ union_assoc m (f x) (union_of f xs)
 
-  pub made_end : (i : ℕ) → n ≤ i → drop i (map f (take count xs)) ≡ []
-  made_end i h =
-      let l = made-length f xs count most n long some in
-      let k : length (map f (take count xs)) ≤ i = omega arith in
-      drop_of_length-le (map f (take count xs)) k
+pub folded-union : {A : Type 0} (f : A → ℕ) (xs : List A) → fold (λ a x. union a (f x)) 0 xs ≡ union_of f xs
+folded-union f xs = folded-onto f 0 xs ∙ none-union (union_of f xs)
+
+-- over entries that are made from others
+pub union-map : {A B : Type 0} (f : B → ℕ) (g : A → B) (xs : List A) → union_of f (map g xs) ≡ union_of (λ x. f (g x)) xs
+unfolding union_of
+union-map f g [] = refl
+union-map f g (x ∷ xs) = ap (union (f (g x))) (union-map f g xs)
 
 -- ---- the persons of all rules
 
@@ -41,15 +43,10 @@ module _ {A B : Type 0} (f : A → B) (xs : List A) (count most n : ℕ) (long :
 union_then : (a b : List ℕ) (e : ℕ) → union (union_of itself (a ++ b)) e ≡ union (union_of itself a) (union (union_of itself b) e)
 union_then a b e = ap (λ (x : ℕ). union x e) (union_append itself a b) ∙ union_assoc (union_of itself a) (union_of itself b) e
 
-map-union : {A : Type 0} (g : A → ℕ) (xs : List A) → union_of itself (map g xs) ≡ union_of g xs
-unfolding union_of
-map-union g [] = refl
-map-union g (x ∷ xs) = ap (union (g x)) (map-union g xs)
-
 status-union : (P : Plan) → union_of held_by_status P.statuses ≡ union_below (status_count P) (λ i. held_by_status (status P i))
 unfolding status
 status-union P =
-    sym (map-union held_by_status P.statuses) ∙ ap (union_of itself) (sym (below-list held_by_status _ P.statuses))
+    sym (union-map itself held_by_status P.statuses) ∙ ap (union_of itself) (sym (below-list held_by_status _ P.statuses))
     ∙ union-below itself (status_count P) (λ i. held_by_status (status P i))
 
 pub persons_are : (P : Plan) → union (union_of itself (rule_sets P)) (union_of held_by_status P.statuses) ≡ rule_persons P

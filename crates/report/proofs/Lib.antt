@@ -1,3 +1,4 @@
+pub mod Passing
 pub mod LinesAt
 pub mod Numbered
 pub mod OpenedLaws
@@ -13,6 +14,7 @@ pub mod FoldLaws
 pub mod WriteLaws
 pub mod NineLaws
 pub mod SearchLaws
+pub mod PieceLaws
 pub mod EventLaws
 pub mod NearLeaves
 pub mod KeptSame

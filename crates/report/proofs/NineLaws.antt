@@ -6,9 +6,9 @@ use mathlib.Core.Logic.{◌⊎◌, inl, inr}
 use Prim.Native.Nat.{ℕ, zero, suc, ◌+◌, ◌-◌, ◌*◌, ◌≤◌, ◌<◌}
 use native.Mathlib.Omega.{arith}
 use native.Mathlib.Numerals.{add-one}
-use lib.ListN.{length, get_or, take, drop, replicate, length-append, length-drop, take-append-drop, drop_of_length-le}
+use lib.ListN.{length, get_or, take, drop, replicate, length-append, length-take, length-drop, take-append-drop, drop_of_length-le}
 use lib.Seq.{drop-cons, take_at, drop_at, take_all, drop-drop, drop-append-add}
-use lib.Dec.{eqb, ltb}
+use Rattle.std.proofs.Common.{Result, Ok, Err, is_err}
 use borrow.Author.Tests.{eqb-true, eq-eqb, lt-ltb, le-ltb}
 use borrow.Rule.Slice.PartMut.{put_mid}
 use Rattle.sets.specs.paper.Sets.{lex_less, any_of, members, All}
@@ -19,69 +19,11 @@ use Rattle.worlds.specs.code.Over.{entry}
 use Rattle.report.specs.paper.EventList.{event_length, insert, rising}
 use Rattle.report.specs.code.Happened.{Rises}
 use Rattle.report.specs.code.EventBytes.{chunks}
-use Rattle.report.specs.code.Nine.{order, stands, Inserted, Nines, prepended, PartListed, PartsListed}
+use Rattle.report.specs.code.Nine.{PlaceOf, Inserted, Nines, prepended, PartListed, PartsListed}
 use Rattle.report.specs.declared.nine.Listing.{Listing}
+use Rattle.report.proofs.EventLaws.{event-length}
 use Rattle.report.proofs.AmongLaws.{Among, all_each, each_all, of_any}
 use Rattle.report.proofs.RisingSet.{less_head, less_tail, less-self, less_thru, rising-rises, of_rising, rising-set}
-
--- ---- bytes one by one
-
--- n bytes from j on
-abbrev pub tab : List ℕ → ℕ → ℕ → List ℕ
-tab s j zero = []
-tab s j (suc n) = get_or s j 0 ∷ tab s (suc j) n
-
-pub tab_take : (s : List ℕ) (j n : ℕ) → j + n ≤ length s → tab s j n ≡ take n (drop j s)
-tab_take s j zero h = refl
-tab_take s j (suc n) h =
-    let k : j < length s = omega arith in
-    rw (drop-cons s j 0 k) (ap (λ (l : List ℕ). get_or s j 0 ∷ l) (tab_take s (suc j) n (omega arith)))
-
--- one byte of a comparison
-pub order_step : (x y : List ℕ) (i : ℕ) → i < length x → i < length y
-    → order (drop i x) (drop i y) ≡ cond (ltb (get_or x i 0) (get_or y i 0)) 0 (cond (ltb (get_or y i 0) (get_or x i 0)) 2 (order (drop (i + 1) x) (drop (i + 1) y)))
-unfolding order
-order_step x y i hx hy = rw (add-one, drop-cons x i 0 hx, drop-cons y i 0 hy)
-
--- ---- what a comparison says
-
-pub data Ordered (f e : List ℕ) (r : ℕ) : Type 0 where
-  less : r ≡ 0 → lex_less f e ≡ true → Ordered f e r
-  same : r ≡ 1 → f ≡ e → Ordered f e r
-  more : r ≡ 2 → lex_less e f ≡ true → Ordered f e r
-
-pub ordered : (f e : List ℕ) → length f ≡ length e → Ordered f e (order f e)
-unfolding order
-ordered [] [] h = same refl refl
-ordered [] (y ∷ ys) h = absurd (omega arith)
-ordered (x ∷ xs) [] h = absurd (omega arith)
-ordered (x ∷ xs) (y ∷ ys) h = go (lt_or_le x y) (lt_or_le y x) (ordered xs ys (omega arith))
-  where
-    next : order (x ∷ xs) (y ∷ ys) ≡ order xs ys → x ≡ y → Ordered xs ys (order xs ys) → Ordered (x ∷ xs) (y ∷ ys) (order (x ∷ xs) (y ∷ ys))
-    next z e (less r k) = less (z ∙ r) (less_tail x y xs ys e k)
-    next z e (same r k) = same (z ∙ r) (ap₂ ◌∷◌ e k)
-    next z e (more r k) = more (z ∙ r) (less_tail y x ys xs (sym e) k)
-
-    go : (x < y) ⊎ (y ≤ x) → (y < x) ⊎ (x ≤ y) → Ordered xs ys (order xs ys) → Ordered (x ∷ xs) (y ∷ ys) (order (x ∷ xs) (y ∷ ys))
-    go (inl l) k o = less (rw (lt-ltb x y l)) (less_head x y xs ys l)
-    go (inr l) (inl k) o = more (rw (le-ltb x y l, lt-ltb y x k)) (less_head y x ys xs k)
-    go (inr l) (inr k) o = next (rw (le-ltb x y l, le-ltb y x k)) (omega arith) o
-
-pub order-less : (f e : List ℕ) → length f ≡ length e → order f e ≡ 0 → lex_less f e ≡ true
-order-less f e h z = go (ordered f e h)
-  where
-    go : Ordered f e (order f e) → lex_less f e ≡ true
-    go (less r k) = k
-    go (same r k) = absurd (omega arith)
-    go (more r k) = absurd (omega arith)
-
-pub order_same : (f e : List ℕ) → length f ≡ length e → order f e ≡ 1 → f ≡ e
-order_same f e h z = go (ordered f e h)
-  where
-    go : Ordered f e (order f e) → f ≡ e
-    go (less r k) = absurd (omega arith)
-    go (same r k) = k
-    go (more r k) = absurd (omega arith)
 
 -- ---- inserting, by the first of the list
 
@@ -89,7 +31,7 @@ pub insert_front : (e x : List ℕ) (xs : List (List ℕ)) → lex_less e x ≡ 
 unfolding insert
 insert_front e x xs h = rw h
 
-not-both : (x e : List ℕ) → lex_less x e ≡ true → lex_less e x ≡ false
+pub not-both : (x e : List ℕ) → lex_less x e ≡ true → lex_less e x ≡ false
 not-both x e h = go (lex_less e x) refl
   where
     go : (b : Bool) → lex_less e x ≡ b → lex_less e x ≡ false
@@ -103,11 +45,6 @@ insert-on e x xs h = rw (not-both x e h, h)
 pub insert-same : (e x : List ℕ) (xs : List (List ℕ)) → x ≡ e → insert e (x ∷ xs) ≡ x ∷ xs
 unfolding insert
 insert-same e x xs h = rw (h, less-self e)
-
--- those that are less stay in front
-pub insert-past : (e : List ℕ) (xs ys : List (List ℕ)) → All (λ f. lex_less f e ≡ true) xs → insert e (xs ++ ys) ≡ xs ++ insert e ys
-insert-past e [] ys h = refl
-insert-past e (x ∷ xs) ys h = insert-on e x (xs ++ ys) h.0 ∙ ap (λ (l : List (List ℕ)). x ∷ l) (insert-past e xs ys h.1)
 
 pub insert_grows : (e : List ℕ) (xs : List (List ℕ)) → length xs ≤ length (insert e xs)
 unfolding insert
@@ -188,38 +125,6 @@ pub rising_grows : (e : List ℕ) (es : List (List ℕ)) → length (rising es) 
 unfolding rising
 rising_grows e es = insert_grows e (rising es)
 
--- one that stands changes nothing, another makes the list longer by one
-pub rising-listed : (e : List ℕ) (es : List (List ℕ)) → length e ≡ event_length → Sized es → stands e (rising es) ≡ true → rising (e ∷ es) ≡ rising es
-rising-listed e es h t z =
-    let r = of_any (λ f. eqb (order f e) 1) (rising es) z in
-    let l = all_each (λ f. length f ≡ event_length) (rising es) (rising_sized es t) r.0 r.1 in
-    let q = order_same r.0 e (l ∙ sym h) (eqb-true _ 1 r.2) in
-    let k = of_rising es e (subst (λ (x : List ℕ). Among x (rising es)) q r.1) in
-    rising-set (record { there = λ d j. either d j k; back = λ d j. inr j })
-  where
-    either : (d : List ℕ) → Among d (e ∷ es) → Among e es → Among d es
-    either d (inl p) k = subst (λ (x : List ℕ). Among x es) (sym p) k
-    either d (inr j) k = j
-
-insert_longer : (e : List ℕ) (xs : List (List ℕ)) → length e ≡ event_length → Sized xs → stands e xs ≡ false → length (insert e xs) ≡ suc (length xs)
-unfolding any_of
-insert_longer e [] h t z = (unfold insert in refl)
-insert_longer e (x ∷ xs) h t z = go (ordered x e (t.0 ∙ sym h)) (insert_longer e xs h t.1 (later (eqb (order x e) 1) z))
-  where
-    later : (b : Bool) → (b || stands e xs) ≡ false → stands e xs ≡ false
-    later true p = clash refl p
-    later false p = p
-
-    go : Ordered x e (order x e) → length (insert e xs) ≡ suc (length xs) → length (insert e (x ∷ xs)) ≡ suc (suc (length xs))
-    go (less r k) ih = ap length (insert-on e x xs k) ∙ ap suc ih
-    go (same r k) ih = clash (ap (λ (b : Bool). b || stands e xs) (eq-eqb (order x e) 1 r)) z
-    go (more r k) ih = ap length (insert_front e x xs k)
-
-pub rising_longer : (e : List ℕ) (es : List (List ℕ)) → length e ≡ event_length → Sized es → stands e (rising es) ≡ false
-    → length (rising (e ∷ es)) ≡ suc (length (rising es))
-unfolding rising
-rising_longer e es h t z = insert_longer e (rising es) h (rising_sized es t) z
-
 -- the events that a buffer holds are its first ones
 nines-chunks : (es : List (List ℕ)) (l : Listing) (s : List ℕ) → Nines es l s → l.full ≡ false → chunks l.count s ≡ rising es
 nines-chunks es l s N p =
@@ -243,20 +148,21 @@ nines-full es l s e h p N = record {
   over = λ q. omega (arith, N.over p, rising_grows e es);
 }
 
-pub nines-kept : (es : List (List ℕ)) (l : Listing) (s e : List ℕ) (b : Bool) → length e ≡ event_length → l.full ≡ false
-    → length s < l.count * event_length + event_length
-    → (Rises (chunks l.count s) → b ≡ stands e (chunks l.count s)) → Nines es l s → Nines (e ∷ es) (record { count = l.count; full = not b }) s
-nines-kept es l s e b h p room z N = go b (z (nines-rises es l s N p) ∙ ap (stands e) (nines-chunks es l s N p))
-  where
-    go : (b : Bool) → b ≡ stands e (rising es) → Nines (e ∷ es) (record { count = l.count; full = not b }) s
-    go true q = record {
+pub nines-kept : (es : List (List ℕ)) (l : Listing) (s e : List ℕ) (r : Result ℕ ℕ) → length e ≡ event_length → l.full ≡ false
+    → length s < l.count * event_length + event_length → PlaceOf l.count e s r → Nines es l s → Nines (e ∷ es) (record { count = l.count; full = is_err r }) s
+unfolding rising
+nines-kept es l s e (Ok i) h p room P N =
+    let c = nines-chunks es l s N p in record {
       each = (h, N.each);
-      fitting = λ r. rw (rising-listed e es h N.each (sym q)) (N.fitting p);
+      fitting = λ r. rw (sym (ap (insert e) c) ∙ P.at (nines-rises es l s N p) ∙ c) (N.fitting p);
       over = λ r. clash r refl;
     }
-    go false q =
-        let n = (N.fitting p).0 in
-        record { each = (h, N.each); fitting = λ r. clash refl r; over = λ r. omega (arith, rising_longer e es h N.each (sym q)) }
+nines-kept es l s e (Err i) h p room P N =
+    let c = nines-chunks es l s N p in
+    let n = (N.fitting p).0 in
+    let m = ap length (sym (ap (insert e) c) ∙ P.at (nines-rises es l s N p)) in
+    let k = P.within in
+    record { each = (h, N.each); fitting = λ r. clash refl r; over = λ r. omega (arith, m, simp (length-append, length-take, length-drop, chunks-length) at m) }
 
 pub nines-more : (es : List (List ℕ)) (l : Listing) (s t e : List ℕ) (r : ℕ) → length e ≡ event_length → l.full ≡ false
     → l.count * event_length + event_length ≤ length s → Inserted l.count e s t r
@@ -277,6 +183,23 @@ nines-more es l s t e r h p room i N =
       fitting = λ q. (count, omega arith, sym (chunks_flat r t) ∙ ap₂ ◌++◌ (ap flat after) (i.behind ∙ rest));
       over = λ q. clash q refl;
     }
+
+-- a component more: what is kept of it, by whether the listing is full, the event fits or stands already
+pub part_full : (part : ℕ) (l : Listing) (s : List ℕ) → l.full ≡ true → l.count * event_length ≤ length s → PartListed part l s s l
+part_full part l s p h = record { at = λ es N. nines-full es l s _ (event-length 9 0 0 0 part) p N; fits = h; long = refl }
+
+pub part_kept : (part : ℕ) (l : Listing) (s e : List ℕ) (r : Result ℕ ℕ) (b : Bool) → e ≡ event 9 0 0 0 part → l.full ≡ false → l.count * event_length ≤ length s
+    → length s < l.count * event_length + event_length → PlaceOf l.count e s r → b ≡ is_err r → PartListed part l s s (record { count = l.count; full = b })
+part_kept part l s e r b q p h room P z =
+    record { at = λ es N. rw z (nines-kept es l s _ r (event-length 9 0 0 0 part) p room (rw q at P) N); fits = h; long = refl }
+
+pub part_more : (part : ℕ) (l : Listing) (s t e : List ℕ) (r : ℕ) → e ≡ event 9 0 0 0 part → l.full ≡ false → l.count * event_length + event_length ≤ length s
+    → Inserted l.count e s t r → PartListed part l s t (record { count = r; full = false })
+part_more part l s t e r q p room i = record {
+  at = λ es N. nines-more es l s t _ r (event-length 9 0 0 0 part) p room (rw q at i) N;
+  fits = let few = i.few in let long = i.long in omega arith;
+  long = i.long;
+}
 
 -- ---- the components at several persons, those at `left` still to come
 

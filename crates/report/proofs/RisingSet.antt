@@ -54,12 +54,12 @@ less_thru (x ∷ xs) (y ∷ ys) (z ∷ zs) p q = go (less-parts x y xs ys p) (le
     go (inr l) (inl k) ih = let e = l.0 in less_head x z xs zs (omega arith)
     go (inr l) (inr k) ih = less_tail x z xs zs (l.0 ∙ k.0) (ih l.1 k.1)
 
-data Order (a b : List ℕ) : Type 0 where
+pub data Order (a b : List ℕ) : Type 0 where
   less : lex_less a b ≡ true → Order a b
   same : a ≡ b → Order a b
   more : lex_less b a ≡ true → Order a b
 
-order : (a b : List ℕ) → Order a b
+pub order : (a b : List ℕ) → Order a b
 order [] [] = same refl
 order [] (y ∷ ys) = less (unfold lex_less in refl)
 order (x ∷ xs) [] = more (unfold lex_less in refl)

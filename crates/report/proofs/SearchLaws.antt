@@ -1,270 +1,181 @@
--- A place found by halving, bytes moved up, and an event put where it belongs or found there.
-use mathlib.Core.Path.{◌≡◌, refl, sym, ap, ap₂, ◌∙◌, subst}
-use mathlib.Core.Bool.{Bool, true, false, ◌&&◌, ◌||◌}
-use mathlib.Core.List.{List, [], ◌∷◌, ◌++◌, append_assoc, append-nil, flat_map}
-use mathlib.Core.Logic.{◌⊎◌, inl, inr}
+-- The place of an event among rising ones, as std's search finds it, and the buffer with one event more put there.
+use mathlib.Core.Path.{◌≡◌, refl, sym, ap, ap₂, ◌∙◌}
+use mathlib.Core.Bool.{true}
+use mathlib.Core.List.{List, [], ◌∷◌, ◌++◌, append_assoc, flat_map}
 use Prim.Native.Nat.{ℕ, zero, suc, ◌+◌, ◌-◌, ◌*◌, ◌≤◌, ◌<◌}
-use native.Mathlib.Nat.{le_of_suc-le-suc, not-suc-le-zero}
+use native.Mathlib.Numerals.{add-one}
 use native.Mathlib.Omega.{arith}
-use lib.ListN.{length, get_or, set, take, drop, length-append, length-drop, length-set}
-use lib.Seq.{drop-cons, length-take-le, take_at, drop_at, take-take, drop-drop, get_or-take, take-set-le, set_split}
-use lib.Dec.{eqb, ltb}
-use borrow.Author.Tests.{eq-eqb, ne_eqb, lt-ltb, le-ltb}
-use Rattle.sets.specs.paper.Sets.{lex_less, any_of, All}
-use Rattle.sets.proofs.SetLaws.{lt_or_le}
-use Rattle.sets.proofs.Local.{clash}
+use lib.ListN.{length, get_or, take, drop, length-append, length-take, length-drop, take-append-drop}
+use lib.Seq.{take_at, drop_at, length-take-le, drop-drop, take-take}
+use borrow.Rule.Slice.PartMut.{put_mid}
+use Rattle.std.proofs.Common.{Result, Ok, Err, Less, Equal, Greater}
+use Rattle.std.proofs.lemmas.Bool.Decides.{nat_tests}
+use Rattle.std.proofs.lemmas.Cmp.{same_from_slice_cmp}
+use Rattle.std.proofs.lemmas.List.{take-append-le}
+use Rattle.std.proofs.lemmas.List.Sorted.{searchable_from_sorted}
+use Rattle.std.specs.Cmp.Lexicographic.{slice_cmp, nat_list_cmp_total}
+use Rattle.std.specs.List.{copy_within}
+use Rattle.std.specs.List.Sorted.{IsBinarySearchResult, IsSearchInRange, IsSortedBy}
+use Rattle.std.specs.Ordering.{nat_cmp, is_lt, ordering_reverse}
+use Rattle.std.specs.Simd.{first_chunks}
+use Rattle.sets.specs.paper.Sets.{lex_less, All}
+use Rattle.sets.proofs.Every.{all_parts}
 use Rattle.sets.proofs.LoopLaws.{all_at, all_append}
-use Rattle.sets.proofs.Every.{all_both}
 use Rattle.records.proofs.UsedLaws.{flat_append}
 use Rattle.report.specs.paper.EventList.{event_length, insert}
 use Rattle.report.specs.code.Happened.{Rises}
 use Rattle.report.specs.code.EventBytes.{chunks}
-use Rattle.report.specs.code.Nine.{order, stands, chunk, PlaceOf, MovedUp, Inserted}
-use Rattle.report.proofs.RisingSet.{less-self, less_thru}
-use Rattle.report.proofs.NineLaws.{Ordered, less, same, more, ordered, order_same, insert_front, insert-same, insert-past}
-use Rattle.report.proofs.NineLaws.{Sized, flat, flat_length, flat_chunks, chunks_flat, chunks-length}
+use Rattle.report.specs.code.Nine.{PlaceOf, Inserted}
+use Rattle.report.proofs.RisingSet.{Order, less, same, more, order}
+use Rattle.report.proofs.NineLaws.{not-both, insert_front, insert-on, insert-same, Sized, flat, flat_length, flat_chunks, chunks_flat, chunks-length}
 
--- ---- events by their places
+-- ---- std's order of lists is the byte order
 
-chunk_next : (i : ℕ) (s : List ℕ) → chunk i (drop event_length s) ≡ chunk (suc i) s
-chunk_next i s =
-    let k : event_length + i * event_length ≡ suc i * event_length = omega arith in
-    ap (take event_length) (drop-drop (i * event_length) event_length s ∙ ap (λ (m : ℕ). drop m s) k)
+less_cmp : (f e : List ℕ) → is_lt (slice_cmp nat_cmp f e) ≡ lex_less f e
+unfolding lex_less
+less_cmp f e = same_from_slice_cmp nat_cmp is_lt lex_less refl (λ _ _. refl) (λ _ _. refl) (λ x y xs ys o h. grind (arith, nat_tests)) f e _ refl
 
-chunk_at : (n : ℕ) (s : List ℕ) (i : ℕ) → i < n → get_or (chunks n s) i [] ≡ chunk i s
-unfolding chunks
-chunk_at zero s i h = absurd (not-suc-le-zero h)
-chunk_at (suc n) s zero h = refl
-chunk_at (suc n) s (suc i) h = chunk_at n (drop event_length s) i (le_of_suc-le-suc h) ∙ chunk_next i s
+flipped : (f e : List ℕ) → slice_cmp nat_cmp f e ≡ ordering_reverse (slice_cmp nat_cmp e f)
+flipped = nat_list_cmp_total.antisymm
 
-pub chunk-length : (n : ℕ) (s : List ℕ) (i : ℕ) → n * event_length ≤ length s → i < n → length (chunk i s) ≡ event_length
-chunk-length n s i l h = length-take-le event_length (drop (i * event_length) s) (simp length-drop (omega arith))
+less_of : (f e : List ℕ) → slice_cmp nat_cmp f e ≡ Less → lex_less f e ≡ true
+less_of f e h = sym (less_cmp f e) ∙ ap is_lt h
 
--- where events rise and the one at a place is less than another, all up to the place are
-pub less_upto : (n m : ℕ) (e s : List ℕ) → m < n → lex_less (chunk m s) e ≡ true → Rises (chunks n s)
-    → All (λ f. lex_less f e ≡ true) (chunks (suc m) s)
-unfolding chunks
-less_upto zero m e s l h r = absurd (not-suc-le-zero l)
-less_upto (suc n) zero e s l h r = (h, tt)
-less_upto (suc n) (suc m) e s l h r =
-    let k = le_of_suc-le-suc l in let rest = drop event_length s in
-    let on = all_at (λ f. lex_less (take event_length s) f ≡ true) (chunks n rest) [] m r.0 (omega (arith, chunks-length n rest)) in (
-      less_thru (take event_length s) (chunk (suc m) s) e (ap (lex_less (take event_length s)) (sym (chunk_at n rest m k ∙ chunk_next m s)) ∙ on) h,
-      less_upto n m e rest k (ap (λ (f : List ℕ). lex_less f e) (chunk_next m s) ∙ h) r.1,
-    )
+more_of : (f e : List ℕ) → slice_cmp nat_cmp f e ≡ Greater → lex_less e f ≡ true
+more_of f e h = less_of e f (flipped e f ∙ ap ordering_reverse h)
 
--- ---- bytes moved up
-
-shorter : (a b : ℕ) (x y : List ℕ) → a ≤ b → take b x ≡ take b y → take a x ≡ take a y
-shorter a b x y h q = sym (take-take a b x h) ∙ ap (take a) q ∙ take-take a b y h
-
-pub moved_none : (end : ℕ) (s : List ℕ) → MovedUp end end s s
-moved_none end s = record { below = refl; above = let z : end - end ≡ 0 = omega arith in rw z refl; long = refl }
-
-pub moved-one : (end i : ℕ) (s₀ s : List ℕ) → 0 < i → i ≤ end → end + event_length ≤ length s₀ → MovedUp i end s₀ s
-    → MovedUp (i - 1) end s₀ (set s ((i - 1) + event_length) (get_or s (i - 1) 0))
-moved-one end i s₀ s p l room m =
-    let j = i - 1 in let v = get_or s j 0 in
-    let next : i + event_length ≡ suc (j + event_length) = omega arith in
-    let long = m.long in
-    let same : v ≡ get_or s₀ j 0 =
-    sym (get_or-take (i + event_length) s j 0 (omega arith)) ∙ ap (λ (x : List ℕ). get_or x j 0) m.below
-    ∙ get_or-take (i + event_length) s₀ j 0 (omega arith) in
-    record {
-      below = take-set-le (j + event_length) s (j + event_length) v (omega arith)
-          ∙ shorter (j + event_length) (i + event_length) s s₀ (omega arith) m.below;
-      above = drop-set (j + event_length) s v (omega arith) ∙ ap₂ ◌∷◌ same (ap (λ (n : ℕ). drop n s) (sym next) ∙ m.above)
-          ∙ ap (λ (xs : List ℕ). xs ++ drop (end + event_length) s₀) (sym (from_one j i end s₀ (omega arith) l (omega arith)));
-      long = length-set s (j + event_length) v ∙ long;
-    }
+same_of : (f e : List ℕ) → slice_cmp nat_cmp f e ≡ Equal → f ≡ e
+same_of f e h = go (order f e)
   where
-    drop-set : (a : ℕ) (x : List ℕ) (v : ℕ) → a < length x → drop a (set x a v) ≡ v ∷ drop (suc a) x
-    drop-set a x v h = ap (drop a) (set_split x a v h) ∙ drop_at (take a x) (v ∷ drop (suc a) x) a (length-take-le a x (omega arith))
+    go : Order f e → f ≡ e
+    go (less l) = absurd (cc (sym (less_cmp f e) ∙ ap is_lt h, l))
+    go (same q) = q
+    go (more l) = absurd (cc (sym (less_cmp e f) ∙ ap is_lt (flipped e f ∙ ap ordering_reverse h), l))
 
-    from_one : (j i end : ℕ) (x : List ℕ) → suc j ≡ i → i ≤ end → j < length x → take (end - j) (drop j x) ≡ get_or x j 0 ∷ take (end - i) (drop i x)
-    from_one j i end x e l h =
-        let n : end - j ≡ suc (end - i) = omega arith in
-        rw (n, drop-cons x j 0 h) (ap (λ (m : ℕ). get_or x j 0 ∷ take (end - i) (drop m x)) e)
+-- ---- a place among rising ones
 
--- ---- the first events of a buffer, and those behind them
+rises-next : (xs : List (List ℕ)) → Rises xs → (k : ℕ) (d : List ℕ) → suc k < length xs → lex_less (get_or xs k d) (get_or xs (suc k) d) ≡ true
+rises-next [] r k d l = absurd (omega arith)
+rises-next (x ∷ xs) r zero d l = all_at (λ f. lex_less x f ≡ true) xs d 0 r.0 (omega arith)
+rises-next (x ∷ xs) r (suc k) d l = rises-next xs r.1 k d (omega arith)
 
-chunks-add : (k m : ℕ) (s : List ℕ) → chunks (k + m) s ≡ chunks k s ++ chunks m (drop (k * event_length) s)
+sorted : (xs : List (List ℕ)) → Rises xs → IsSortedBy (λ a b. is_lt (slice_cmp nat_cmp a b)) xs
+sorted xs r k d z l = less_cmp (get_or xs (k + 1) d) (get_or xs k d) ∙ not-both (get_or xs k d) (get_or xs (k + 1) d) (rw add-one (rises-next xs r k d (omega arith)))
+
+-- one that stands in the list changes nothing
+insert-known : (e : List ℕ) (xs : List (List ℕ)) (i : ℕ) → Rises xs → i < length xs → get_or xs i [] ≡ e → insert e xs ≡ xs
+insert-known e [] i r l q = absurd (omega arith)
+insert-known e (x ∷ xs) zero r l q = insert-same e x xs q
+insert-known e (x ∷ xs) (suc i) r l q =
+    insert-on e x xs (ap (lex_less x) (sym q) ∙ all_at (λ f. lex_less x f ≡ true) xs [] i r.0 (omega arith))
+    ∙ ap (λ (l : List (List ℕ)). x ∷ l) (insert-known e xs i r.1 (omega arith) q)
+
+-- another comes between the lesser ones and the greater ones
+insert-between : (e : List ℕ) (xs : List (List ℕ)) (i : ℕ) → i ≤ length xs → ((k : ℕ) → k < i → lex_less (get_or xs k []) e ≡ true)
+    → ((k : ℕ) → i ≤ k → k < length xs → lex_less e (get_or xs k []) ≡ true) → insert e xs ≡ take i xs ++ (e ∷ drop i xs)
+insert-between e [] zero h below above = (unfold insert in refl)
+insert-between e [] (suc i) h below above = absurd (omega arith)
+insert-between e (x ∷ xs) zero h below above = insert_front e x xs (above 0 (omega arith) (omega arith))
+insert-between e (x ∷ xs) (suc i) h below above =
+    insert-on e x xs (below 0 (omega arith))
+    ∙ ap (λ (l : List (List ℕ)). x ∷ l) (insert-between e xs i (omega arith) (λ k l. below (suc k) (omega arith)) (λ k l m. above (suc k) (omega arith) (omega arith)))
+
+-- WHAT THE SEARCH FINDS
+pub placed : (n : ℕ) (e s : List ℕ) (r : Result ℕ ℕ) → IsSearchInRange r (length (chunks n s)) → IsBinarySearchResult (λ f. slice_cmp nat_cmp f e) (chunks n s) r → PlaceOf n e s r
+placed n e s (Ok i) l q = record {
+  within = let c = chunks-length n s in omega arith;
+  at = λ rise. insert-known e (chunks n s) i rise l (same_of _ _ (q []));
+}
+placed n e s (Err i) l q = record {
+  within = let c = chunks-length n s in omega arith;
+  at = λ rise.
+      let p = q (searchable_from_sorted nat_list_cmp_total (λ f. f) (chunks n s) e (sorted (chunks n s) rise)) in
+      insert-between e (chunks n s) i l (λ k m. less_of _ _ (p.0 k [] (omega arith) m)) (λ k m o. more_of _ _ (p.1 k [] m o));
+}
+
+-- the first of more chunks
+pub chunks_front : (n m : ℕ) (s : List ℕ) → n ≤ m → take n (first_chunks event_length m s) ≡ chunks n s
 unfolding chunks
-chunks-add zero m s = let z : 0 + m ≡ m = omega arith in ap (λ (i : ℕ). chunks i s) z
-chunks-add (suc k) m s =
-    let z : suc k + m ≡ suc (k + m) = omega arith in
-    let j : event_length + k * event_length ≡ suc k * event_length = omega arith in
-    let rest = drop event_length s in
-    ap (λ (i : ℕ). chunks i s) z
-    ∙ ap (λ (l : List (List ℕ)). take event_length s ∷ l)
-    (chunks-add k m rest ∙ ap (λ (t : List ℕ). chunks k rest ++ chunks m t) (drop-drop (k * event_length) event_length s ∙ ap (λ (i : ℕ). drop i s) j))
+chunks_front zero m s h = refl
+chunks_front (suc n) zero s h = absurd (omega arith)
+chunks_front (suc n) (suc m) s h = ap (λ (l : List (List ℕ)). take event_length s ∷ l) (chunks_front n m (drop event_length s) (omega arith))
+
+-- ---- the buffer
 
 chunks_sized : (n : ℕ) (s : List ℕ) → n * event_length ≤ length s → Sized (chunks n s)
 unfolding chunks
 chunks_sized zero s h = tt
 chunks_sized (suc n) s h = (length-take-le event_length s (omega arith), chunks_sized n (drop event_length s) (simp length-drop (omega arith)))
 
-flat_front : (n : ℕ) (s : List ℕ) → n * event_length ≤ length s → flat (chunks n s) ≡ take (n * event_length) s
-flat_front n s h =
-    let l = flat_length (chunks n s) (chunks_sized n s h) in let c = chunks-length n s in
-    sym (take_at (flat (chunks n s)) (drop (n * event_length) s) (n * event_length) (omega arith)) ∙ ap (take (n * event_length)) (chunks_flat n s)
+-- bytes move up by an event's length, and e is put in front of them
+moved : (a b r e : List ℕ) (i n : ℕ) → length a ≡ i → i + length b ≡ n → event_length ≤ length r
+    → put_mid i event_length (copy_within (a ++ (b ++ r)) i n (i + event_length)) e ≡ a ++ (e ++ (b ++ drop event_length r))
+moved a b r e i n p q h =
+    let s = a ++ (b ++ r) in
+    let u = take (i + event_length) s in
+    let v = take (n - i) (drop i s) in
+    let w = drop (i + event_length + (n - i)) s in
+    let long : length u ≡ i + event_length = simp (length-take, length-append) (omega arith) in
+    let front : take i ((u ++ v) ++ w) ≡ a =
+    rw append_assoc (take-append-le i u (v ++ w) (omega arith) ∙ take-take i (i + event_length) s (omega arith) ∙ take_at a (b ++ r) i p) in
+    let back : drop event_length (drop i ((u ++ v) ++ w)) ≡ v ++ w =
+    drop-drop event_length i ((u ++ v) ++ w) ∙ ap (drop (i + event_length)) (append_assoc u v w) ∙ drop_at u (v ++ w) (i + event_length) long in
+    let middle : v ≡ b = ap (take (n - i)) (drop_at a (b ++ r) i p) ∙ take_at b r (n - i) (omega arith) in
+    let last : w ≡ drop event_length r =
+    ap (λ (k : ℕ). drop k s) (let z : i + event_length + (n - i) ≡ n + event_length = omega arith in z) ∙ sym (drop-drop event_length n s)
+    ∙ ap (drop event_length) (ap (drop n) (sym (append_assoc a b r)) ∙ drop_at (a ++ b) r n (rw length-append (omega arith))) in
+    ap₂ (λ (x y : List ℕ). x ++ (e ++ y)) front (back ∙ ap₂ (λ (x y : List ℕ). x ++ y) middle last)
 
-rises-behind : (xs ys : List (List ℕ)) → Rises (xs ++ ys) → Rises ys
-rises-behind [] ys r = r
-rises-behind (x ∷ xs) ys r = rises-behind xs ys r.1
+-- ONE EVENT MORE
+module _ (n : ℕ) (e s : List ℕ) (k : ℕ) (h : length e ≡ event_length) (room : n * event_length + event_length ≤ length s) (p : PlaceOf n e s (Err k)) where
+  abbrev those : List (List ℕ)
+  those = chunks n s
 
--- others in front do not decide whether an event stands
-stands-past : (e : List ℕ) (xs ys : List (List ℕ)) → All (λ f. eqb (order f e) 1 ≡ false) xs → stands e (xs ++ ys) ≡ stands e ys
-unfolding any_of
-stands-past e [] ys h = refl
-stands-past e (x ∷ xs) ys h = ap (λ (b : Bool). b || stands e (xs ++ ys)) h.0 ∙ stands-past e xs ys h.1
+  abbrev all : List (List ℕ)
+  all = take k those ++ (e ∷ drop k those)
 
--- ---- an event and its place
+  abbrev rest : List ℕ
+  rest = drop event_length (drop (n * event_length) s)
 
--- at the place stands the event, or a greater one, or none
-data Met (n : ℕ) (e s : List ℕ) (k : ℕ) (b : Bool) : Type 0 where
-  there : b ≡ true → k < n → order (chunk k s) e ≡ 1 → chunk k s ≡ e → Met n e s k b
-  greater : b ≡ false → k < n → lex_less e (chunk k s) ≡ true → Met n e s k b
-  none : b ≡ false → n ≤ k → Met n e s k b
+  parts : Sized (take k those) × Sized (drop k those)
+  parts = all_parts (λ f. length f ≡ event_length) (take k those) (drop k those) (rw take-append-drop (chunks_sized n s (omega arith)))
 
-module _ (n : ℕ) (e s : List ℕ) (h : length e ≡ event_length) (room : n * event_length ≤ length s) (k : ℕ) (p : PlaceOf n e s k) where
-  abbrev before : List (List ℕ)
-  before = chunks k s
+  sized : Sized all
+  sized = all_append (λ f. length f ≡ event_length) (take k those) (e ∷ drop k those) parts.0 (h, parts.1)
 
-  abbrev behind : List (List ℕ)
-  behind = chunks (n - k) (drop (k * event_length) s)
+  count : length all ≡ n + 1
+  count = let few = p.within in let c = chunks-length n s in simp (length-append, length-take, length-drop) (omega arith)
 
-  abbrev later : List (List ℕ)
-  later = chunks (n - suc k) (drop event_length (drop (k * event_length) s))
-
-  -- the buffer's events with one more at the place
-  abbrev pub placed : List (List ℕ)
-  placed = before ++ (e ∷ behind)
-
-  split : chunks n s ≡ before ++ behind
-  split =
-      let few = p.few in
-      let z : n ≡ k + (n - k) = omega arith in
-      ap (λ (i : ℕ). chunks i s) z ∙ chunks-add k (n - k) s
-
-  behind-first : k < n → behind ≡ chunk k s ∷ later
-  unfolding chunks
-  behind-first l =
-      let z : n - k ≡ suc (n - suc k) = omega arith in
-      ap (λ (i : ℕ). chunks i (drop (k * event_length) s)) z
-
-  behind-none : n ≤ k → behind ≡ []
-  unfolding chunks
-  behind-none l =
-      let z : n - k ≡ 0 = omega arith in
-      ap (λ (i : ℕ). chunks i (drop (k * event_length) s)) z
-
-  before_sized : Sized before
-  before_sized = let few = p.few in chunks_sized k s (omega arith)
-
-  behind-room : (n - k) * event_length ≤ length (drop (k * event_length) s)
-  behind-room = let few = p.few in simp length-drop (omega arith)
-
-  behind_sized : Sized behind
-  behind_sized = chunks_sized (n - k) (drop (k * event_length) s) behind-room
-
-  met : (b : Bool) → b ≡ (ltb k n && eqb (order (chunk k s) e) 1) → Met n e s k b
-  met b q = go (lt_or_le k n)
-    where
-      at : k < n → Ordered (chunk k s) e (order (chunk k s) e) → Met n e s k b
-      at l (less r z) = absurd (p.rest l r)
-      at l (same r z) = there (q ∙ ap₂ ◌&&◌ (lt-ltb k n l) (eq-eqb (order (chunk k s) e) 1 r)) l r z
-      at l (more r z) = greater (q ∙ ap₂ ◌&&◌ (lt-ltb k n l) (ne_eqb (order (chunk k s) e) 1 (λ o. omega arith))) l z
-
-      go : (k < n) ⊎ (n ≤ k) → Met n e s k b
-      go (inl l) = at l (ordered (chunk k s) e (chunk-length n s k room l ∙ sym h))
-      go (inr l) = none (q ∙ ap (λ (x : Bool). x && eqb (order (chunk k s) e) 1) (le-ltb k n l)) l
-
-  insert-behind : Rises (chunks n s) → insert e (chunks n s) ≡ before ++ insert e behind
-  insert-behind rise = ap (insert e) split ∙ insert-past e before behind (p.less rise)
-
-  -- ---- it stands
-
-  pub inserted_known : (b : Bool) → b ≡ (ltb k n && eqb (order (chunk k s) e) 1) → b ≡ true → Inserted n e s s n
-  inserted_known b q t = record {
-    events = λ rise. split ∙ ap (λ (l : List (List ℕ)). before ++ l) (sym (go (met b q))) ∙ sym (insert-behind rise);
-    behind = refl;
-    few = omega arith;
-    long = refl;
-  }
-    where
-      go : Met n e s k b → insert e behind ≡ behind
-      go (there z l o x) = ap (insert e) (behind-first l) ∙ insert-same e (chunk k s) later x ∙ sym (behind-first l)
-      go (greater z l x) = clash t z
-      go (none z l) = clash t z
-
-  -- ---- it does not: those behind the place move up, and it is put there
-
-  pub put_placed : (u : List ℕ) → MovedUp (k * event_length) (n * event_length) s u
-      → take (k * event_length) u ++ (e ++ drop event_length (drop (k * event_length) u)) ≡ flat placed ++ drop (n * event_length + event_length) s
+  bytes : put_mid (k * event_length) event_length (copy_within s (k * event_length) (n * event_length) (k * event_length + event_length)) e ≡ flat all ++ rest
   unfolding flat_map
-  put_placed u m =
-      let few = p.few in
-      let x : n * event_length - k * event_length ≡ (n - k) * event_length = omega arith in
-      let rest = drop (n * event_length + event_length) s in
-      ap₂ (λ (a b : List ℕ). a ++ (e ++ b))
-      (shorter (k * event_length) (k * event_length + event_length) u s (omega arith) m.below ∙ sym (flat_front k s (omega arith)))
-      (drop-drop event_length (k * event_length) u ∙ m.above ∙ ap (λ (l : List ℕ). l ++ rest)
-      (ap (λ (i : ℕ). take i (drop (k * event_length) s)) x ∙ sym (flat_front (n - k) (drop (k * event_length) s) behind-room)))
-      ∙ sym (ap (λ (l : List ℕ). l ++ rest) (flat_append (λ f. f) before (e ∷ behind)) ∙ append_assoc (flat before) (e ++ flat behind) rest
-      ∙ ap (λ (l : List ℕ). flat before ++ l) (append_assoc e (flat behind) rest))
+  bytes =
+      let few = p.within in
+      let c = chunks-length n s in
+      let a = flat (take k those) in
+      let b = flat (drop k those) in
+      let r = drop (n * event_length) s in
+      let split : s ≡ a ++ (b ++ r) =
+      sym (chunks_flat n s) ∙ ap (λ (fs : List (List ℕ)). flat fs ++ r) (sym (take-append-drop k those))
+      ∙ ap (λ (l : List ℕ). l ++ r) (flat_append (λ f. f) (take k those) (drop k those)) ∙ append_assoc a b r in
+      let la : length a ≡ k * event_length = flat_length (take k those) parts.0 ∙ simp length-take (omega arith) in
+      let lb : k * event_length + length b ≡ n * event_length = let z = flat_length (drop k those) parts.1 in omega (arith, simp length-drop at z) in
+      ap (λ (t : List ℕ). put_mid (k * event_length) event_length (copy_within t (k * event_length) (n * event_length) (k * event_length + event_length)) e) split
+      ∙ moved a b r e (k * event_length) (n * event_length) la lb (simp length-drop (omega arith))
+      ∙ sym (ap (λ (l : List ℕ). l ++ drop event_length r) (flat_append (λ f. f) (take k those) (e ∷ drop k those)) ∙ append_assoc a (e ++ b) (drop event_length r)
+      ∙ ap (λ (l : List ℕ). a ++ l) (append_assoc e b (drop event_length r)))
 
-  pub inserted_new : n * event_length + event_length ≤ length s → (b : Bool) → b ≡ (ltb k n && eqb (order (chunk k s) e) 1) → b ≡ false
-      → Inserted n e s (flat placed ++ drop (n * event_length + event_length) s) (n + 1)
-  unfolding insert
-  inserted_new more_Room b q f =
-      let few = p.few in
-      let rest = drop (n * event_length + event_length) s in
-      let sized : Sized placed = all_append (λ g. length g ≡ event_length) before (e ∷ behind) before_sized (h, behind_sized) in
-      let k1 = chunks-length k s in let k2 = chunks-length (n - k) (drop (k * event_length) s) in
-      let count : length placed ≡ n + 1 = simp length-append (omega arith) in
-      let bytes = flat_length placed sized in
-      let z : n * event_length + event_length ≡ (n + 1) * event_length = omega arith in
-      record {
-        events = λ rise. ap (λ (i : ℕ). chunks i (flat placed ++ rest)) (sym count) ∙ flat_chunks placed rest sized
-            ∙ sym (insert-behind rise ∙ ap (λ (l : List (List ℕ)). before ++ l) (go (met b q)));
-        behind = drop_at (flat placed) rest ((n + 1) * event_length) (omega arith) ∙ ap (λ (i : ℕ). drop i s) z;
+  pub inserted_new : (after : List ℕ) → after ≡ put_mid (k * event_length) event_length (copy_within s (k * event_length) (n * event_length) (k * event_length + event_length)) e
+      → Inserted n e s after (n + 1)
+  inserted_new after q =
+      let now : after ≡ flat all ++ rest = q ∙ bytes in
+      let fl : length (flat all) ≡ (n + 1) * event_length = let z = flat_length all sized in let c = count in omega arith in record {
+        events = λ rise. ap (chunks (n + 1)) now ∙ ap (λ (m : ℕ). chunks m (flat all ++ rest)) (sym count) ∙ flat_chunks all rest sized ∙ sym (p.at rise);
+        behind = ap (drop ((n + 1) * event_length)) now ∙ drop_at (flat all) rest ((n + 1) * event_length) fl
+            ∙ drop-drop event_length (n * event_length) s ∙ ap (λ (m : ℕ). drop m s) (let z : n * event_length + event_length ≡ (n + 1) * event_length = omega arith in z);
         few = omega arith;
-        long = simp (length-append, length-drop) (omega arith);
+        long = ap length now ∙ simp (length-append, length-drop) (omega arith);
       }
-    where
-      go : Met n e s k b → insert e behind ≡ e ∷ behind
-      go (there z l o x) = clash z f
-      go (greater z l x) =
-          ap (insert e) (behind-first l) ∙ insert_front e (chunk k s) later x ∙ ap (λ (fs : List (List ℕ)). e ∷ fs) (sym (behind-first l))
-      go (none z l) = ap (insert e) (behind-none l) ∙ ap (λ (fs : List (List ℕ)). e ∷ fs) (sym (behind-none l))
 
-  -- ---- whether it stands
-
-  apart : (f : List ℕ) → length f ≡ event_length → (f ≡ e → ⊥) → eqb (order f e) 1 ≡ false
-  apart f j other = ne_eqb (order f e) 1 (λ z. other (order_same f e (j ∙ sym h) z))
-
-  pub stands-placed : (b : Bool) → b ≡ (ltb k n && eqb (order (chunk k s) e) 1) → Rises (chunks n s) → b ≡ stands e (chunks n s)
-  unfolding any_of
-  stands-placed b q rise =
-      go (met b q) ∙ sym (ap (stands e) split ∙ stands-past e before behind
-      (all_both (λ f. length f ≡ event_length) (λ f. lex_less f e ≡ true) (λ f. eqb (order f e) 1 ≡ false)
-      (λ f j l. apart f j (λ z. clash l (ap (λ (g : List ℕ). lex_less g e) z ∙ less-self e))) before before_sized (p.less rise)))
-    where
-      more_than : (f : List ℕ) → length f ≡ event_length → lex_less e f ≡ true → eqb (order f e) 1 ≡ false
-      more_than f j l = apart f j (λ z. clash l (ap (lex_less e) z ∙ less-self e))
-
-      beyond : k < n → lex_less e (chunk k s) ≡ true → All (λ f. eqb (order f e) 1 ≡ false) (chunk k s ∷ later)
-      beyond l x =
-          let sized : Sized (chunk k s ∷ later) = subst Sized (behind-first l) behind_sized in
-          let rises : Rises (chunk k s ∷ later) = subst Rises (behind-first l) (rises-behind before behind (subst Rises split rise)) in (
-            more_than (chunk k s) sized.0 x,
-            all_both (λ f. length f ≡ event_length) (λ f. lex_less (chunk k s) f ≡ true) (λ f. eqb (order f e) 1 ≡ false)
-                (λ f j y. more_than f j (less_thru e (chunk k s) f x y)) later sized.1 rises.0,
-          )
-
-      go : Met n e s k b → b ≡ stands e behind
-      go (there z l o x) = z ∙ sym (ap (stands e) (behind-first l) ∙ ap (λ (c : Bool). c || stands e later) (eq-eqb (order (chunk k s) e) 1 o))
-      go (greater z l x) =
-          z ∙ sym (ap (stands e) (behind-first l ∙ sym (append-nil (chunk k s ∷ later))) ∙ stands-past e (chunk k s ∷ later) [] (beyond l x))
-      go (none z l) = z ∙ sym (ap (stands e) (behind-none l))
+-- one that stands stays alone
+pub inserted_known : (n : ℕ) (e s : List ℕ) (i : ℕ) → PlaceOf n e s (Ok i) → Inserted n e s s n
+inserted_known n e s i p = record { events = λ rise. sym (p.at rise); behind = refl; few = omega arith; long = refl }

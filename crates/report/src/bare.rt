@@ -10,6 +10,7 @@ use crate::run::Wanted;
 use sets::size;
 
 // A line with nothing but its kind for each person of the roster; to show, there is no world.
+#[tactic(auto, using(crate::proofs::FilledLaws::bare))]
 pub fn without_worlds(lines: &mut [u8], roster: u64, kind: u8, wanted: Wanted) -> Answer
     requires { line_length * ones roster ≤ length lines.old }
     ensures { Worldless wanted kind roster lines.old lines.new result }
@@ -21,9 +22,8 @@ pub fn without_worlds(lines: &mut [u8], roster: u64, kind: u8, wanted: Wanted) -
         };
     }
     write_bare(lines, roster, kind);
-    let people = size(roster) as usize;
     Answer::Answered {
-        lines: people,
+        lines: size(roster) as usize,
         events: 0,
         worlds: 0,
     }

@@ -17,7 +17,6 @@ use expressions::influence::Influence;
 use page::clear::clear;
 use records::case::Case;
 use records::plan::Plan;
-use sets::numbers::upto;
 use sets::size;
 use worlds::tables::Noted;
 
@@ -52,27 +51,22 @@ pub fn finish(
     requires { Ends plan case opens walked noted.now sums.now lines.old events.old }
     ensures { Finishes plan case opens wanted walked noted.now sums.now lines.old lines.new events.old events.new result }
 {
-    let heading = case.heading;
-    let roster = heading.roster;
+    let roster = case.heading.roster;
     if sums[TALLY][BEGUN] == 0 {
         return without_worlds(lines, roster, 6, wanted);
     }
-    let listing = walked.listing;
-    let cuts = plan.cuts;
-    let count = count_events(sums, noted, opens.defaults, upto(cuts.count, 16));
-    let listed = listing.count;
+    let count = count_events(sums, noted, opens.defaults, plan.cuts.count.min(16));
+    let listed = walked.listing.count;
     let total = count + listed;
-    if listing.full || events.len() < EVENT * total {
+    if walked.listing.full || events.len() < EVENT * total {
         clear(events);
         return Answer::Refused {
             number: 13,
             record: 0,
         };
     }
-    let influence = opens.influence;
-    let sets = influence.sets;
-    let all = influence.count;
-    write_open(lines, sums, roster, &sets[..all], opens.facts);
+    let sets = &opens.influence.sets[..opens.influence.count];
+    write_open(lines, sums, roster, sets, opens.facts);
     write_events(
         events,
         plan,
@@ -83,9 +77,8 @@ pub fn finish(
         count,
         listed,
     );
-    let people = size(roster) as usize;
     Answer::Answered {
-        lines: people,
+        lines: size(roster) as usize,
         events: total,
         worlds: walked.worlds,
     }

@@ -2,7 +2,7 @@
 ghost use Rattle.std.specs.Prelude.{◌≡◌, ◌+◌, ◌*◌, ◌≤◌, length};
 ghost use Rattle.records.specs.code.Decoded.{plan_of, case_of};
 ghost use Rattle.report.specs.paper.EventList.{event_length};
-ghost use Rattle.report.specs.code.EventsWritten.{event_count, Shifted, RuleEvents, EventsWritten, AllWritten};
+ghost use Rattle.report.specs.code.EventsWritten.{event_count, RuleEvents, EventsWritten, AllWritten};
 
 use crate::event::EVENT;
 use crate::kinds::{
@@ -13,25 +13,11 @@ use crate::sums::{APPLIED, BARRING, EXCLUDING, FROZEN, MOVED, Sums, TALLY};
 use expressions::evidence::evidence_by_fact;
 use records::case::Case;
 use records::plan::Plan;
-use sets::numbers::upto;
 use sets::size;
 use worlds::tables::{BLOCKINGS, CLASHES, Noted};
 
-// The first n bytes moved up; what stood between is free.
-fn shift_up(events: &mut [u8], n: usize, by: usize)
-    requires { n + by ≤ length events.old }
-    ensures { Shifted n by events.old events.new }
-{
-    let mut i = n;
-    while i > 0 {
-        i = i - 1;
-        let b = events[i];
-        let to = i + by;
-        events[to] = b;
-    }
-}
-
 // How many events there are but for kind 9.
+#[tactic(auto, using(sets::proofs::SetLaws::size_le), unfolding(crate::specs::code::EventsWritten::event_count))]
 pub fn count_events(sums: &Sums, noted: &Noted, defaults: u64, cuts: usize) -> usize
     requires { cuts ≤ 16 }
     ensures { (result ≡ event_count sums.now noted.now defaults cuts) × (result ≤ 4096) }
@@ -52,7 +38,7 @@ fn write_rules(events: &mut [u8], plan: Plan, case: Case, sums: &Sums, noted: &N
     let attachments = plan.attachments;
     let statuses = plan.statuses;
     let evidence = evidence_by_fact(case);
-    let n = upto(cuts.count, 16);
+    let n = cuts.count.min(16);
     let a = write_frozen(events, 0, edges, sums[TALLY][FROZEN]);
     let b = write_applied(events, a, cuts, &evidence, sums[TALLY][APPLIED]);
     let c = write_blocked(events, b, cuts, &evidence, &noted[BLOCKINGS], n);
@@ -80,6 +66,6 @@ pub fn write_events(
     if count == 0 {
         return;
     }
-    shift_up(events, listed * EVENT, count * EVENT);
+    events.copy_within(..listed * EVENT, count * EVENT);
     write_rules(events, plan, case, sums, noted, defaults);
 }

@@ -10,21 +10,14 @@ use crate::line::LINE;
 use expressions::groups::Groups;
 use records::case::CaseHeading;
 use records::plan::Statuses;
-use sets::numbers::upto;
 use sets::persons::person_mask;
-use sets::{size, subset};
+use sets::{size, subset, union};
 
 // All who are in one of these sets.
 fn united(sets: &[u64]) -> u64
     ensures { result ≡ union_of itself sets.now }
 {
-    let mut all: u64 = 0;
-    let mut i: usize = 0;
-    while i < sets.len() {
-        all = all | sets[i];
-        i = i + 1;
-    }
-    all
+    sets.iter().fold(0, |all, &set| union(all, set))
 }
 
 // The persons whom statuses name.
@@ -32,15 +25,10 @@ fn status_persons(statuses: Statuses) -> u64
     requires { All PersonFits (statuses_of statuses) }
     ensures { result ≡ union_of held_by_status (statuses_of statuses) }
 {
-    let n = upto(statuses.count, 32);
-    let mut all: u64 = 0;
-    let mut i: usize = 0;
-    while i < n {
-        let s = statuses.items[i];
-        all = all | person_mask(s.person);
-        i = i + 1;
-    }
-    all
+    statuses.items[..statuses.count.min(32)]
+        .iter()
+        .map(|s| person_mask(s.person))
+        .fold(0, union)
 }
 
 // The persons of all rules, where `groups` are those that a closing goes by.
@@ -48,9 +36,8 @@ pub fn rule_persons(groups: Groups, statuses: Statuses) -> u64
     requires { All PersonFits (statuses_of statuses) }
     ensures { RulePersons groups statuses result }
 {
-    let sets = groups.sets;
-    let n = upto(groups.count, 144);
-    united(&sets[..n]) | status_persons(statuses)
+    let sets = &groups.sets[..groups.count.min(144)];
+    union(united(sets), status_persons(statuses))
 }
 
 // The number of the first of 8, 9 and 12; 0 for none. `relation` and `persons` are the plan's, `room` the length of the lent lines.
@@ -70,7 +57,7 @@ pub fn heading_fault(heading: CaseHeading, relation: u8, persons: u64, room: usi
     if !subset(persons, heading.roster) {
         return 9;
     }
-    if room < LINE * (size(heading.roster) as usize) {
+    if room < LINE * size(heading.roster) as usize {
         return 12;
     }
     0

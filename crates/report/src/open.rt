@@ -32,6 +32,7 @@ pub struct Opened {
 }
 
 // The first of what stops a case: the heading's refusal, a roster that is not complete, refusals 5 and 10, and 11.
+#[tactic(auto, unfolding(crate::specs::code::Open::stop_by))]
 fn stop_of(fault: u8, complete: bool, found: Checked, count: Count) -> Stop
     ensures { result ≡ stop_by fault complete found count }
 {
@@ -45,10 +46,7 @@ fn stop_of(fault: u8, complete: bool, found: Checked, count: Count) -> Stop
         return Stop::Incomplete;
     }
     if let Checked::Refused { number, record } = found {
-        return Stop::Stopped(Answer::Refused {
-            number: number,
-            record: record,
-        });
+        return Stop::Stopped(Answer::Refused { number, record });
     }
     if count.refused {
         return Stop::Stopped(Answer::TooManyWorlds {
@@ -70,17 +68,12 @@ pub fn open_case(plan: Plan, case: Case, uses: &[u64; 256], room: usize) -> Open
     let bound = bind_facts(plan, case, reach.bound);
     let persons = rule_persons(reach.groups, plan.statuses);
     let fault = heading_fault(heading, plan.relation, persons, room);
-    let codes = bound.codes;
     let count = count_worlds(
-        codes,
+        bound.codes,
         reach.count,
         reach.undecided.count,
         heading.most_worlds,
     );
     let stop = stop_of(fault, heading.complete, found, count);
-    Opened {
-        stop: stop,
-        reach: reach,
-        bound: bound,
-    }
+    Opened { stop, reach, bound }
 }

@@ -17,10 +17,7 @@ use records::plan::checks::decode_plan;
 fn refused(number: u8, record: usize) -> Answer
     ensures { result ≡ Refused number «record» }
 {
-    Answer::Refused {
-        number: number,
-        record: record,
-    }
+    Answer::Refused { number, record }
 }
 
 // Bytes to plan and case, with their refusals; then what stands before the worlds, and the worlds.
@@ -45,8 +42,7 @@ pub fn operate(
     }
     let uses = node_uses(read.plan.nodes);
     let opened = open_case(read.plan, got.case, &uses, lines.len());
-    let stop = opened.stop;
-    match stop {
+    match opened.stop {
         Stop::Stopped(answer) => answer,
         Stop::Incomplete => without_worlds(lines, got.case.heading.roster, 5, wanted),
         Stop::Nothing => answer_ready(

@@ -9,16 +9,13 @@ use records::checked::Checked;
 use records::plan::checks::check as checked;
 
 // CHECK A PLAN
+#[tactic(auto, unfolding(crate::specs::paper::Operations::check))]
 pub fn check(plan: &[u8]) -> Answer
     ensures { result ≡ check_of plan.now }
 {
-    let found = checked(plan);
-    match found {
+    match checked(plan) {
         Checked::Accepted => Answer::Accepted,
-        Checked::Refused { number, record } => Answer::Refused {
-            number: number,
-            record: record,
-        },
+        Checked::Refused { number, record } => Answer::Refused { number, record },
     }
 }
 

@@ -1,5 +1,4 @@
 pub mod SetLaws
-pub mod WholeLaws
 pub mod Closing
 pub mod LoopLaws
 pub mod BelowLaws
@@ -11,3 +10,4 @@ pub mod MemberLaws
 pub mod TurnLaws
 pub mod Rising
 pub mod Local
+pub mod ThoseLaws

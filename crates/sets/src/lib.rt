@@ -1,9 +1,8 @@
 // Sets of persons as masks: bit p stands for person p. Sets of other numbers (facts, rules, citations, evidence, worlds) are masks too.
 #![tactic(auto)]
 
-pub mod numbers;
+pub mod members;
 pub mod persons;
-pub mod whole;
 
 ghost use Rattle.std.specs.Prelude.{◌≡◌, ◌∷◌, ◌<◌};
 ghost use Rattle.sets.specs.paper.Sets.{has, one, union, minus, subset, size, lowest, members, rising_less, pass, close_of};
@@ -83,13 +82,10 @@ pub fn pass(sets: &[u64], seed: u64) -> u64
     ensures { result ≡ pass sets.now seed }
 {
     let mut m = seed;
-    let mut i = 0;
-    while i < sets.len() {
-        let s = sets[i];
+    for &s in sets {
         if s & m != 0 {
-            m = m | s;
+            m |= s;
         }
-        i += 1;
     }
     m
 }

@@ -4,8 +4,6 @@ ghost use Rattle.spreadsheet.specs.paper.Numerals.{leads, decimal_from, number_o
 ghost use Rattle.spreadsheet.specs.code.FieldSeen.{between};
 ghost use Rattle.spreadsheet.specs.code.NumberSeen.{number_seen};
 
-use sets::numbers::wide;
-
 #[derive(Drop)]
 pub enum Number {
     Is(u8),
@@ -31,11 +29,10 @@ fn decimal_in(s: &[u8], from: usize, to: usize, top: u8) -> Number
     requires { (from ≤ to) × (to ≤ length s.now) }
     ensures { number_seen result ≡ decimal_from top 0 (between s.now from to) }
 {
-    let most = wide(top);
+    let most = usize::from(top);
     let mut v: usize = 0;
-    let mut i = from;
-    while i < to {
-        let b = wide(s[i]);
+    for i in from..to {
+        let b = usize::from(s[i]);
         if b < 48 {
             return Number::Not;
         }
@@ -46,7 +43,6 @@ fn decimal_in(s: &[u8], from: usize, to: usize, top: u8) -> Number
         if v > most {
             return Number::Not;
         }
-        i += 1;
     }
     Number::Is(v as u8)
 }

@@ -1,14 +1,12 @@
 -- Step 7 as the code goes: which attachments are not skipped, whom they move, and the blocks that are left.
-use mathlib.Core.Path.{◌≡◌, refl, sym, ap, ap₂, ◌∙◌, subst}
-use mathlib.Core.Bool.{Bool, true, false, not, cond, ◌&&◌, ◌||◌, and-true, and-false, or-true, or-false, true≢false}
+use mathlib.Core.Path.{◌≡◌, refl, sym, ap, ap₂, ◌∙◌}
+use mathlib.Core.Bool.{Bool, true, false, not, cond, ◌&&◌, ◌||◌, and-true, and-false, or-false, true≢false}
 use mathlib.Core.Logic.{⊎_elim}
 use mathlib.Core.List.{List, [], ◌∷◌}
 use Prim.Native.Nat.{ℕ, zero, suc, ◌+◌, ◌/◌, ◌%◌, ◌^◌, ◌≤◌, ◌<◌, zero-le}
 use native.Mathlib.Nat.{not-suc-le-zero, le_of_suc-le-suc, add-zero, zero-add}
 use native.Mathlib.Omega.{arith}
 use lib.Arith.{lt-one}
-use lib.ListN.{length, set}
-use lib.Seq.{get_or-set_same, get_or-set_other}
 use lib.Dec.{eqb, ltb}
 use borrow.Author.Tests.{eqb-true, eqb-false, eq-eqb, ne_eqb, lt-ltb, le-ltb}
 use Rattle.sets.specs.paper.Sets.{odd, has, one, union, meet, minus, disjoint, meets, subset, lowest, when, members, members_from, all_of, union_of, fold_below}
@@ -28,11 +26,13 @@ use Rattle.worlds.specs.code.Tables.{row, Stands, TellsActive}
 use Rattle.worlds.specs.code.Blocks.{Parted, MovedTo, start_of}
 use Rattle.worlds.specs.declared.tables.Common.{Common}
 use Rattle.worlds.specs.declared.tables.Active as masks
-use Rattle.sets.proofs.TurnLaws.{members-none, member_has, union-has, has-union_of}
+use Rattle.sets.specs.code.Members.{Turn}
+use Rattle.sets.proofs.TurnLaws.{members-none, union-has, has-union_of}
+use Rattle.worlds.proofs.OverLaws.{turn-in, turn-rest, turn-listed}
 use Rattle.worlds.proofs.FirstBlocks.{Blocks, out_of_blocks, first-blocks}
 use Rattle.worlds.proofs.Partition.{not_set, moved-block, cut_on, live_below, movers_live, attach-blocks}
 
--- ---- a table changed at each number of a set, by the number
+-- ---- the change that the persons of two blocks get
 
 -- what a person's block becomes
 abbrev pub regrouped : ℕ → ℕ → ℕ → ℕ → ℕ
@@ -49,24 +49,6 @@ regrouped_twice target movers p block = pick (has target p)
     pick : (b : Bool) → cond b target (minus (cond b target (minus block movers)) movers) ≡ cond b target (minus block movers)
     pick true = refl
     pick false = minus_twice block movers
-
--- a turn at t that leaves r
-pub change_at : (g : ℕ → ℕ → ℕ) → ((i x : ℕ) → g i (g i x) ≡ g i x) → (m r t v : ℕ) (table : List ℕ) → ((i : ℕ) → has m i ≡ (eqb t i || has r i)) → t < length table
-    → v ≡ g t (entry table t) → (i : ℕ) → cond (has r i) (g i (entry (set table t v) i)) (entry (set table t v) i) ≡ cond (has m i) (g i (entry table i)) (entry table i)
-change_at g twice m r t v table h l k i = pick (eqb t i) refl
-  where
-    once : (b : Bool) (x : ℕ) → cond b (g i (g i x)) (g i x) ≡ g i x
-    once true x = twice i x
-    once false x = refl
-
-    left : (b : Bool) → eqb t i ≡ b → cond (has m i) (g i (entry table i)) (entry table i) ≡ cond (b || has r i) (g i (entry table i)) (entry table i)
-    left b e = ap (λ (b : Bool). cond b (g i (entry table i)) (entry table i)) (h i ∙ ap (λ (b : Bool). b || has r i) e)
-
-    pick : (b : Bool) → eqb t i ≡ b → cond (has r i) (g i (entry (set table t v) i)) (entry (set table t v) i) ≡ cond (has m i) (g i (entry table i)) (entry table i)
-    pick true e =
-        ap (λ (x : ℕ). cond (has r i) (g i x) x) (subst (λ (j : ℕ). entry (set table t v) j ≡ g j (entry table j)) (eqb-true t i e) (get_or-set_same table t v 0 l ∙ k))
-        ∙ once (has r i) (entry table i) ∙ sym (left true e)
-    pick false e = ap (λ (x : ℕ). cond (has r i) (g i x) x) (get_or-set_other table t i v 0 (λ z. eqb-false t i e (sym z))) ∙ sym (left false e)
 
 -- ---- the movers come into the anchor's block
 
@@ -431,17 +413,6 @@ module _ (P : Plan) (I : Influence) (k : Common) (t : List (List ℕ)) (a : Acti
 
 -- ---- a loop over them
 
--- a turn at the lowest of m leaves r: the lowest is of m, and so are those of r
-module _ (m r i : ℕ) (fits : m < 2 ^ 64) (less : r < m) (listed : members m ≡ lowest m ∷ members r) (is : i ≡ lowest m) where
-  pub low_in : has m i ≡ true
-  low_in = member_has m r fits less listed i ∙ ap (λ (b : Bool). b || has r i) (eq-eqb (lowest m) i (sym is))
-
-  pub rest_in : Within r m
-  rest_in = record { at = λ j h. member_has m r fits less listed j ∙ ap (λ (b : Bool). eqb (lowest m) j || b) h ∙ or-true (eqb (lowest m) j) }
-
-  pub listed_at : members m ≡ i ∷ members r
-  listed_at = listed ∙ ap (λ (x : ℕ). x ∷ members r) (sym is)
-
 -- what is given of the step
 pub record Attaching (P : Plan) (I : Influence) (k : Common) (a : Active) (t : List (List ℕ)) (moved placed : ℕ) (first : List ℕ) : Type 0 where
   pub stands : Stands P I k t
@@ -450,11 +421,17 @@ pub record Attaching (P : Plan) (I : Influence) (k : Common) (a : Active) (t : L
   pub unmarked : placed ≡ live_in P k.roster I a
   pub begun : (p : ℕ) → entry first p ≡ block_of (start_of P k.roster I a) p
 
+pub attaching : (P : Plan) (I : Influence) (k : Common) (a : Active) {t : List (List ℕ)} {moved placed : ℕ} {first : List ℕ} → Stands P I k t → moved ≡ (world_of P k.roster I a).state.moved
+    → ((i : ℕ) → on a.attachments i ≡ true → i < attachment_count P) → placed ≡ live_in P k.roster I a → ((p : ℕ) → entry first p ≡ block_of (start_of P k.roster I a) p)
+    → Attaching P I k a t moved placed first
+attaching P I k a stands is below unmarked begun = record { stands = stands; is = is; below = below; unmarked = unmarked; begun = begun }
+
 -- the blocks are those of a state from which the attachments left, m, lead to the world's
 pub record Reached (P : Plan) (I : Influence) (k : Common) (a : Active) (moved m : ℕ) (blocks : List ℕ) : Type 0 where
   pub state : State
   pub parts : Blocks (live_in P k.roster I a) state
   pub entries : (p : ℕ) → entry blocks p ≡ block_of state p
+  pub few : m < 2 ^ 64
   pub inside : Within m moved
   pub left : over (attach P (marks_in_lem P k.roster I a) a) (members m) state ≡ (world_of P k.roster I a).state
 
@@ -484,6 +461,7 @@ module _ (P : Plan) (I : Influence) (k : Common) (a : Active) (t : List (List �
     state = start_of P k.roster I a;
     parts = start_blocks P I k t a T.stands T.below;
     entries = T.begun;
+    few = fits;
     inside = within-refl moved;
     left = sym (state_run P I k t a T.stands T.below moved fits T.is);
   }
@@ -491,11 +469,11 @@ module _ (P : Plan) (I : Influence) (k : Common) (a : Active) (t : List (List �
   pub reached_end : (m : ℕ) (blocks : List ℕ) → m ≡ 0 → Reached P I k a moved m blocks → (p : ℕ) → entry blocks p ≡ block_of (world_of P k.roster I a).state p
   reached_end m blocks e R p = R.entries p ∙ ap (λ (s : State). block_of s p) (sym (over_none (attach P unplaced a) (members m) R.state (members-none m e)) ∙ R.left)
 
-  module _ (m i : ℕ) (blocks : List ℕ) (R : Reached P I k a moved m blocks) (here : has m i ≡ true) where
+  module _ (m i r : ℕ) (blocks : List ℕ) (R : Reached P I k a moved m blocks) (turn : Turn m i r) where
     goes_here : (on a.attachments i ≡ true) × (has live (attachment P i).anchor ≡ true)
     goes_here =
         and_parts (on a.attachments i) (has live (attachment P i).anchor)
-        (sym (moved_goes P I k t a T.stands T.below moved fits T.is i) ∙ R.inside.at i here)
+        (sym (moved_goes P I k t a T.stands T.below moved fits T.is i) ∙ R.inside.at i (turn-in R.few turn))
 
     anchor_is : meet (row t 12 i) placed ≡ one (attachment P i).anchor
     anchor_is =
@@ -525,14 +503,15 @@ module _ (P : Plan) (I : Influence) (k : Common) (a : Active) (t : List (List �
         (record { at = λ q h. in_meet (attachment P i).members live q (of_minus (attachment P i).members unplaced q h).0 (movers_in.at q h) })
 
     -- ONE ATTACHMENT, lowest first
-    pub reached-next : (r x : ℕ) (after : List ℕ) → Within r m → members m ≡ i ∷ members r → x ≡ lowest (meet (row t 12 i) placed)
+    pub reached-next : (x : ℕ) (after : List ℕ) → x ≡ lowest (meet (row t 12 i) placed)
         → MovedTo (entry blocks x) (meet (row t 11 i) placed) blocks after → Reached P I k a moved r after
-    reached-next r x after less e at M = record {
+    reached-next x after at M = record {
       state = attach P unplaced a i R.state;
       parts = attach-blocks P k.roster T.stands.named T.stands.roster a (world_of P k.roster I a).marks i R.state R.parts;
       entries = λ p. M.at live x (parted live R.state blocks R.parts R.entries) refl inside p ∙ said p ∙ sym (then p);
-      inside = thru less R.inside;
-      left = sym (over_first (attach P unplaced a) (members m) i (members r) R.state e) ∙ R.left;
+      few = omega (arith, R.few, turn.rest.1);
+      inside = thru (turn-rest R.few turn) R.inside;
+      left = sym (over_first (attach P unplaced a) (members m) i (members r) R.state (turn-listed R.few turn)) ∙ R.left;
     }
       where
         s : State

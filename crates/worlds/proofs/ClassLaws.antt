@@ -16,7 +16,9 @@ use Rattle.sets.proofs.Closing.{Takes, Closed, close_closed, close_within, close
 use Rattle.records.proofs.ListLaws.{all_append}
 use Rattle.worlds.specs.code.Over.{entry, Marked}
 use Rattle.worlds.specs.code.Classes.{Alone, ClassesBy, Joins, joinable}
+use Rattle.sets.specs.code.Members.{Turn}
 use Rattle.sets.proofs.TurnLaws.{members-none, union-has, has-union_of}
+use Rattle.worlds.proofs.SetTurns.{turn-members}
 
 -- ---- closed sets and closings
 
@@ -189,10 +191,10 @@ joins-whole s whole before after b w m = record {
   classes = λ persons sets e by. record {
     few = by.few;
     inside = inside-more persons sets (s ∷ []) by.inside e;
-    at = λ p h. m.at p ∙ ap₂ (λ (x y : ℕ). cond (has x p) x y) (is persons sets e by) (by.at p h) ∙ sym (joined_class sets s p);
+    at = λ p h. m.at p 0 ∙ ap₂ (λ (x y : ℕ). cond (has x p) x y) (is persons sets e by) (by.at p h) ∙ sym (joined_class sets s p);
   };
   others = λ persons sets e by p h.
-      m.at p ∙ ap (λ (b : Bool). cond b whole (entry before p)) (ap (λ (x : ℕ). has x p) (is persons sets e by) ∙ outside persons sets e by p h);
+      m.at p 0 ∙ ap (λ (b : Bool). cond b whole (entry before p)) (ap (λ (x : ℕ). has x p) (is persons sets e by) ∙ outside persons sets e by p h);
 }
   where
     is : (persons : ℕ) (sets : List ℕ) → all_of (λ t. subset t persons) (s ∷ []) ≡ true → ClassesBy persons sets before → whole ≡ close_of sets s
@@ -263,18 +265,18 @@ classes_end sets classes i l by p k = by.at p (everyone p k) ∙ ap (λ (xs : Li
 -- ---- the pairs of edges
 
 -- a turn of the loop, which is at t and leaves r of m
-pub pairs_next : (pairs : List ℕ) (within m t r : ℕ) {a b last : List ℕ} → members m ≡ lowest m ∷ members r → t ≡ lowest m → Joins (joinable pairs within t ∷ []) a b
+pub pairs_next : (pairs : List ℕ) (within : ℕ) {m t r : ℕ} {a b last : List ℕ} → Turn m t r → Joins (joinable pairs within t ∷ []) a b
     → Joins (map (joinable pairs within) (members r)) b last → Joins (map (joinable pairs within) (members m)) a last
-pairs_next pairs within m t r {a} {b} {last} e k j js =
-    subst (λ (xs : List ℕ). Joins (map (joinable pairs within) xs) a last) (sym (e ∙ ap (λ (x : ℕ). x ∷ members r) (sym k)))
+pairs_next pairs within {m} {t} {r} {a} {b} {last} turn j js =
+    subst (λ (xs : List ℕ). Joins (map (joinable pairs within) xs) a last) (sym (turn-members turn))
     (joins-next (joinable pairs within t ∷ []) (map (joinable pairs within) (members r)) a b last j js)
 
 pub pairs_end : (pairs : List ℕ) (within m : ℕ) (classes : List ℕ) → m ≡ 0 → Joins (map (joinable pairs within) (members m)) classes classes
 pairs_end pairs within m classes e = subst (λ (xs : List ℕ). Joins (map (joinable pairs within) xs) classes classes) (sym (members-none m e)) (joins-none classes)
 
 -- an edge whose pair lies within the set, and one whose pair does not
-pub pair-joined : (pairs : List ℕ) (within t : ℕ) {a b last : List ℕ} → subset (entry pairs t) within ≡ true → Joins (entry pairs t ∷ []) a b → last ≡ b → Joins (joinable pairs within t ∷ []) a last
-pair-joined pairs within t {a} e j k = subst (Joins (joinable pairs within t ∷ []) a) (sym k) (rw e j)
+pub pair-joined : (pairs : List ℕ) (within t : ℕ) {a b : List ℕ} → subset (entry pairs t) within ≡ true → Joins (entry pairs t ∷ []) a b → Joins (joinable pairs within t ∷ []) a b
+pair-joined pairs within t e j = rw e j
 
-pub pair_left : (pairs : List ℕ) (within t : ℕ) {a last : List ℕ} → subset (entry pairs t) within ≡ false → last ≡ a → Joins (joinable pairs within t ∷ []) a last
-pair_left pairs within t {a} e k = subst (Joins (joinable pairs within t ∷ []) a) (sym k) (joins_nobody (joinable pairs within t) a (rw e))
+pub pair_left : (pairs : List ℕ) (within t : ℕ) (a : List ℕ) → subset (entry pairs t) within ≡ false → Joins (joinable pairs within t ∷ []) a a
+pair_left pairs within t a e = joins_nobody (joinable pairs within t) a (rw e)

@@ -47,27 +47,43 @@ laid-here {k} {i} {v} {t} {u} a = a.at k i ∙ ap₂ (λ (x y : Bool). cond (x &
 pub laid_beside : {k i v : ℕ} {t u : List (List ℕ)} (n : ℕ) → Laid k i v t u → eqb i n ≡ false → row u k n ≡ row t k n
 laid_beside {k} {i} {v} {t} {u} n a e = a.at k n ∙ ap (λ (b : Bool). cond (eqb k k && b) v (row t k n)) e ∙ ap (λ (b : Bool). cond b v (row t k n)) (and-false (eqb k k))
 
--- ---- the entries of a row below n, each as Q wants it beside what stands at its number in a list
+-- ---- the entries of a row below n, each as Q wants it
 
-pub record Each {A : Type 0} (Q : A → ℕ → Type 0) (d : A) (xs : List A) (t : List (List ℕ)) (k n : ℕ) : Type 0 where
-  pub at : (j : ℕ) → j < n → Q (get_or xs j d) (row t k j)
+pub record Filled (Q : ℕ → ℕ → Type 0) (t : List (List ℕ)) (k n : ℕ) : Type 0 where
+  pub at : (j : ℕ) → j < n → Q j (row t k j)
+
+pub filled_none : {Q : ℕ → ℕ → Type 0} (t : List (List ℕ)) (k : ℕ) → Filled Q t k 0
+filled_none t k = record { at = λ j l. absurd (omega arith) }
+
+-- an entry more of the row
+pub filled_next : {Q : ℕ → ℕ → Type 0} {k i v : ℕ} {t u : List (List ℕ)} → Laid k i v t u → Q i v → Filled Q t k i → Filled Q u k (i + 1)
+filled_next {Q} {k} {i} {v} {t} {u} a q e = record {
+  at = below_more (λ (j : ℕ). Q j (row u k j)) i
+      (λ j l. subst (Q j) (sym (laid_beside j a (ne_eqb i j (λ z. omega arith)))) (e.at j l))
+      (subst (Q i) (sym (laid-here a)) q);
+}
+
+-- an entry of another row
+pub filled_other : {Q : ℕ → ℕ → Type 0} {k i v m n : ℕ} {t u : List (List ℕ)} → Laid k i v t u → eqb k m ≡ false → Filled Q t m n → Filled Q u m n
+filled_other {Q} {k} {i} {v} {m} {n} {t} {u} a h e = record { at = λ j l. subst (Q j) (sym (laid_other m j a h)) (e.at j l) }
+
+-- at the end
+pub filled_row : {value : ℕ → ℕ} {t : List (List ℕ)} {k m n : ℕ} → m ≡ n → Filled (λ j v. v ≡ value j) t k n → Row t k m value
+filled_row e a = record { at = λ j l. a.at j (omega arith) }
+
+-- as Q wants it beside what stands at its number in a list
+abbrev pub Each : {A : Type 0} → (A → ℕ → Type 0) → A → List A → List (List ℕ) → ℕ → ℕ → Type 0
+Each Q d xs = Filled (λ j. Q (get_or xs j d))
 
 module _ {A : Type 0} (Q : A → ℕ → Type 0) (d : A) (xs : List A) where
   pub each_none : (t : List (List ℕ)) (k : ℕ) → Each Q d xs t k 0
-  each_none t k = record { at = λ j l. absurd (omega arith) }
+  each_none = filled_none
 
-  -- an entry more of the row
   pub each_next : {k i v : ℕ} {t u : List (List ℕ)} → Laid k i v t u → Q (get_or xs i d) v → Each Q d xs t k i → Each Q d xs u k (i + 1)
-  each_next {k} {i} {v} {t} {u} a q e =
-      record {
-        at = below_more (λ (j : ℕ). Q (get_or xs j d) (row u k j)) i
-            (λ j l. subst (Q (get_or xs j d)) (sym (laid_beside j a (ne_eqb i j (λ z. omega arith)))) (e.at j l))
-            (subst (Q (get_or xs i d)) (sym (laid-here a)) q);
-      }
+  each_next = filled_next
 
-  -- an entry of another row
   pub each_other : {k i v m n : ℕ} {t u : List (List ℕ)} → Laid k i v t u → eqb k m ≡ false → Each Q d xs t m n → Each Q d xs u m n
-  each_other {k} {i} {v} {m} {n} {t} {u} a h e = record { at = λ j l. subst (Q (get_or xs j d)) (sym (laid_other m j a h)) (e.at j l) }
+  each_other = filled_other
 
 -- the rows that are not named stay
 pub same_start : (ks : List ℕ) (t : List (List ℕ)) → Same ks t t
@@ -81,14 +97,10 @@ same_next {k} {i} {v} {s} {t} {u} ks m a e = record { at = λ j n h. laid_other 
     pick j false q h = q
 
 -- at the end: the entries of every equal list
-pub each_all : {A : Type 0} (Q : A → ℕ → Type 0) (d : A) (xs ys : List A) (t : List (List ℕ)) (k n : ℕ) → ys ≡ xs → length xs ≤ n → Each Q d xs t k n
-    → (j : ℕ) → j < length ys → Q (get_or ys j d) (row t k j)
-each_all Q d xs ys t k n e l a =
-    subst (λ (zs : List _). (j : ℕ) → j < length zs → Q (get_or zs j d) (row t k j)) (sym e) (λ j h. a.at j (omega arith))
-
 pub each_row : {A : Type 0} (f : A → ℕ) (d : A) (xs ys : List A) (t : List (List ℕ)) (k n : ℕ) → ys ≡ xs → length xs ≤ n → Each (λ x v. v ≡ f x) d xs t k n
     → Row t k (length ys) (λ j. f (get_or ys j d))
-each_row f d xs ys t k n e l a = record { at = each_all (λ x v. v ≡ f x) d xs ys t k n e l a }
+each_row f d xs ys t k n e l a =
+    record { at = subst (λ (zs : List _). (j : ℕ) → j < length zs → row t k j ≡ f (get_or zs j d)) (sym e) (λ j h. a.at j (omega arith)) }
 
 -- ---- a test of f 0 … f (n − 1)
 

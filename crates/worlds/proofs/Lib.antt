@@ -27,11 +27,13 @@ pub mod CutBlocks
 pub mod PlaceLaws
 pub mod EvaluatedPartition
 pub mod LayLaws
+pub mod PlanAt
 pub mod CiteLaws
 pub mod CiteTurns
 pub mod CiteRules
 pub mod CiteCuts
 pub mod CiteView
+pub mod SetTurns
 pub mod SettleLaws
 pub mod RelateLaws
 pub mod MakeLaws

@@ -1,17 +1,17 @@
 -- What the worlds of a case share: sets built number by number, and the tables whole.
 use mathlib.Core.Path.{◌≡◌, refl, sym, ap, ap₂, ◌∙◌, subst}
-use mathlib.Core.Bool.{Bool, true, false, ◌&&◌, ◌||◌, not, cond, or-false, or-true, and-true, and-false, and_assoc, true≢false, beq}
+use mathlib.Core.Bool.{Bool, true, false, ◌&&◌, ◌||◌, not, cond, or-true, and-true, and-false, and_assoc, true≢false, beq}
 use mathlib.Core.Logic.{◌⊎◌, inl, inr, ⊎_elim}
 use mathlib.Core.List.{List, [], ◌∷◌, ◌++◌}
-use Prim.Native.Nat.{ℕ, zero, suc, ◌+◌, ◌-◌, ◌^◌, ◌≤◌, ◌<◌}
+use Prim.Native.Nat.{ℕ, zero, suc, ◌-◌, ◌^◌, ◌≤◌, ◌<◌}
 use native.Mathlib.Nat.{lt_of_lt_of_le, pow-le-pow_right, zero-lt-suc}
 use native.Mathlib.Omega.{arith}
 use lib.Pow.{pow_pos}
 use lib.ListN.{length, get_or, set, take, replicate}
 use lib.Dec.{eqb, ltb}
-use borrow.Author.Tests.{eqb-true, eqb-false, lt-ltb, le-ltb, ltb-true}
+use borrow.Author.Tests.{eqb-true, lt-ltb, ltb-true}
 use Rattle.sets.specs.paper.Sets.{has, one, union, minus, disjoint, meets, subset, rising_less, only, set_of, members, absorb, pass, passes, close_of, union_below, fold_below, any_of, union_of, All}
-use Rattle.sets.proofs.SetLaws.{has-none, has-union, has_one, has-minus, has_high, has-not, disjoint-true, disjoint-false, of_union, in_union_l, in_union_r, union_lt, one_lt, antisym, lt_or_le}
+use Rattle.sets.proofs.SetLaws.{has-none, has_one, has-minus, has_high, has-not, disjoint-true, disjoint-false, of_union, in_union_l, in_union_r, union_lt, one_lt, antisym, lt_or_le}
 use Rattle.sets.proofs.Closing.{passes-next, in_one}
 use Rattle.sets.proofs.BelowLaws.{union_find, in_below, of_only, in_only}
 use Rattle.sets.proofs.LoopLaws.{all_at}
@@ -36,35 +36,6 @@ use Rattle.worlds.specs.code.Made.{Combination, SpreadLaid, CommonFor}
 use Rattle.worlds.specs.declared.tables.Common.{Common}
 use Rattle.sets.proofs.TurnLaws.{union-has, has-union_of}
 use Rattle.worlds.proofs.ClassLaws.{gathered}
-
--- ---- a set of the numbers that pass a test, number by number
-
-module _ (f : ℕ → Bool) where
-  pub upto_none : (e : ℕ) → has 0 e ≡ (ltb e 0 && f e)
-  upto_none e = has-none e ∙ sym (ap (λ (b : Bool). b && f e) (le-ltb e 0 (omega arith)))
-
-  same-below : (i e : ℕ) → eqb i e ≡ false → ltb e i ≡ ltb e (i + 1)
-  same-below i e q =
-      let n = eqb-false i e q in
-      ⊎_elim (λ h. lt-ltb e i h ∙ sym (lt-ltb e (i + 1) (omega arith))) (λ h. le-ltb e i h ∙ sym (le-ltb e (i + 1) (omega (arith, n)))) (lt_or_le e i)
-
-  pub upto_in : (i found : ℕ) → f i ≡ true → ((e : ℕ) → has found e ≡ (ltb e i && f e)) → (e : ℕ) → has (union found (one i)) e ≡ (ltb e (i + 1) && f e)
-  upto_in i found k h e = has-union found (one i) e ∙ ap (λ (b : Bool). has found e || b) (has_one i e) ∙ pick (eqb i e) refl
-    where
-      pick : (b : Bool) → eqb i e ≡ b → (has found e || eqb i e) ≡ (ltb e (i + 1) && f e)
-      pick true q =
-          ap (λ (b : Bool). has found e || b) q ∙ or-true (has found e)
-          ∙ sym (ap₂ ◌&&◌ (lt-ltb e (i + 1) (omega (arith, eqb-true i e q))) (ap f (sym (eqb-true i e q)) ∙ k))
-      pick false q = ap (λ (b : Bool). has found e || b) q ∙ or-false (has found e) ∙ h e ∙ ap (λ (b : Bool). b && f e) (same-below i e q)
-
-  pub upto_out : (i found : ℕ) → f i ≡ false → ((e : ℕ) → has found e ≡ (ltb e i && f e)) → (e : ℕ) → has found e ≡ (ltb e (i + 1) && f e)
-  upto_out i found k h e = h e ∙ pick (eqb i e) refl
-    where
-      pick : (b : Bool) → eqb i e ≡ b → (ltb e i && f e) ≡ (ltb e (i + 1) && f e)
-      pick true q =
-          let z = ap f (sym (eqb-true i e q)) ∙ k in
-          ap (λ (b : Bool). ltb e i && b) z ∙ and-false (ltb e i) ∙ sym (ap (λ (b : Bool). ltb e (i + 1) && b) z ∙ and-false (ltb e (i + 1)))
-      pick false q = ap (λ (b : Bool). b && f e) (same-below i e q)
 
 -- ---- closings of sets that masks hold
 

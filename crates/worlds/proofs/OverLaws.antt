@@ -1,35 +1,90 @@
 -- What a loop over the numbers of a set, lowest first, does to a table.
 use mathlib.Core.Path.{◌≡◌, refl, sym, ap, ◌∙◌, subst}
-use mathlib.Core.Bool.{Bool, true, false, cond, ◌||◌}
-use mathlib.Core.List.{List}
-use Prim.Native.Nat.{ℕ, ◌<◌}
-use lib.ListN.{length, set}
+use mathlib.Core.Bool.{Bool, true, false, cond, ◌&&◌, ◌||◌, or-true}
+use mathlib.Core.List.{List, ◌∷◌}
+use Prim.Native.Nat.{ℕ, ◌^◌, ◌<◌}
+use native.Mathlib.Omega.{arith}
+use lib.ListN.{length, get_or, set, length-set}
 use lib.Seq.{get_or-set_same, get_or-set_other}
 use lib.Dec.{eqb}
-use borrow.Author.Tests.{eqb-true, eqb-false}
-use Rattle.sets.specs.paper.Sets.{has}
-use Rattle.sets.proofs.SetLaws.{has-none}
-use Rattle.worlds.specs.code.Over.{entry}
+use borrow.Author.Tests.{eqb-true, eqb-false, eq-eqb}
+use Rattle.sets.specs.paper.Sets.{has, members}
+use Rattle.sets.specs.code.Members.{Turn}
+use Rattle.sets.proofs.SetLaws.{Within, has-none}
+use Rattle.sets.proofs.TurnLaws.{turn_has}
 
--- ---- a turn of a loop over m that is at t and leaves r
+-- ---- a turn: the number t comes next of those left, m, and leaves r
 
--- the same change at each number, by what is left: a change that twice is once
-pub change_next : (g : ℕ → ℕ) → ((x : ℕ) → g (g x) ≡ g x) → (m r t v : ℕ) (table : List ℕ) → ((i : ℕ) → has m i ≡ (eqb t i || has r i)) → t < length table → v ≡ g (entry table t)
-    → (i : ℕ) → cond (has r i) (g (entry (set table t v) i)) (entry (set table t v) i) ≡ cond (has m i) (g (entry table i)) (entry table i)
-change_next g twice m r t v table h l k i = pick (eqb t i) refl
+module _ {m t r : ℕ} (few : m < 2 ^ 64) (turn : Turn m t r) where
+  pub turn-is : (i : ℕ) → has m i ≡ (eqb t i || has r i)
+  turn-is = turn_has m r t few turn.first turn.rest
+
+  pub turn-in : has m t ≡ true
+  turn-in = turn-is t ∙ ap (λ (b : Bool). b || has r t) (eq-eqb t t refl)
+
+  pub turn-rest : Within r m
+  turn-rest = record { at = λ i h. turn-is i ∙ ap (λ (b : Bool). eqb t i || b) h ∙ or-true (eqb t i) }
+
+  pub turn-listed : members m ≡ t ∷ members r
+  turn-listed = turn.rest.0 ∙ ap (λ (x : ℕ). x ∷ members r) (sym turn.first.0)
+
+-- ---- a change g at each number of a set, which made twice is made once; `past` stands for what is not in the table
+
+-- with the change made at the numbers left, the table is the one asked for
+pub record Changing {A : Type 0} (g : ℕ → A → A) (past : A) (all left : ℕ) (before now : List A) : Type 0 where
+  pub few : left < 2 ^ 64
+  pub long : length now ≡ 64
+  pub at : (i : ℕ) → cond (has left i) (g i (get_or now i past)) (get_or now i past) ≡ cond (has all i) (g i (get_or before i past)) (get_or before i past)
+
+module _ {A : Type 0} (g : ℕ → A → A) (past : A) where
+  pub changing_start : (all : ℕ) (before : List A) → all < 2 ^ 64 → length before ≡ 64 → Changing g past all all before before
+  changing_start all before few long = record { few = few; long = long; at = λ i. refl }
+
+  pub changing_next : ((i : ℕ) (x : A) → g i (g i x) ≡ g i x) → {all m t r : ℕ} {before table : List A} (v : A) → Turn m t r → v ≡ g t (get_or table t past)
+      → Changing g past all m before table → Changing g past all r before (set table t v)
+  changing_next twice {all} {m} {t} {r} {before} {table} v turn e known = record {
+    few = omega (arith, turn.rest.1, known.few);
+    long = simp length-set known.long;
+    at = λ i. pick i (eqb t i) refl ∙ known.at i;
+  }
+    where
+      now : ℕ → Bool → A → A
+      now i b x = cond b (g i x) x
+
+      once : (i : ℕ) (b : Bool) (x : A) → now i b (g i x) ≡ g i x
+      once i true x = twice i x
+      once i false x = refl
+
+      is : (i : ℕ) → has m i ≡ (eqb t i || has r i)
+      is = turn-is known.few turn
+
+      here : get_or (set table t v) t past ≡ g t (get_or table t past)
+      here = get_or-set_same table t v past (omega (arith, turn.first.1, known.long)) ∙ e
+
+      pick : (i : ℕ) (b : Bool) → eqb t i ≡ b → now i (has r i) (get_or (set table t v) i past) ≡ now i (has m i) (get_or table i past)
+      pick i true k =
+          ap (now i (has r i)) (subst (λ (j : ℕ). get_or (set table t v) j past ≡ g j (get_or table j past)) (eqb-true t i k) here)
+          ∙ once i (has r i) (get_or table i past) ∙ sym (ap (λ (b : Bool). now i b (get_or table i past)) (is i ∙ ap (λ (b : Bool). b || has r i) k))
+      pick i false k =
+          ap (now i (has r i)) (get_or-set_other table t i v past (λ z. eqb-false t i k (sym z)))
+          ∙ sym (ap (λ (b : Bool). now i b (get_or table i past)) (is i ∙ ap (λ (b : Bool). b || has r i) k))
+
+  -- at the end nothing is left
+  pub changing_end : {all m : ℕ} {before table : List A} → m ≡ 0 → Changing g past all m before table
+      → (i : ℕ) → get_or table i past ≡ cond (has all i) (g i (get_or before i past)) (get_or before i past)
+  changing_end {all} {m} {before} {table} e known i =
+      sym (ap (λ (b : Bool). cond b (g i (get_or table i past)) (get_or table i past)) (ap (λ (x : ℕ). has x i) e ∙ has-none i)) ∙ known.at i
+
+  -- at a number of the set
+  pub changing_at : {all m : ℕ} {before table : List A} → m ≡ 0 → Changing g past all m before table
+      → (i : ℕ) → has all i ≡ true → get_or table i past ≡ g i (get_or before i past)
+  changing_at {before = before} e known i h = changing_end e known i ∙ ap (λ (b : Bool). cond b (g i (get_or before i past)) (get_or before i past)) h
+
+-- a set found by a test on the numbers of another
+pub tested-has : (f : ℕ → Bool) (set found : ℕ) → ((i : ℕ) → has set i ≡ false → has found i ≡ false) → ((i : ℕ) → has set i ≡ true → has found i ≡ f i)
+    → (i : ℕ) → has found i ≡ (has set i && f i)
+tested-has f set found outside inside i = pick (has set i) refl
   where
-    once : (b : Bool) (x : ℕ) → cond b (g (g x)) (g x) ≡ g x
-    once true x = twice x
-    once false x = refl
-
-    pick : (b : Bool) → eqb t i ≡ b → cond (has r i) (g (entry (set table t v) i)) (entry (set table t v) i) ≡ cond (has m i) (g (entry table i)) (entry table i)
-    pick true e =
-        ap (λ (x : ℕ). cond (has r i) (g x) x) (subst (λ (j : ℕ). entry (set table t v) j ≡ g (entry table j)) (eqb-true t i e) (get_or-set_same table t v 0 l ∙ k))
-        ∙ once (has r i) (entry table i) ∙ sym (ap (λ (b : Bool). cond b (g (entry table i)) (entry table i)) (h i ∙ ap (λ (b : Bool). b || has r i) e))
-    pick false e =
-        ap (λ (x : ℕ). cond (has r i) (g x) x) (get_or-set_other table t i v 0 (λ z. eqb-false t i e (sym z)))
-        ∙ sym (ap (λ (b : Bool). cond b (g (entry table i)) (entry table i)) (h i ∙ ap (λ (b : Bool). b || has r i) e))
-
--- at the end nothing is left
-pub change_end : (g : ℕ → ℕ) (m i : ℕ) (table : List ℕ) → m ≡ 0 → cond (has m i) (g (entry table i)) (entry table i) ≡ entry table i
-change_end g m i table e = ap (λ (b : Bool). cond b (g (entry table i)) (entry table i)) (ap (λ (x : ℕ). has x i) e ∙ has-none i)
+    pick : (b : Bool) → has set i ≡ b → has found i ≡ (has set i && f i)
+    pick true e = inside i e ∙ sym (ap (λ (x : Bool). x && f i) e)
+    pick false e = outside i e ∙ sym (ap (λ (x : Bool). x && f i) e)

@@ -313,15 +313,15 @@ module _ (t : List (List ℕ)) (k : Common) (f : told.Active) (s : Settled) (pla
     (status : (w₅.blocks ≡ w₄.blocks) × (w₅.kinds ≡ w₄.kinds) × Marked (meet s.excluded placed) 2 w₄.roles w₅.roles) where
   roles : (p : ℕ) → entry w₅.roles p ≡ cond (has (meet s.excluded placed) p) 2 (cond (has (meet s.barred placed) p) 3 (cond (has placed p) 1 0))
   roles p =
-      status.2.at p
-      ∙ ap (cond (has (meet s.excluded placed) p) 2) (bar.2.at p
-      ∙ ap (cond (has (meet s.barred placed) p) 3) (ap (λ (l : List ℕ). entry l p) attach.roles ∙ cuts.roles.at p
+      status.2.at p 0
+      ∙ ap (cond (has (meet s.excluded placed) p) 2) (bar.2.at p 0
+      ∙ ap (cond (has (meet s.barred placed) p) 3) (ap (λ (l : List ℕ). entry l p) attach.roles ∙ cuts.roles.at p 0
       ∙ ap (cond (has placed p) 1) (ap (λ (l : List ℕ). entry l p) freeze.roles ∙ blank.roles p)))
 
   kinds : (p : ℕ) → entry w₅.kinds p ≡ cond (has s.overlap p) 3 (cond (has s.discretion p) 4 0)
   kinds p =
-      ap (λ (l : List ℕ). entry l p) (status.1 ∙ bar.1 ∙ attach.kinds) ∙ cuts.kinds.at p
-      ∙ ap (cond (has s.overlap p) 3) (freeze.kinds.at p ∙ ap (cond (has s.discretion p) 4) (blank.kinds p))
+      ap (λ (l : List ℕ). entry l p) (status.1 ∙ bar.1 ∙ attach.kinds) ∙ cuts.kinds.at p 0
+      ∙ ap (cond (has s.overlap p) 3) (freeze.kinds.at p 0 ∙ ap (cond (has s.discretion p) 4) (blank.kinds p))
 
   module _ (P : Plan) (I : Influence) (a : Active) (S : Stands P I k t) (T : TellsActive P a f) (D : SettledAs P (world_of P k.roster I a) s) where
     abbrev w : paper.World

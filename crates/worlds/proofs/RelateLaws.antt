@@ -12,14 +12,16 @@ use lib.ListN.{length, set}
 use lib.Seq.{get_or-set_same, get_or-set_other}
 use lib.Dec.{eqb, ltb}
 use borrow.Author.Count.{below_more}
-use borrow.Author.Tests.{eqb-true, eqb-false, lt-ltb, le-ltb}
+use borrow.Author.Tests.{eqb-true, lt-ltb, le-ltb}
 use Rattle.sets.specs.paper.Sets.{odd, has, one, union, minus, disjoint, meets, rising_less, fold_below, any_of, union_of, members}
+use Rattle.sets.specs.code.Members.{Turn}
 use Rattle.sets.proofs.SetLaws.{has-zero, has-suc, has-none, has_one, has-and, has-minus, disjoint-true, disjoint-false, lt_or_le}
 use Rattle.sets.proofs.Closing.{in_one}
 use Rattle.worlds.specs.code.Over.{entry}
 use Rattle.worlds.specs.code.Tables.{row}
 use Rattle.worlds.specs.code.Laid.{Laid, Same}
 use Rattle.worlds.specs.code.Related.{chain_by, RelatedAt}
+use Rattle.worlds.proofs.OverLaws.{turn-is}
 use Rattle.worlds.proofs.LayLaws.{laid_other, laid-here, same_start, same_next}
 
 -- ---- chains, step after step
@@ -86,29 +88,7 @@ clashing-has sharing twins d all shared same h k = has-minus sharing twins d ∙
     pick true = refl
     pick false = refl
 
--- ---- a table filled by a function of the number
-
-module _ (f : ℕ → ℕ) where
-  -- at the numbers of a set
-  pub filled_next : (m r t v : ℕ) (table : List ℕ) → ((p : ℕ) → has m p ≡ (eqb t p || has r p)) → t < length table → v ≡ f t
-      → (p : ℕ) → cond (has r p) (f p) (entry (set table t v) p) ≡ cond (has m p) (f p) (entry table p)
-  filled_next m r t v table h l k p = pick (eqb t p) refl
-    where
-      same : (b : Bool) (x : ℕ) → cond b x x ≡ x
-      same true x = refl
-      same false x = refl
-
-      pick : (b : Bool) → eqb t p ≡ b → cond (has r p) (f p) (entry (set table t v) p) ≡ cond (has m p) (f p) (entry table p)
-      pick true e =
-          ap (cond (has r p) (f p)) (subst (λ (j : ℕ). entry (set table t v) j ≡ f j) (eqb-true t p e) (get_or-set_same table t v 0 l ∙ k))
-          ∙ same (has r p) (f p) ∙ sym (ap (λ (b : Bool). cond b (f p) (entry table p)) (h p ∙ ap (λ (b : Bool). b || has r p) e))
-      pick false e =
-          ap (cond (has r p) (f p)) (get_or-set_other table t p v 0 (λ z. eqb-false t p e (sym z)))
-          ∙ sym (ap (λ (b : Bool). cond b (f p) (entry table p)) (h p ∙ ap (λ (b : Bool). b || has r p) e))
-
-  pub filled_end : (m set p x : ℕ) (table : List ℕ) → m ≡ 0 → has set p ≡ true → cond (has m p) (f p) (entry table p) ≡ cond (has set p) (f p) x → entry table p ≡ f p
-  filled_end m set p x table e h q =
-      sym (ap (λ (b : Bool). cond b (f p) (entry table p)) (ap (λ (y : ℕ). has y p) e ∙ has-none p)) ∙ q ∙ ap (λ (b : Bool). cond b (f p) x) h
+-- ---- a table filled entry after entry
 
 -- at the numbers below i + 1
 pub stored_next : (Q : ℕ → ℕ → Type 0) (table : List ℕ) (i v : ℕ) → i < length table → Q i v → ((j : ℕ) → j < i → Q j (entry table j))
@@ -119,13 +99,13 @@ stored_next Q table i v l q h =
 
 -- ---- a loop over a set: of those that are not left, all are done
 
-module _ (Q : ℕ → Type 0) (all m r t : ℕ) (turn : (i : ℕ) → has m i ≡ (eqb t i || has r i)) where
+module _ (Q : ℕ → Type 0) (all : ℕ) {m t r : ℕ} (few : m < 2 ^ 64) (turn : Turn m t r) where
   pub done_next : Q t → ((i : ℕ) → eqb t i ≡ false → has all i ≡ true → has m i ≡ false → Q i) → (i : ℕ) → has all i ≡ true → has r i ≡ false → Q i
   done_next here there i h e = pick (eqb t i) refl
     where
       pick : (b : Bool) → eqb t i ≡ b → Q i
       pick true q = subst Q (eqb-true t i q) here
-      pick false q = there i q h (turn i ∙ ap₂ ◌||◌ q e)
+      pick false q = there i q h (turn-is few turn i ∙ ap₂ ◌||◌ q e)
 
 -- ---- the rows of a cut
 

@@ -7,8 +7,7 @@ ghost use Rattle.worlds.specs.code.Conditions.{ActiveBy};
 
 use crate::tables::Active;
 use crate::values::any_holds;
-use sets::numbers::wide;
-use sets::{bit, low, others};
+use sets::members::those;
 
 // The condition nodes of rules, a row for each kind; last how many defeaters an edge has.
 pub type Conditions = [[u8; 64]; 6];
@@ -29,16 +28,7 @@ pub const DEFEATERS: usize = 5;
 pub fn holding(conditions: &[u8; 64], rules: u64, values: &[bool; 256]) -> u64
     ensures { (i : ℕ) → has result i ≡ (has rules i && on values.now (entry conditions.now i)) }
 {
-    let mut found: u64 = 0;
-    let mut m = rules;
-    while m != 0 {
-        let i = low(m);
-        if values[wide(conditions[i])] {
-            found = found | bit(i as u8);
-        }
-        m = others(m);
-    }
-    found
+    those(rules, |i| values[usize::from(conditions[i])])
 }
 
 // Of these edges those that no active defeater holds back.
@@ -50,16 +40,7 @@ pub fn undefeated(
 ) -> u64
     ensures { (i : ℕ) → has result i ≡ (has edges i && not (any_of (on values.now) (take (entry counts.now i) (get_or defeaters.now i [])))) }
 {
-    let mut found: u64 = 0;
-    let mut m = edges;
-    while m != 0 {
-        let i = low(m);
-        if !any_holds(defeaters[i], counts[i], values) {
-            found = found | bit(i as u8);
-        }
-        m = others(m);
-    }
-    found
+    those(edges, |i| !any_holds(defeaters[i], counts[i], values))
 }
 
 // Step 1 and the activity of all rules: `known` what is the same in all worlds, `asked` the rules to be asked in this one.
@@ -81,6 +62,6 @@ pub fn active_rules(
             | holding(&conditions[ATTACHMENT], asked.attachments, values),
         bars: known.bars | holding(&conditions[BAR], asked.bars, values),
         statuses: known.statuses | holding(&conditions[STATUS], asked.statuses, values),
-        decisions: decisions,
+        decisions,
     }
 }

@@ -10,20 +10,18 @@ use crate::tables::{
     ANCHORS, ATTACHMENT_CITATIONS, BAR_CITATIONS, BARS, CUT_CITATIONS, Common, EDGE_CITATIONS,
     MEMBERS, MOVERS, PAIRS, STATUS_CITATIONS, STATUSES, Settled, Tables,
 };
-use sets::whole::whole_64_words;
+use sets::members::Members;
 use sets::{low, minus, others, subset};
 
-// Adds citations to the blocks of these persons.
+// Adds citations to the blocks of these persons. A turn takes a whole block, not the next person alone.
 fn cite_at(blocks: &[u64; 64], persons: u64, what: u64, cited: &mut [u64; 64])
     ensures { CitesIn blocks.now (λ b. only (meets persons b) what) cited.old cited.new }
 {
-    whole_64_words(*cited);
     let mut m = persons;
     while m != 0 {
         let b = blocks[low(m)];
         if b != 0 {
-            let k = low(b);
-            cited[k] = cited[k] | what;
+            cited[low(b)] |= what;
         }
         m = minus(others(m), b);
     }
@@ -33,19 +31,14 @@ fn cite_at(blocks: &[u64; 64], persons: u64, what: u64, cited: &mut [u64; 64])
 fn cite_edges(blocks: &[u64; 64], t: &Tables, frozen: u64, cited: &mut [u64; 64])
     ensures { CitesIn blocks.now (λ b. union_of (λ e. only (meets (row t.now 0 e) b && inside (row t.now 0 e) b) (row t.now 16 e)) (members frozen)) cited.old cited.new }
 {
-    whole_64_words(*cited);
-    let mut m = frozen;
-    while m != 0 {
-        let e = low(m);
+    for e in Members(frozen) {
         let pair = t[PAIRS][e];
         if pair != 0 {
             let b = blocks[low(pair)];
             if subset(pair, b) {
-                let k = low(b);
-                cited[k] = cited[k] | t[EDGE_CITATIONS][e];
+                cited[low(b)] |= t[EDGE_CITATIONS][e];
             }
         }
-        m = others(m);
     }
 }
 
@@ -53,11 +46,8 @@ fn cite_edges(blocks: &[u64; 64], t: &Tables, frozen: u64, cited: &mut [u64; 64]
 fn own_citations(t: &Tables, applied: u64, own: &mut [u64; 64])
     ensures { (p : ℕ) → entry own.new p ≡ union (entry own.old p) (own_of t.now applied p) }
 {
-    let mut m = applied;
-    while m != 0 {
-        let c = low(m);
+    for c in Members(applied) {
         give(own, t[MEMBERS][c], t[CUT_CITATIONS][c]);
-        m = others(m);
     }
 }
 
@@ -66,11 +56,9 @@ fn cite_one(blocks: &[u64; 64], p: usize, what: u64, cited: &mut [u64; 64])
     requires { p < 64 }
     ensures { CitesIn blocks.now (λ b. only (has b p) what) cited.old cited.new }
 {
-    whole_64_words(*cited);
     let b = blocks[p];
     if b != 0 {
-        let k = low(b);
-        cited[k] = cited[k] | what;
+        cited[low(b)] |= what;
     }
 }
 
@@ -84,9 +72,8 @@ fn cite_cuts(
 )
     ensures { CitesIn blocks.now (through pairs.now frozen (entry own.now)) cited.old cited.new }
 {
-    let mut m = frozen;
-    while m != 0 {
-        let pair = pairs[low(m)];
+    for e in Members(frozen) {
+        let pair = pairs[e];
         if pair != 0 {
             let l = low(pair);
             let more = others(pair);
@@ -98,7 +85,6 @@ fn cite_cuts(
                 cite_one(blocks, r, near, cited);
             }
         }
-        m = others(m);
     }
 }
 
@@ -106,19 +92,14 @@ fn cite_cuts(
 fn cite_attachments(blocks: &[u64; 64], t: &Tables, attachments: u64, cited: &mut [u64; 64])
     ensures { CitesIn blocks.now (λ b. union_of (λ i. only (has b (lowest (row t.now 12 i)) && meets (row t.now 11 i) b) (row t.now 18 i)) (members attachments)) cited.old cited.new }
 {
-    whole_64_words(*cited);
-    let mut m = attachments;
-    while m != 0 {
-        let i = low(m);
+    for i in Members(attachments) {
         let anchor = t[ANCHORS][i];
         if anchor != 0 {
             let b = blocks[low(anchor)];
             if b & t[MOVERS][i] != 0 {
-                let k = low(b);
-                cited[k] = cited[k] | t[ATTACHMENT_CITATIONS][i];
+                cited[low(b)] |= t[ATTACHMENT_CITATIONS][i];
             }
         }
-        m = others(m);
     }
 }
 
@@ -133,14 +114,11 @@ fn cite_named(
 )
     ensures { CitesIn blocks.now (λ b. union_of (λ i. only (meets (meet (entry named.now i) persons) b) (entry citations.now i)) (members rules)) cited.old cited.new }
 {
-    let mut m = rules;
-    while m != 0 {
-        let i = low(m);
+    for i in Members(rules) {
         let held = named[i] & persons;
         if held != 0 {
             cite_at(blocks, held, citations[i], cited);
         }
-        m = others(m);
     }
 }
 
@@ -154,15 +132,11 @@ fn hand_out(
 )
     ensures { CitedFor blocks.now cited.now own.now persons citations.old citations.new }
 {
-    whole_64_words(*citations);
-    let mut m = persons;
-    while m != 0 {
-        let p = low(m);
+    for p in Members(persons) {
         let b = blocks[p];
         if b != 0 {
-            citations[p] = citations[p] | cited[low(b)] | own[p];
+            citations[p] |= cited[low(b)] | own[p];
         }
-        m = others(m);
     }
 }
 

@@ -5,20 +5,17 @@ ghost use Rattle.worlds.specs.code.Over.{entry};
 ghost use Rattle.worlds.specs.code.Classes.{Alone, Joins, joinable};
 
 use crate::over::{gather, put};
+use sets::members::Members;
 use sets::persons::person_masks;
-use sets::whole::whole_64_words;
-use sets::{low, others, subset};
+use sets::{low, subset};
 
 // Each person of a set alone, and nobody at the others. As the whole sheet is taken at once, the compiler needs no look-up for a person.
 pub fn alone(classes: &mut [u64; 64], persons: u64)
     ensures { Alone persons classes.new }
 {
-    whole_64_words(*classes);
     let masks = person_masks();
-    let mut p: usize = 0;
-    while p < 64 {
+    for p in 0..64 {
         classes[p] = masks[p] & persons;
-        p = p + 1;
     }
 }
 
@@ -26,12 +23,9 @@ pub fn alone(classes: &mut [u64; 64], persons: u64)
 pub fn join(classes: &mut [u64; 64], set: u64)
     ensures { Joins (set ∷ []) classes.old classes.new }
 {
-    if set != 0 {
-        let first = classes[low(set)];
-        if !subset(set, first) {
-            let whole = gather(classes, set);
-            put(classes, whole, whole);
-        }
+    if set != 0 && !subset(set, classes[low(set)]) {
+        let whole = gather(classes, set);
+        put(classes, whole, whole);
     }
 }
 
@@ -39,13 +33,11 @@ pub fn join(classes: &mut [u64; 64], set: u64)
 pub fn join_pairs(classes: &mut [u64; 64], pairs: &[u64; 64], edges: u64, within: u64)
     ensures { Joins (map (joinable pairs.now within) (members edges)) classes.old classes.new }
 {
-    let mut m = edges;
-    while m != 0 {
-        let pair = pairs[low(m)];
+    for e in Members(edges) {
+        let pair = pairs[e];
         if subset(pair, within) {
             join(classes, pair);
         }
-        m = others(m);
     }
 }
 
@@ -54,12 +46,9 @@ pub fn classes_of(sets: &[u64]) -> [u64; 64]
     ensures { (p : ℕ) → p < 64 → entry result p ≡ close_of sets.now (one p) }
 {
     let mut classes = [0u64; 64];
-    alone(&mut classes, 0xffffffffffffffff);
-    let mut i: usize = 0;
-    while i < sets.len() {
-        let s = sets[i];
-        join(&mut classes, s);
-        i = i + 1;
+    alone(&mut classes, u64::MAX);
+    for &set in sets {
+        join(&mut classes, set);
     }
     classes
 }

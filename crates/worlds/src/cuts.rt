@@ -10,8 +10,8 @@ use crate::tables::{
     Active, BLOCKINGS, CLASHES, CLASHING, CROSSING, DROPPERS, LATER_CLASHING, LOWER_TWINS, MEMBERS,
     Noted, OPEN, OPEN_EDGES, SAID, SPREAD, TWINS, Tables,
 };
-use sets::whole::{whole_3_rows, whole_64_words};
-use sets::{low, minus, others};
+use sets::members::Members;
+use sets::minus;
 
 // Step 3: the active cuts that no active cut drops; drops are decided together.
 pub fn apply_cut_precedence(t: &Tables, active: u64) -> u64
@@ -42,17 +42,13 @@ pub fn blocked(t: &Tables, standing: u64, frozen: u64, decisions: u64, noted: &m
     ensures twins { result ≡ blocked_twins t.now frozen decisions (members standing) }
     ensures noted { Noted standing (blockers t.now frozen decisions) noted.old noted.new }
 {
-    whole_64_words(*noted);
-    let mut found: u64 = 0;
-    let mut m = standing;
-    while m != 0 {
-        let c = low(m);
+    let mut found = 0;
+    for c in Members(standing) {
         let edges = blocking(t, c, frozen, decisions);
         if edges != 0 {
-            noted[c] = noted[c] | edges;
-            found = found | t[TWINS][c];
+            noted[c] |= edges;
+            found |= t[TWINS][c];
         }
-        m = others(m);
     }
     found
 }
@@ -68,12 +64,8 @@ pub fn lowest_twins(t: &Tables, cuts: u64) -> u64
 pub fn note_clashes(t: &Tables, cuts: u64, noted: &mut [u64; 64])
     ensures { Noted cuts (λ c. meet (row t.now 6 c) cuts) noted.old noted.new }
 {
-    whole_64_words(*noted);
-    let mut m = cuts;
-    while m != 0 {
-        let c = low(m);
-        noted[c] = noted[c] | t[LATER_CLASHING][c] & cuts;
-        m = others(m);
+    for c in Members(cuts) {
+        noted[c] |= t[LATER_CLASHING][c] & cuts;
     }
 }
 
@@ -88,7 +80,6 @@ pub fn settle_cuts(t: &Tables, active: Active, noted: &mut Noted) -> CutsDone
     ensures cuts { CutsSettled t.now active result (get_or noted.old 1 []) (get_or noted.new 1 []) (get_or noted.old 2 []) (get_or noted.new 2 []) }
     ensures parts { get_or noted.new 0 [] ≡ get_or noted.old 0 [] }
 {
-    whole_3_rows(*noted);
     let left = apply_cut_precedence(t, active.cuts);
     let clash = overlapping(t, left);
     note_clashes(t, lowest_twins(t, clash), &mut noted[CLASHES]);

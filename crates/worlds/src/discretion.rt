@@ -5,8 +5,8 @@ ghost use Rattle.worlds.specs.code.Over.{entry};
 ghost use Rattle.worlds.specs.code.Discretion.{near, clique_by, loose_by, Component, HeadsBy, Renewed, LooseParts};
 
 use crate::over::{gather, give};
+use sets::members::Members;
 use sets::persons::person_mask;
-use sets::whole::whole_64_words;
 use sets::{low, minus, others, subset};
 
 // At each person the ends of these edges that hold the person.
@@ -14,11 +14,8 @@ fn neighbours(pairs: &[u64; 64], edges: u64) -> [u64; 64]
     ensures { (p : ℕ) → entry result p ≡ near pairs.now edges p }
 {
     let mut lead = [0u64; 64];
-    let mut m = edges;
-    while m != 0 {
-        let pair = pairs[low(m)];
-        give(&mut lead, pair, pair);
-        m = others(m);
+    for e in Members(edges) {
+        give(&mut lead, pairs[e], pairs[e]);
     }
     lead
 }
@@ -27,13 +24,10 @@ fn neighbours(pairs: &[u64; 64], edges: u64) -> [u64; 64]
 fn is_edge_clique(lead: &[u64; 64], set: u64) -> bool
     ensures { result ≡ clique_by (entry lead.now) set }
 {
-    let mut m = set;
-    while m != 0 {
-        let p = low(m);
+    for p in Members(set) {
         if !subset(set, person_mask(p as u8) | lead[p]) {
             return false;
         }
-        m = others(m);
     }
     true
 }
@@ -42,11 +36,7 @@ fn is_edge_clique(lead: &[u64; 64], set: u64) -> bool
 fn loose(lead: &[u64; 64], set: u64) -> bool
     ensures { result ≡ loose_by (entry lead.now) set }
 {
-    if u64::count_ones(set) > 2 {
-        !is_edge_clique(lead, set)
-    } else {
-        false
-    }
+    u64::count_ones(set) > 2 && !is_edge_clique(lead, set)
 }
 
 // A person, and all to whom the person is led, also through others.
@@ -71,30 +61,29 @@ pub struct Parted {
     pub fresh: u64,
 }
 
-// The components of these persons that are at discretion, each put into the table at its lowest person.
+// The components of these persons that are at discretion, each put into the table at its lowest person. A turn takes a whole component.
 fn heads(lead: &[u64; 64], persons: u64, parts: &mut [u64; 64]) -> Parted
     ensures heads { HeadsBy lead.now persons result.heads parts.new }
     ensures fresh { Renewed result.heads result.fresh parts.old parts.new }
 {
-    whole_64_words(*parts);
-    let mut found: u64 = 0;
-    let mut fresh: u64 = 0;
+    let mut found = 0;
+    let mut fresh = 0;
     let mut m = persons;
     while m != 0 {
         let p = low(m);
         let class = component(lead, p);
         if loose(lead, class) {
-            found = found | person_mask(p as u8);
+            found |= person_mask(p as u8);
             if parts[p] != class {
                 parts[p] = class;
-                fresh = fresh | person_mask(p as u8);
+                fresh |= person_mask(p as u8);
             }
         }
         m = minus(others(m), class);
     }
     Parted {
         heads: found,
-        fresh: fresh,
+        fresh,
     }
 }
 

@@ -14,30 +14,26 @@ use expressions::decisions::Undecided;
 use expressions::rules::ends;
 use records::plan::{Attachments, Bars, Cuts, Decisions, Edges, Statuses};
 use sets::bit;
-use sets::numbers::{upto, wide};
 use sets::persons::person_mask;
-use sets::whole::whole_21_rows;
 
 // One entry of a row.
 pub fn lay(t: &mut Tables, k: usize, i: usize, value: u64)
     requires { (k < 21) × (i < 64) }
     ensures { Laid k i value t.old t.new }
 {
-    whole_21_rows(*t);
-    t[k][i] = value;
+    let row = &mut t[k];
+    row[i] = value;
 }
 
 pub fn lay_edges(t: &mut Tables, edges: Edges)
     requires { All EdgeFits (edges_of edges) }
     ensures { EdgesLaid edges t.old t.new }
 {
-    let n = upto(edges.count, 64);
-    let mut i: usize = 0;
-    while i < n {
+    let n = edges.count.min(64);
+    for i in 0..n {
         let e = edges.items[i];
         lay(t, PAIRS, i, ends(e));
         lay(t, EDGE_CITATIONS, i, bit(e.citation));
-        i = i + 1;
     }
 }
 
@@ -46,16 +42,12 @@ fn said_blocked(decisions: Decisions) -> u64
     requires { All (λ d. d.edge < 64) (decisions_of decisions) }
     ensures { (e : ℕ) → has result e ≡ has_verdict e 1 (decisions_of decisions) }
 {
-    let n = upto(wide(decisions.count), 64);
-    let mut found: u64 = 0;
-    let mut i: usize = 0;
-    while i < n {
-        let e = decisions.edges[i];
-        let v = decisions.verdicts[i];
-        if v == 1 {
-            found = found | bit(e);
+    let n = usize::from(decisions.count).min(64);
+    let mut found = 0;
+    for i in 0..n {
+        if decisions.verdicts[i] == 1 {
+            found |= bit(decisions.edges[i]);
         }
-        i = i + 1;
     }
     found
 }
@@ -64,15 +56,12 @@ pub fn lay_cuts(t: &mut Tables, cuts: Cuts)
     requires { All CutFits (cuts_of cuts) }
     ensures { CutsLaid cuts t.old t.new }
 {
-    let n = upto(cuts.count, 16);
-    let mut i: usize = 0;
-    while i < n {
+    let n = cuts.count.min(16);
+    for i in 0..n {
         let c = cuts.items[i];
-        let decisions = c.decisions;
         lay(t, MEMBERS, i, c.members);
         lay(t, CUT_CITATIONS, i, bit(c.citation));
-        lay(t, SAID, i, said_blocked(decisions));
-        i = i + 1;
+        lay(t, SAID, i, said_blocked(c.decisions));
     }
 }
 
@@ -80,14 +69,12 @@ pub fn lay_attachments(t: &mut Tables, attachments: Attachments)
     requires { All AttachmentFits (attachments_of attachments) }
     ensures { AttachmentsLaid attachments t.old t.new }
 {
-    let n = upto(attachments.count, 32);
-    let mut i: usize = 0;
-    while i < n {
+    let n = attachments.count.min(32);
+    for i in 0..n {
         let a = attachments.items[i];
         lay(t, MOVERS, i, a.members);
         lay(t, ANCHORS, i, person_mask(a.anchor));
         lay(t, ATTACHMENT_CITATIONS, i, bit(a.citation));
-        i = i + 1;
     }
 }
 
@@ -95,13 +82,11 @@ pub fn lay_bars(t: &mut Tables, bars: Bars)
     requires { All BarFits (bars_of bars) }
     ensures { BarsLaid bars t.old t.new }
 {
-    let n = upto(bars.count, 32);
-    let mut i: usize = 0;
-    while i < n {
+    let n = bars.count.min(32);
+    for i in 0..n {
         let b = bars.items[i];
         lay(t, BARS, i, b.members);
         lay(t, BAR_CITATIONS, i, bit(b.citation));
-        i = i + 1;
     }
 }
 
@@ -109,13 +94,11 @@ pub fn lay_statuses(t: &mut Tables, statuses: Statuses)
     requires { All StatusFits (statuses_of statuses) }
     ensures { StatusesLaid statuses t.old t.new }
 {
-    let n = upto(statuses.count, 32);
-    let mut i: usize = 0;
-    while i < n {
+    let n = statuses.count.min(32);
+    for i in 0..n {
         let s = statuses.items[i];
         lay(t, STATUSES, i, person_mask(s.person));
         lay(t, STATUS_CITATIONS, i, bit(s.citation));
-        i = i + 1;
     }
 }
 
@@ -124,14 +107,10 @@ pub fn lay_decisions(t: &mut Tables, undecided: Undecided)
     requires { (undecided.count ≤ 16) × All OpenFits (opens_of undecided) }
     ensures { DecisionsLaid undecided t.old t.new }
 {
-    let n = undecided.count;
-    let mut i: usize = 0;
-    while i < n {
-        let c = wide(undecided.cuts[i]);
-        let e = undecided.edges[i];
-        lay(t, OPEN_EDGES, i, bit(e));
+    for i in 0..undecided.count {
+        let c = usize::from(undecided.cuts[i]);
+        lay(t, OPEN_EDGES, i, bit(undecided.edges[i]));
         let before = t[OPEN][c];
         lay(t, OPEN, c, before | bit(i as u8));
-        i = i + 1;
     }
 }

@@ -16,35 +16,24 @@ use expressions::decisions::Undecided;
 use expressions::groups::Groups;
 use expressions::influence::Influence;
 use records::plan::{Edges, Plan};
-use sets::numbers::upto;
-use sets::{bit, low, minus, others};
+use sets::members::{Members, those};
+use sets::minus;
 
 // The numbers below n.
 pub fn numbers_below(n: usize) -> u64
     ensures { n ≤ 64 → (i : ℕ) → has result i ≡ ltb i n }
 {
-    if n >= 64 {
-        0xffffffffffffffff
-    } else {
-        (1u64 << n) - 1
-    }
+    if n >= 64 { u64::MAX } else { (1u64 << n) - 1 }
 }
 
 // The Combination edges.
 pub fn combination_edges(edges: Edges) -> u64
     ensures { Combination edges result }
 {
-    let n = upto(edges.count, 64);
-    let mut found: u64 = 0;
-    let mut i: usize = 0;
-    while i < n {
-        let e = edges.items[i];
-        if e.combination {
-            found = found | bit(i as u8);
-        }
-        i = i + 1;
-    }
-    found
+    those(
+        numbers_below(edges.count.min(64)),
+        |i| edges.items[i].combination,
+    )
 }
 
 // How far a mark at each person of the roster spreads: over influence sets, then over the rules.
@@ -53,12 +42,8 @@ pub fn lay_spread(t: &mut Tables, rules: &[u64], influence: &[u64], roster: u64)
 {
     let by_rules = classes_of(rules);
     let by_influence = classes_of(influence);
-    let mut m = roster;
-    while m != 0 {
-        let p = low(m);
-        let reached = by_influence[p];
-        lay(t, SPREAD, p, gather(&by_rules, reached));
-        m = others(m);
+    for p in Members(roster) {
+        lay(t, SPREAD, p, gather(&by_rules, by_influence[p]));
     }
 }
 
@@ -67,18 +52,14 @@ pub fn common_of(plan: Plan, roster: u64) -> Common
     requires { Sound (plan_of plan) }
     ensures { CommonFor plan roster result }
 {
-    let edges = plan.edges;
-    let attachments = plan.attachments;
-    let bars = plan.bars;
-    let statuses = plan.statuses;
-    let all = numbers_below(upto(edges.count, 64));
-    let base = minus(all, combination_edges(edges));
+    let all = numbers_below(plan.edges.count.min(64));
+    let base = minus(all, combination_edges(plan.edges));
     Common {
-        roster: roster,
+        roster,
         base: if plan.chained { 0 } else { base },
-        attachments: numbers_below(upto(attachments.count, 32)),
-        bars: numbers_below(upto(bars.count, 32)),
-        statuses: numbers_below(upto(statuses.count, 32)),
+        attachments: numbers_below(plan.attachments.count.min(32)),
+        bars: numbers_below(plan.bars.count.min(32)),
+        statuses: numbers_below(plan.statuses.count.min(32)),
     }
 }
 
@@ -94,29 +75,21 @@ pub fn lay_tables(
     requires { Ready plan undecided groups }
     ensures { Made plan influence roster t.new }
 {
-    let edges = plan.edges;
-    let cuts = plan.cuts;
-    let attachments = plan.attachments;
-    let bars = plan.bars;
-    let statuses = plan.statuses;
-    let none = [0u64; 64];
-    t[OPEN] = none;
-    lay_edges(t, edges);
-    lay_cuts(t, cuts);
-    lay_attachments(t, attachments);
-    lay_bars(t, bars);
-    lay_statuses(t, statuses);
+    t[OPEN] = [0; 64];
+    lay_edges(t, plan.edges);
+    lay_cuts(t, plan.cuts);
+    lay_attachments(t, plan.attachments);
+    lay_bars(t, plan.bars);
+    lay_statuses(t, plan.statuses);
     lay_decisions(t, undecided);
-    let several = upto(cuts.count, 16);
+    let several = plan.cuts.count.min(16);
     let all = numbers_below(several);
-    let mut direct = [0u64; 64];
-    direct_precedence(cuts, &mut direct);
-    let mut preceded = [0u64; 64];
+    let mut direct = [0; 64];
+    direct_precedence(plan.cuts, &mut direct);
+    let mut preceded = [0; 64];
     chains(&direct, all, several, &mut preceded);
-    relate_cuts(t, &preceded, all, combination_edges(edges));
-    let sets = groups.sets;
-    let n = upto(groups.count, 144);
-    let reached = influence.sets;
-    let k = upto(influence.count, 80);
-    lay_spread(t, &sets[..n], &reached[..k], roster);
+    relate_cuts(t, &preceded, all, combination_edges(plan.edges));
+    let n = groups.count.min(144);
+    let k = influence.count.min(80);
+    lay_spread(t, &groups.sets[..n], &influence.sets[..k], roster);
 }

@@ -11,53 +11,18 @@ use crate::tables::{
     CLASHING, CROSSING, DROPPERS, LATER_CLASHING, LOWER_TWINS, MEMBERS, PAIRS, TWINS, Tables,
 };
 use records::plan::{Cuts, Numbers};
-use sets::numbers::{upto, wide};
-use sets::whole::whole_64_words;
-use sets::{bit, low, minus, others, rising_less};
-
-// Of these cuts those with just these members.
-fn equal_cuts(members: &[u64; 64], cuts: u64, set: u64) -> u64
-    ensures { (d : ℕ) → has result d ≡ (has cuts d && eqb set (entry members.now d)) }
-{
-    let mut found: u64 = 0;
-    let mut m = cuts;
-    while m != 0 {
-        let d = low(m);
-        if members[d] == set {
-            found = found | bit(d as u8);
-        }
-        m = others(m);
-    }
-    found
-}
-
-// Of these cuts those whose members come after a set, as rising lists.
-fn later_cuts(members: &[u64; 64], cuts: u64, set: u64) -> u64
-    ensures { (d : ℕ) → has result d ≡ (has cuts d && rising_less set (entry members.now d)) }
-{
-    let mut found: u64 = 0;
-    let mut m = cuts;
-    while m != 0 {
-        let d = low(m);
-        if rising_less(set, members[d]) {
-            found = found | bit(d as u8);
-        }
-        m = others(m);
-    }
-    found
-}
+use sets::members::{Members, those};
+use sets::{bit, minus, rising_less};
 
 // A list of numbers as a set.
 fn set_of(list: Numbers) -> u64
     requires { All (λ n. n < 64) (numbers_of list) }
     ensures { result ≡ set_of (numbers_of list) }
 {
-    let n = upto(wide(list.count), 16);
-    let mut all: u64 = 0;
-    let mut i: usize = 0;
-    while i < n {
-        all = all | bit(list.items[i]);
-        i = i + 1;
+    let n = usize::from(list.count).min(16);
+    let mut all = 0;
+    for &p in &list.items[..n] {
+        all |= bit(p);
     }
     all
 }
@@ -67,14 +32,9 @@ pub fn direct_precedence(cuts: Cuts, direct: &mut [u64; 64])
     requires { All PrecedesFit (cuts_of cuts) }
     ensures { Preceding cuts direct.new }
 {
-    whole_64_words(*direct);
-    let n = upto(cuts.count, 16);
-    let mut i: usize = 0;
-    while i < n {
-        let c = cuts.items[i];
-        let list = c.precedes;
-        direct[i] = set_of(list);
-        i = i + 1;
+    let n = cuts.count.min(16);
+    for i in 0..n {
+        direct[i] = set_of(cuts.items[i].precedes);
     }
 }
 
@@ -83,10 +43,8 @@ fn chain(direct: &[u64; 64], steps: usize, from: u64) -> u64
     ensures { result ≡ chain_by direct.now steps from }
 {
     let mut m = from;
-    let mut i: usize = 0;
-    while i < steps {
-        m = m | gather(direct, m);
-        i = i + 1;
+    for _step in 0..steps {
+        m |= gather(direct, m);
     }
     m
 }
@@ -95,13 +53,8 @@ fn chain(direct: &[u64; 64], steps: usize, from: u64) -> u64
 pub fn chains(direct: &[u64; 64], cuts: u64, steps: usize, preceded: &mut [u64; 64])
     ensures { Chained direct.now cuts steps preceded.new }
 {
-    whole_64_words(*preceded);
-    let mut m = cuts;
-    while m != 0 {
-        let c = low(m);
-        let own = direct[c];
-        preceded[c] = chain(direct, steps, own);
-        m = others(m);
+    for c in Members(cuts) {
+        preceded[c] = chain(direct, steps, direct[c]);
     }
 }
 
@@ -112,8 +65,8 @@ fn relate_cut(t: &mut Tables, preceded: &[u64; 64], c: usize, cuts: u64, combina
 {
     let own = t[MEMBERS][c];
     let sharing = meeting(&t[MEMBERS], cuts, own);
-    let twins = equal_cuts(&t[MEMBERS], cuts, own);
-    let later = later_cuts(&t[MEMBERS], sharing, own);
+    let twins = those(cuts, |d| own == t[MEMBERS][d]);
+    let later = those(sharing, |d| rising_less(own, t[MEMBERS][d]));
     let inward = meeting(&t[PAIRS], combination, own);
     let crossing = meeting(&t[PAIRS], inward, !own);
     let place = bit(c as u8);
@@ -131,9 +84,7 @@ fn relate_cut(t: &mut Tables, preceded: &[u64; 64], c: usize, cuts: u64, combina
 pub fn relate_cuts(t: &mut Tables, preceded: &[u64; 64], cuts: u64, combination: u64)
     ensures { CutsRelated preceded.now cuts combination t.old t.new }
 {
-    let mut m = cuts;
-    while m != 0 {
-        relate_cut(t, preceded, low(m), cuts, combination);
-        m = others(m);
+    for c in Members(cuts) {
+        relate_cut(t, preceded, c, cuts, combination);
     }
 }

@@ -9,14 +9,12 @@ use crate::tables::{
     ANCHORS, Active, BARS, Common, MOVERS, Noted, PAIRS, PARTS, SPREAD, STATUSES, Settled, Tables,
 };
 use sets::minus;
-use sets::whole::whole_3_rows;
 
 // All that a world says by sets: marks, cuts, attachments, bars, statuses. The notes take its components at discretion, and what blocks and
 // clashes is added to them.
 pub fn settle(t: &Tables, common: Common, active: Active, noted: &mut Noted) -> Settled
     ensures { Settles t.now common active result (get_or noted.old 0 []) (get_or noted.new 0 []) (get_or noted.old 1 []) (get_or noted.new 1 []) (get_or noted.old 2 []) (get_or noted.new 2 []) }
 {
-    whole_3_rows(*noted);
     let parted = loose_parts(&t[PAIRS], active.frozen & common.base, &mut noted[PARTS]);
     let loose = gather(&noted[PARTS], parted.heads);
     let discretion = gather(&t[SPREAD], loose);
@@ -28,12 +26,12 @@ pub fn settle(t: &Tables, common: Common, active: Active, noted: &mut Noted) -> 
     Settled {
         heads: parted.heads,
         fresh: parted.fresh,
-        discretion: discretion,
+        discretion,
         overlap: cuts.overlap,
         applied: cuts.applied,
-        moved: moved,
-        attached: attached,
-        barring: barring,
+        moved,
+        attached,
+        barring,
         barred: gather(&t[BARS], barring),
         excluded: gather(&t[STATUSES], active.statuses),
     }

@@ -4,11 +4,11 @@ ghost use Rattle.worlds.specs.code.Over.{entry, Marked};
 ghost use Rattle.worlds.specs.code.Blocks.{CutInto, Regrouped, MovedTo, Frozen, Cut, Attached, Blanked, SeenBy};
 
 use crate::classes::{alone, join_pairs};
-use crate::over::{gather, mark, put};
+use crate::over::{gather, put};
 use crate::tables::{ANCHORS, Active, Common, MEMBERS, MOVERS, PAIRS, Settled, Tables};
+use sets::members::Members;
 use sets::persons::has_person;
-use sets::whole::whole_64_words;
-use sets::{low, minus, others, subset};
+use sets::{low, minus, subset};
 
 // At each person the block and the role (0 none, 1 member, 2 excluded, 3 barred), or the kind of the mark (3 overlap, 4 discretion).
 #[derive(Drop)]
@@ -34,12 +34,10 @@ fn cut_blocks(blocks: &mut [u64; 64], members: &[u64; 64], applied: u64, placed:
     ensures { CutInto members.now applied placed blocks.old blocks.new result }
 {
     let mut rest = placed;
-    let mut m = applied;
-    while m != 0 {
-        let part = members[low(m)] & placed;
+    for c in Members(applied) {
+        let part = members[c] & placed;
         put(blocks, part, part);
         rest = minus(rest, part);
-        m = others(m);
     }
     rest
 }
@@ -48,16 +46,12 @@ fn cut_blocks(blocks: &mut [u64; 64], members: &[u64; 64], applied: u64, placed:
 fn regroup(blocks: &mut [u64; 64], persons: u64, target: u64, movers: u64)
     ensures { Regrouped persons target movers blocks.old blocks.new }
 {
-    whole_64_words(*blocks);
-    let mut m = persons;
-    while m != 0 {
-        let p = low(m);
-        if has_person(target, p as u8) {
-            blocks[p] = target;
+    for p in Members(persons) {
+        blocks[p] = if has_person(target, p as u8) {
+            target
         } else {
-            blocks[p] = minus(blocks[p], movers);
-        }
-        m = others(m);
+            minus(blocks[p], movers)
+        };
     }
 }
 
@@ -76,7 +70,7 @@ impl World {
     pub fn freeze(mut self, discretion: u64) -> World
         ensures { Frozen discretion self result }
     {
-        mark(&mut self.kinds, discretion, 4);
+        put(&mut self.kinds, discretion, 4);
         self
     }
 
@@ -85,8 +79,8 @@ impl World {
     pub fn cut(mut self, t: &Tables, frozen: u64, overlap: u64, applied: u64, placed: u64) -> World
         ensures { Cut t.now frozen overlap applied placed self result }
     {
-        mark(&mut self.kinds, overlap, 3);
-        mark(&mut self.roles, placed, 1);
+        put(&mut self.kinds, overlap, 3);
+        put(&mut self.roles, placed, 1);
         alone(&mut self.blocks, placed);
         let rest = cut_blocks(&mut self.blocks, &t[MEMBERS], applied, placed);
         join_pairs(&mut self.blocks, &t[PAIRS], frozen, rest);
@@ -97,16 +91,13 @@ impl World {
     pub fn attach(mut self, t: &Tables, moved: u64, placed: u64) -> World
         ensures { Attached t.now moved placed self result }
     {
-        let mut m = moved;
-        while m != 0 {
-            let i = low(m);
+        for i in Members(moved) {
             let anchor = t[ANCHORS][i] & placed;
             if anchor != 0 {
                 let movers = t[MOVERS][i] & placed;
                 let block = self.blocks[low(anchor)];
                 move_to(&mut self.blocks, block, movers);
             }
-            m = others(m);
         }
         self
     }
@@ -115,7 +106,7 @@ impl World {
     pub fn bar(mut self, barred: u64) -> World
         ensures { (result.blocks ≡ self.blocks) × (result.kinds ≡ self.kinds) × Marked barred 3 self.roles result.roles }
     {
-        mark(&mut self.roles, barred, 3);
+        put(&mut self.roles, barred, 3);
         self
     }
 
@@ -123,7 +114,7 @@ impl World {
     pub fn status(mut self, excluded: u64) -> World
         ensures { (result.blocks ≡ self.blocks) × (result.kinds ≡ self.kinds) × Marked excluded 2 self.roles result.roles }
     {
-        mark(&mut self.roles, excluded, 2);
+        put(&mut self.roles, excluded, 2);
         self
     }
 }

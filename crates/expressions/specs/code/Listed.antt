@@ -1,6 +1,6 @@
 -- All rules of a plan in one list, in the order edges, cuts, attachments, bars, statuses: the facts that each uses, and whom it holds.
 use Rattle.std.specs.Prelude.{◌≡◌, List, [], ◌∷◌, ◌++◌, map, ℕ, ◌+◌, ◌≤◌, length, get_or, take}
-use Rattle.sets.specs.paper.Sets.{one, union, has, only, below}
+use Rattle.sets.specs.paper.Sets.{one, union, has, only, below, All}
 use Rattle.records.specs.paper.Plan.{Plan, Fact, Cut, Attachment, Bar, Status}
 use Rattle.expressions.specs.paper.Rules.{rule_sets}
 use Rattle.expressions.specs.paper.Influence.{edge_used, touched_with}
@@ -83,6 +83,14 @@ pub record Added (before after : Rules) (us ps : List ℕ) : Type 0 where
   pub count : after.count ≡ before.count + length us
   pub uses : uses_of after ≡ uses_of before ++ us
   pub persons : persons_of after ≡ persons_of before ++ ps
+
+-- whatever `says` answers of x, g x are the facts that it uses and h x whom it holds
+abbrev pub Tells : {A : Type 0} → (A → ℕ × ℕ → Type 0) → (A → ℕ) → (A → ℕ) → A → Type 0
+Tells says g h x = (r : ℕ × ℕ) → says x r → (r.0 ≡ g x) × (r.1 ≡ h x)
+
+-- rules put there for these records, each as `says` answers
+pub record Ruled {A : Type 0} (says : A → ℕ × ℕ → Type 0) (xs : List A) (before after : Rules) : Type 0 where
+  pub added : (g h : A → ℕ) → All (Tells says g h) xs → Added before after (map g xs) (map h xs)
 
 -- the rules that a closing goes by, and all rules of a plan
 pub record Joining (P : Plan) (at : ℕ → ℕ) (r : Rules) : Type 0 where

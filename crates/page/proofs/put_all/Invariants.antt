@@ -5,8 +5,5 @@ use lib.ListN.{length, drop}
 use Rattle.page.specs.Page.{Page, puts}
 use Rattle.page.proofs.put_all.Given as goal
 
-abbrev pub invariant-loop-i : goal.invariant-loop-i
-invariant-loop-i l = (l.i ≤ length l.text) × (length l.out ≡ length l.initial.out) × (◌≡◌ {A = Page} (puts (record { count = l.next; out = l.out }) (drop l.i l.text)) (puts (record { count = l.at; out = l.initial.out }) l.text))
-
-abbrev pub decreases-loop-i : goal.decreases-loop-i
-decreases-loop-i l = length l.text - l.i
+abbrev pub invariant-loop-byte : goal.invariant-loop-byte
+invariant-loop-byte l = (l.byte-index ≤ length l.text) × (length l.out ≡ length l.initial.out) × (◌≡◌ {A = Page} (puts (record { count = l.next; out = l.out }) (drop l.byte-index l.text)) (puts (record { count = l.at; out = l.initial.out }) l.text))

@@ -13,7 +13,6 @@ use crate::checked::Checked;
 use crate::plan::checks::naming::boolean_facts;
 use crate::plan::counts::count_records;
 use crate::plan::{Facts, Plan};
-use sets::numbers::{upto, wide};
 use sets::{bit, contains, union};
 
 // How many records of each kind a case has, whatever its count fields say.
@@ -30,24 +29,22 @@ pub fn count_case(case: Case) -> CaseCounts
     ensures { CaseCountsOf (case_of case) result × CaseCountLimits result }
 {
     CaseCounts {
-        headings: upto(case.headings, 1),
-        families: upto(case.families.count, 16),
-        booleans: upto(case.booleans.count, 64),
-        relations: upto(case.relations.count, 256),
-        constraints: upto(case.constraints.count, 16),
+        headings: case.headings.min(1),
+        families: case.families.count.min(16),
+        booleans: case.booleans.count.min(64),
+        relations: case.relations.count.min(256),
+        constraints: case.constraints.count.min(16),
     }
 }
 
 pub fn has_family(families: Families, number: u8) -> bool
     ensures { result ≡ any_of (same_family number) (families_of families) }
 {
-    let count = upto(families.count, 16);
-    let mut i: usize = 0;
-    while i < count {
+    let count = families.count.min(16);
+    for i in 0..count {
         if families.items[i].number == number {
             return true;
         }
-        i = i + 1;
     }
     false
 }
@@ -56,15 +53,13 @@ pub fn has_family(families: Families, number: u8) -> bool
 pub fn relation_facts(facts: Facts, families: Families) -> u64
     ensures { RelationFacts facts families result }
 {
-    let count = upto(facts.count, 64);
+    let count = facts.count.min(64);
     let mut m: u64 = 0;
-    let mut k: usize = 0;
-    while k < count {
+    for k in 0..count {
         let fact = facts.items[k];
         if !fact.boolean && has_family(families, fact.family) {
             m = union(m, bit(k as u8));
         }
-        k = k + 1;
     }
     m
 }
@@ -73,16 +68,14 @@ fn boolean_faults(set: u64, booleans: Booleans, first: usize) -> Checked
     requires { first ≤ 1000 }
     ensures { BooleansNamed set booleans first result }
 {
-    let count = upto(booleans.count, 64);
-    let mut k: usize = 0;
-    while k < count {
+    let count = booleans.count.min(64);
+    for k in 0..count {
         if !contains(set, booleans.items[k].fact) {
             return Checked::Refused {
                 number: 4,
                 record: first + k,
             };
         }
-        k = k + 1;
     }
     Checked::Accepted
 }
@@ -91,16 +84,14 @@ fn relation_faults(set: u64, relations: Relations, first: usize) -> Checked
     requires { first ≤ 1000 }
     ensures { RelationsNamed set relations first result }
 {
-    let count = upto(relations.count, 256);
-    let mut k: usize = 0;
-    while k < count {
+    let count = relations.count.min(256);
+    for k in 0..count {
         if !contains(set, relations.items[k].fact) {
             return Checked::Refused {
                 number: 4,
                 record: first + k,
             };
         }
-        k = k + 1;
     }
     Checked::Accepted
 }
@@ -109,16 +100,14 @@ fn constraint_faults(nodes: usize, constraints: Constraints, first: usize) -> Ch
     requires { first ≤ 1000 }
     ensures { ConstraintsNamed nodes constraints first result }
 {
-    let count = upto(constraints.count, 16);
-    let mut k: usize = 0;
-    while k < count {
-        if wide(constraints.items[k]) >= nodes {
+    let count = constraints.count.min(16);
+    for k in 0..count {
+        if usize::from(constraints.items[k]) >= nodes {
             return Checked::Refused {
                 number: 4,
                 record: first + k,
             };
         }
-        k = k + 1;
     }
     Checked::Accepted
 }

@@ -7,18 +7,15 @@ ghost use Rattle.records.specs.code.Readers.{bytes_from};
 
 use crate::case::Observations;
 use crate::plan::{Decisions, Numbers};
-use sets::numbers::wide;
 
 pub fn numbers_from(s: &[u8], first: usize, count: u8) -> Numbers
     requires { (count ≤ 16) × (first + count ≤ length s.now) }
     ensures { numbers_of result ≡ bytes_from s.now first count }
 {
-    let n = wide(count);
+    let n = usize::from(count);
     let mut items = [0u8; 16];
-    let mut i: usize = 0;
-    while i < n {
+    for i in 0..n {
         items[i] = s[first + i];
-        i = i + 1;
     }
     Numbers {
         count: count,
@@ -30,12 +27,10 @@ pub fn tuple_from(s: &[u8], first: usize, count: u8) -> [u8; 4]
     requires { (count ≤ 4) × (first + count ≤ length s.now) }
     ensures { take count result ≡ bytes_from s.now first count }
 {
-    let n = wide(count);
+    let n = usize::from(count);
     let mut items = [0u8; 4];
-    let mut i: usize = 0;
-    while i < n {
+    for i in 0..n {
         items[i] = s[first + i];
-        i = i + 1;
     }
     items
 }
@@ -44,14 +39,12 @@ pub fn decisions_from(s: &[u8], first: usize, count: u8) -> Decisions
     requires { (count ≤ 64) × (first + count * 2 ≤ length s.now) }
     ensures { (decisions_of result ≡ paper.decisions_from (bytes_from s.now first (count * 2))) × (result.count ≡ count) }
 {
-    let n = wide(count);
+    let n = usize::from(count);
     let mut edges = [0u8; 64];
     let mut verdicts = [0u8; 64];
-    let mut i: usize = 0;
-    while i < n {
+    for i in 0..n {
         edges[i] = s[first + i * 2];
         verdicts[i] = s[first + i * 2 + 1];
-        i = i + 1;
     }
     Decisions {
         count: count,
@@ -64,14 +57,12 @@ pub fn observations_from(s: &[u8], first: usize, count: u8) -> Observations
     requires { (count ≤ 16) × (first + count * 2 ≤ length s.now) }
     ensures { observations_of result ≡ case.observations_from (bytes_from s.now first (count * 2)) }
 {
-    let n = wide(count);
+    let n = usize::from(count);
     let mut values = [0u8; 16];
     let mut evidence = [0u8; 16];
-    let mut i: usize = 0;
-    while i < n {
+    for i in 0..n {
         values[i] = s[first + i * 2];
         evidence[i] = s[first + i * 2 + 1];
-        i = i + 1;
     }
     Observations {
         count: count,

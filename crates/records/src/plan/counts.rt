@@ -3,7 +3,6 @@ ghost use Rattle.records.specs.code.Decoded.{plan_of};
 ghost use Rattle.records.specs.code.Named.{CountsOf, CountLimits};
 
 use crate::plan::Plan;
-use sets::numbers::upto;
 
 #[derive(Clone, Copy)]
 pub struct Counts {
@@ -21,13 +20,13 @@ pub fn count_records(plan: Plan) -> Counts
     ensures { CountsOf (plan_of plan) result × CountLimits result }
 {
     Counts {
-        headings: upto(plan.headings, 1),
-        facts: upto(plan.facts.count, 64),
-        nodes: upto(plan.nodes.count, 256),
-        edges: upto(plan.edges.count, 64),
-        cuts: upto(plan.cuts.count, 16),
-        attachments: upto(plan.attachments.count, 32),
-        bars: upto(plan.bars.count, 32),
-        statuses: upto(plan.statuses.count, 32),
+        headings: plan.headings.min(1),
+        facts: plan.facts.count.min(64),
+        nodes: plan.nodes.count.min(256),
+        edges: plan.edges.count.min(64),
+        cuts: plan.cuts.count.min(16),
+        attachments: plan.attachments.count.min(32),
+        bars: plan.bars.count.min(32),
+        statuses: plan.statuses.count.min(32),
     }
 }

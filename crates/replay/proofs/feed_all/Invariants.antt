@@ -6,6 +6,3 @@ use Rattle.replay.proofs.feed_all.Given as goal
 
 abbrev pub invariant-loop-i : goal.invariant-loop-i
 invariant-loop-i l = (l.i ≤ length l.chunk) × (length l.store ≡ length l.initial.store) × (length l.lines ≡ length l.initial.lines) × (length l.events ≡ length l.initial.events)
-
-abbrev pub decreases-loop-i : goal.decreases-loop-i
-decreases-loop-i l = length l.chunk - l.i

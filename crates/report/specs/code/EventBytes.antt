@@ -1,10 +1,8 @@
 -- Events as bytes in the lent buffer.
-use Rattle.std.specs.Prelude.{◌≡◌, true, ℕ, zero, suc, ◌+◌, ◌*◌, ◌^◌, ◌<◌, length, take, drop, map}
+use Rattle.std.specs.Prelude.{◌≡◌, true, ℕ, zero, suc, ◌+◌, ◌*◌, ◌<◌, length, take, drop}
 use mathlib.Core.List.{List, [], ◌∷◌, ◌++◌, flat_map}
-use Rattle.sets.specs.paper.Sets.{has, size, members}
-use Rattle.worlds.specs.paper.Events.{event}
+use Rattle.sets.specs.paper.Sets.{has, size}
 use Rattle.report.specs.paper.EventList.{event_length}
-use Rattle.report.specs.declared.event.Event.{Event}
 
 -- the numbers of a set are below n
 abbrev pub Below : ℕ → ℕ → Type 0
@@ -24,8 +22,3 @@ chunks (suc n) s = take event_length s ∷ chunks n (drop event_length s)
 unfoldable pub sizes : ℕ → (ℕ → ℕ) → ℕ
 sizes zero sets = 0
 sizes (suc n) sets = sizes n sets + size (sets n)
-
--- one event for each second number; the numbers are of a mask
-pub record PairsWritten (at : ℕ) (first : Event) (seconds : ℕ) (before after : List ℕ) (next : ℕ) : Type 0 where
-  pub fits : seconds < 2 ^ 64
-  pub written : Writes at (map (λ b. event first.kind first.a b first.c first.mask) (members seconds)) before after next

@@ -15,12 +15,6 @@ use Rattle.report.specs.paper.EventList.{event_length}
 use Rattle.report.specs.code.Happened.{happened}
 use Rattle.report.specs.code.EventBytes.{Below, sizes}
 
--- the first n bytes moved up by so many; what lies behind stays
-pub record Shifted (n by : ℕ) (before after : List ℕ) : Type 0 where
-  pub moved : take n (drop by after) ≡ take n before
-  pub behind : drop (n + by) after ≡ drop (n + by) before
-  pub long : length after ≡ length before
-
 -- the events of kinds 1 to 8, in order: `happened` with no components
 unfoldable pub by_rules : paper.Plan → case.Case → List (List ℕ) → List (List ℕ) → ℕ → List (List ℕ)
 by_rules P C sums noted defaults =

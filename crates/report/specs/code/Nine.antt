@@ -1,7 +1,7 @@
 -- Events of kind 9 as they are kept while worlds go by: rising, without repeats, at the start of the lent buffer.
-use Rattle.std.specs.Prelude.{◌≡◌, Bool, true, false, cond, ℕ, ◌+◌, ◌*◌, ◌-◌, ◌<◌, ◌≤◌, length, replicate, take, drop, eqb, ltb}
+use Rattle.std.specs.Prelude.{◌≡◌, true, false, ℕ, ◌+◌, ◌*◌, ◌-◌, ◌<◌, ◌≤◌, length, replicate, take, drop, Result, MatchResult}
 use mathlib.Core.List.{List, [], ◌∷◌, ◌++◌, map, flat_map}
-use Rattle.sets.specs.paper.Sets.{lex_less, any_of, members, All}
+use Rattle.sets.specs.paper.Sets.{members, All}
 use Rattle.worlds.specs.paper.Events.{event}
 use Rattle.worlds.specs.code.Over.{entry}
 use Rattle.report.specs.paper.EventList.{event_length, insert, rising}
@@ -9,30 +9,10 @@ use Rattle.report.specs.code.Happened.{Rises}
 use Rattle.report.specs.code.EventBytes.{chunks}
 use Rattle.report.specs.declared.nine.Listing.{Listing}
 
--- 0 less, 1 equal, 2 greater, of lists of one length
-unfoldable pub order : List ℕ → List ℕ → ℕ
-order [] ys = 1
-order (x ∷ xs) [] = 1
-order (x ∷ xs) (y ∷ ys) = cond (ltb x y) 0 (cond (ltb y x) 2 (order xs ys))
-
-abbrev pub stands : List ℕ → List (List ℕ) → Bool
-stands e es = any_of (λ f. eqb (order f e) 1) es
-
--- the event at a place, places counted from 0
-abbrev pub chunk : ℕ → List ℕ → List ℕ
-chunk i s = take event_length (drop (i * event_length) s)
-
--- where an event belongs among the first n: all before the place are less, and the one at it, if there is one, is not
-pub record PlaceOf (n : ℕ) (e s : List ℕ) (r : ℕ) : Type 0 where
-  pub few : r ≤ n
-  pub less : Rises (chunks n s) → All (λ f. lex_less f e ≡ true) (chunks r s)
-  pub rest : r < n → order (chunk r s) e ≡ 0 → ⊥
-
--- the bytes of a range stand an event's length further on, over those behind it; before them nothing changes
-pub record MovedUp (from end : ℕ) (before after : List ℕ) : Type 0 where
-  pub below : take (from + event_length) after ≡ take (from + event_length) before
-  pub above : drop (from + event_length) after ≡ take (end - from) (drop from before) ++ drop (end + event_length) before
-  pub long : length after ≡ length before
+-- where an event stands among the first n, which rise, or else where it belongs
+pub record PlaceOf (n : ℕ) (e s : List ℕ) (r : Result ℕ ℕ) : Type 0 where
+  pub within : MatchResult r (λ i. i < n) (λ i. i ≤ n)
+  pub at : Rises (chunks n s) → MatchResult r (λ i. insert e (chunks n s) ≡ chunks n s) (λ i. insert e (chunks n s) ≡ take i (chunks n s) ++ (e ∷ drop i (chunks n s)))
 
 -- an event put among rising ones; what lies behind them is not touched
 pub record Inserted (n : ℕ) (e before after : List ℕ) (r : ℕ) : Type 0 where

@@ -5,8 +5,5 @@ use lib.ListN.{length, drop}
 use Rattle.sets.specs.paper.Sets.{pass}
 use Rattle.sets.proofs.pass.Given as goal
 
-abbrev pub invariant-loop-i : goal.invariant-loop-i
-invariant-loop-i l = (l.i ≤ length l.sets) × (pass (drop l.i l.sets) l.m ≡ pass l.sets l.seed)
-
-abbrev pub decreases-loop-i : goal.decreases-loop-i
-decreases-loop-i l = length l.sets - l.i
+abbrev pub invariant-loop-s : goal.invariant-loop-s
+invariant-loop-s l = (l.s-index ≤ length l.sets) × (pass (drop l.s-index l.sets) l.m ≡ pass l.sets l.seed)

@@ -1,5 +1,5 @@
 -- The code's tables of conditions, and the activity of rules as masks.
-use Rattle.std.specs.Prelude.{◌≡◌, Bool, true, false, List, [], ◌∷◌, ℕ, ◌<◌, get_or, take}
+use Rattle.std.specs.Prelude.{◌≡◌, Bool, true, false, List, [], ℕ, ◌<◌, get_or, take}
 use Rattle.sets.specs.paper.Sets.{has}
 use Rattle.records.specs.paper.Plan.{Plan}
 use Rattle.records.specs.promises.Sound.{Sound}
@@ -7,10 +7,7 @@ use Rattle.expressions.specs.paper.Rules.{edge_count, cut_count, attachment_coun
 use Rattle.expressions.specs.paper.Nodes.{on}
 use Rattle.expressions.specs.paper.Variables.{Values}
 use Rattle.worlds.specs.paper.Active as paper
-use Rattle.records.specs.code.Decoded.{edges_of}
-use Rattle.records.specs.declared.plan.Edges.{Edges}
 use Rattle.worlds.specs.code.Tables.{row, TellsActive}
-use Rattle.worlds.specs.code.Laid.{Row, Same}
 use Rattle.worlds.specs.code.Valued.{Valued}
 use Rattle.worlds.specs.declared.tables.Active.{Active}
 
@@ -22,16 +19,6 @@ pub record Conditioned (P : Plan) (conditions defeaters : List (List ℕ)) : Typ
   pub bars : (i : ℕ) → i < bar_count P → row conditions 3 i ≡ (bar P i).condition
   pub statuses : (i : ℕ) → i < status_count P → row conditions 4 i ≡ (status P i).condition
   pub against : (i : ℕ) → i < edge_count P → take (row conditions 5 i) (get_or defeaters i []) ≡ (edge P i).defeaters
-
--- the edges' part of it, and a row of another kind
-pub record EdgeConditions (edges : Edges) (before after defeaters : List (List ℕ)) : Type 0 where
-  pub conditions : (P : Plan) → P.edges ≡ edges_of edges → Row after 0 (edge_count P) (λ i. (edge P i).condition)
-  pub against : (P : Plan) → P.edges ≡ edges_of edges → (i : ℕ) → i < edge_count P → take (row after 5 i) (get_or defeaters i []) ≡ (edge P i).defeaters
-  pub same : Same (0 ∷ 5 ∷ []) before after
-
-pub record ConditionsOf (k : ℕ) (Has : Plan → Type 0) (count : Plan → ℕ) (condition : Plan → ℕ → ℕ) (before after : List (List ℕ)) : Type 0 where
-  pub conditions : (P : Plan) → Has P → Row after k (count P) (condition P)
-  pub same : Same (k ∷ []) before after
 
 -- a mask of rules that is right for all that are not asked, and leaves those out that are
 pub record Split (n : ℕ) (answers : ℕ → Bool) (known asked : ℕ) : Type 0 where

@@ -6,9 +6,9 @@ use Rattle.sets.specs.paper.Sets.{has, union}
 abbrev pub entry : List ℕ → ℕ → ℕ
 entry table i = get_or table i 0
 
--- the same value at each number of a set, the others as they were
-pub record Marked (set value : ℕ) (before after : List ℕ) : Type 0 where
-  pub at : (i : ℕ) → entry after i ≡ cond (has set i) value (entry before i)
+-- the same value at each number of a set, the others as they were; `past` stands for what is not in the table
+pub record Marked {A : Type 0} (set : ℕ) (value : A) (before after : List A) : Type 0 where
+  pub at : (i : ℕ) (past : A) → get_or after i past ≡ cond (has set i) value (get_or before i past)
 
 -- the same set added at each number of a set
 pub record Given (set more : ℕ) (before after : List ℕ) : Type 0 where

@@ -10,7 +10,6 @@ use Rattle.billing.proofs.fields.block_of.Goals as goal
 pub returns : goal.returns
 unfolding little bytes_from
 returns c =
-    let k = c in
-    let s = k.args.line.now in
-    let e : little (bytes_from s 3 8) ≡ little (take 8 (drop 3 s)) = ap little (bytes_taken s 3 8 k.requires) in
-    omega (arith, e)
+    let s = c.args.line.now in
+    let e : little (bytes_from s 3 8) ≡ little (take 8 (drop 3 s)) = ap little (bytes_taken s 3 8 c.requires) in
+    omega (arith, e, c.from_le_bytes.ensures)

@@ -12,6 +12,3 @@ abbrev pub invariant-loop-i : goal.invariant-loop-i
 invariant-loop-i l =
     let ls = lines_from l.lines 0 l.n in
     (l.i ≤ l.units.count) × (l.blocks ≡ made_of 0 (λ b. b) (units_of ls) l.i) × (l.cents ≡ made_of 0 (pool_of (shares ls l.amounts)) (units_of ls) l.i) × (l.marks ≡ made_of false (mark_of ls) (units_of ls) l.i)
-
-abbrev pub decreases-loop-i : goal.decreases-loop-i
-decreases-loop-i l = l.units.count - l.i

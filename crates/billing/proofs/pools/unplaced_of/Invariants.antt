@@ -1,13 +1,7 @@
--- `pools::unplaced_of`: with what the lines left leave unplaced, the sum is found.
-use mathlib.Core.Path.{◌≡◌}
-use Prim.Native.Nat.{◌≤◌, ◌+◌, ◌*◌, ◌-◌}
-use Rattle.report.specs.paper.LineAt.{lines_from}
-use Rattle.billing.specs.paper.Pools.{shares, unplaced}
-use Rattle.billing.proofs.PoolLaws.{shares_from_lem}
+-- `pools::unplaced_of`: the test is that of the definition.
+use mathlib.Core.Bool.{not}
+use Rattle.billing.specs.paper.Pools.{pooled}
 use Rattle.billing.proofs.pools.unplaced_of.Given as goal
 
-abbrev pub invariant-loop-k : goal.invariant-loop-k
-invariant-loop-k l = (l.k ≤ l.n) × (l.sum ≤ l.k * 4294967295) × (l.sum + unplaced (shares_from_lem l.lines l.amounts l.k l.n) ≡ unplaced (shares (lines_from l.lines 0 l.n) l.amounts))
-
-abbrev pub decreases-loop-k : goal.decreases-loop-k
-decreases-loop-k l = l.n - l.k
+abbrev pub ghost-sum_where : goal.ghost-sum_where
+ghost-sum_where a = λ l. not (pooled l)

@@ -7,6 +7,3 @@ use Rattle.exports.proofs.pools.mark_bytes.Given as goal
 
 abbrev pub invariant-loop-i : goal.invariant-loop-i
 invariant-loop-i l = (l.i ≤ 64) × (l.bytes ≡ made_of 0 (λ b. only b 1) l.marks l.i)
-
-abbrev pub decreases-loop-i : goal.decreases-loop-i
-decreases-loop-i l = 64 - l.i

@@ -8,6 +8,3 @@ use Rattle.expressions.proofs.bindable.appears.Given as goal
 
 abbrev pub invariant-loop-i : goal.invariant-loop-i
 invariant-loop-i l = (l.i ≤ length l.numbers) × (any_of (λ (e : ℕ). eqb e l.number) (drop l.i l.numbers) ≡ any_of (λ (e : ℕ). eqb e l.number) l.numbers)
-
-abbrev pub decreases-loop-i : goal.decreases-loop-i
-decreases-loop-i l = length l.numbers - l.i

@@ -18,8 +18,8 @@ returns-in_default c =
     let u = c in
     let s = u in
     let C = case_of s.args.case in
-    let e : u.upto-first.result ≡ families_at C = u.upto-first.ensures.0 ∙ sym (length-take s.args.case.headings _) in
-    refused-stands r.result (booleans_checked C) c.in_default.is ∙ bindable-first C u.upto-first.result r.result e r.ensures
+    let e : u.min-first.result ≡ families_at C = u.min-first.ensures ∙ sym (length-take s.args.case.headings _) in
+    refused-stands r.result (booleans_checked C) c.in_default.is ∙ bindable-first C u.min-first.result r.result e r.ensures
 
 -- src/bindable.rt:112:5
 -- src/bindable.rt:101:1
@@ -33,9 +33,9 @@ returns c =
     let s = u in
     let C = case_of s.args.case in
     let fs = s.args.case.families in
-    let e : u.upto-first.result ≡ families_at C = u.upto-first.ensures.0 ∙ sym (length-take s.args.case.headings _) in
+    let e : u.min-first.result ≡ families_at C = u.min-first.ensures ∙ sym (length-take s.args.case.headings _) in
     let n : length fs.items ≡ 16 = omega (arith, s.well_formed) in
     let m = length_front family_of fs.items fs.count 16 n in
-    let k : v.upto.result ≡ length C.families = omega (arith, v.upto.ensures.0) in
-    bindable-rest C (u.upto-first.result + v.upto.result) c.boolean_faults.result (ap₂ ◌+◌ e k) c.boolean_faults.ensures
-    ∙ accepted_passes r.result (booleans_checked C) t.in-Accepted.is ∙ bindable-first C u.upto-first.result r.result e r.ensures
+    let k : v.min.result ≡ length C.families = omega (arith, v.min.ensures) in
+    bindable-rest C (u.min-first.result + v.min.result) c.boolean_faults.result (ap₂ ◌+◌ e k) c.boolean_faults.ensures
+    ∙ accepted_passes r.result (booleans_checked C) t.in-Accepted.is ∙ bindable-first C u.min-first.result r.result e r.ensures

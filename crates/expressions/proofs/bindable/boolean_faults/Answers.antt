@@ -14,14 +14,14 @@ abbrev none : Boolean
 none = record { fact = 0; unknown = false; evidence = 0; observations = record { count = 0; values = []; evidence = [] } }
 
 pub loop-i-init : goal.loop-i-init
-loop-i-init c = judging_none (omega (arith, c.well_formed)) refl c.upto-n.ensures.0
+loop-i-init c = judging_none (omega (arith, c.well_formed)) refl c.min-n.ensures
 
 -- as many facts are kept as there are places
 pub slice_bounds-earlier-end : goal.slice_bounds-earlier-end
-slice_bounds-earlier-end c = omega (arith, c.loop-i.invariant.room, c.loop-i-test.true, c.upto-n.ensures.1)
+slice_bounds-earlier-end c = omega (arith, c.loop-i.invariant.room, c.loop-i-test.true, c.min-n.ensures)
 
 pub slice_bounds-appears-end : goal.slice_bounds-appears-end
-slice_bounds-appears-end c = sym (length-take-le _ _ (omega (arith, c.loop-i.invariant.room, c.loop-i-test.true, c.upto-n.ensures.1)))
+slice_bounds-appears-end c = sym (length-take-le _ _ (omega (arith, c.loop-i.invariant.room, c.loop-i-test.true, c.min-n.ensures)))
 
 pub returns-then-number-ne0 : goal.returns-then-number-ne0
 unfolding checked_of boolean_of

@@ -6,6 +6,3 @@ use Rattle.expressions.proofs.bindable.boolean_faults.Given as goal
 
 abbrev pub invariant-loop-i : goal.invariant-loop-i
 invariant-loop-i l = Judging boolean_of (λ b. b.fact) boolean_judge l.booleans.items l.booleans.count l.first 64 l.n l.earlier l.i
-
-abbrev pub decreases-loop-i : goal.decreases-loop-i
-decreases-loop-i l = l.n - l.i

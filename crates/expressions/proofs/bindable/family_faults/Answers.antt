@@ -9,13 +9,13 @@ use Rattle.expressions.proofs.FaultLaws.{judging_none, judging_twice, judging_st
 use Rattle.expressions.proofs.bindable.family_faults.Goals as goal
 
 pub loop-i-init : goal.loop-i-init
-loop-i-init c = judging_none (omega (arith, c.well_formed)) refl c.upto-n.ensures.0
+loop-i-init c = judging_none (omega (arith, c.well_formed)) refl c.min-n.ensures
 
 pub slice_bounds-earlier-end : goal.slice_bounds-earlier-end
-slice_bounds-earlier-end c = omega (arith, c.loop-i.invariant.room, c.loop-i-test.true, c.upto-n.ensures.1)
+slice_bounds-earlier-end c = omega (arith, c.loop-i.invariant.room, c.loop-i-test.true, c.min-n.ensures)
 
 pub slice_bounds-appears-end : goal.slice_bounds-appears-end
-slice_bounds-appears-end c = sym (length-take-le _ _ (omega (arith, c.loop-i.invariant.room, c.loop-i-test.true, c.upto-n.ensures.1)))
+slice_bounds-appears-end c = sym (length-take-le _ _ (omega (arith, c.loop-i.invariant.room, c.loop-i-test.true, c.min-n.ensures)))
 
 pub returns-then-appears : goal.returns-then-appears
 unfolding checked_of family_of

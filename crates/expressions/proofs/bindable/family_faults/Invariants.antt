@@ -6,6 +6,3 @@ use Rattle.expressions.proofs.bindable.family_faults.Given as goal
 
 abbrev pub invariant-loop-i : goal.invariant-loop-i
 invariant-loop-i l = Judging family_of (λ m. m.number) family_judge l.families.items l.families.count l.first 16 l.n l.earlier l.i
-
-abbrev pub decreases-loop-i : goal.decreases-loop-i
-decreases-loop-i l = l.n - l.i

@@ -32,7 +32,7 @@ loop-i-preserved c =
     let i = l.loop-i.i in
     let code = code_at set facts families scope sights said elected in
     let test = default_at_lem set facts sights said elected in
-    let more : i < 64 = omega (arith, c.loop-i-test.true, c.upto-n.ensures.1) in
+    let more : i < 64 = omega (arith, c.loop-i-test.true, c.min-n.ensures) in
     let bound = c.contains-bound.ensures in
     let unknown = c.contains.ensures in
     let new = c.binding.ensures ∙ ap₂ (λ (b u : Bool). binding_from b (get_or facts.items i no_fact) (record { seen = (told_at sights said elected i).seen; unknown = u; election = (told_at sights said elected i).election }) (map family_of (take families.count families.items)) scope) bound unknown in
@@ -51,16 +51,16 @@ returns c =
     let l = c in
     let s = c in
     let p = s.args.plan in
-    let e : l.loop-i.i ≡ c.upto-n.result = omega (arith, c.loop-i-test.false, l.loop-i.invariant.1) in
+    let e : l.loop-i.i ≡ c.min-n.result = omega (arith, c.loop-i-test.false, l.loop-i.invariant.1) in
     let long : length p.facts.items ≡ 64 = omega (arith, s.well_formed) in
     let code = code_at s.args.set p.facts s.args.case.families c.scope_of-scope.result c.sights_of-sights.result c.said_unknown-unknown.result c.election_policies-elections.result in
     let test = default_at_lem s.args.set p.facts c.sights_of-sights.result c.said_unknown-unknown.result c.election_policies-elections.result in
     let tells : (f : ℕ) → f < 64 → TellsFact (plan_of p) (case_of s.args.case) f (told_at c.sights_of-sights.result c.said_unknown-unknown.result c.election_policies-elections.result f) = λ f h. record { seen = c.sights_of-sights.ensures f h; unknown = c.said_unknown-unknown.ensures f h; election = (c.election_policies-elections.ensures (plan_of p) refl refl).at f h } in
     record {
-      codes = codes-made p s.args.case s.args.set c.upto-n.result c.scope_of-scope.result c.said_unknown-unknown.result c.sights_of-sights.result c.election_policies-elections.result long c.upto-n.ensures.0 c.scope_of-scope.ensures tells l.loop-i.codes
+      codes = codes-made p s.args.case s.args.set c.min-n.result c.scope_of-scope.result c.said_unknown-unknown.result c.sights_of-sights.result c.election_policies-elections.result long c.min-n.ensures c.scope_of-scope.ensures tells l.loop-i.codes
           (subst (Filled code l.loop-i.codes) e l.loop-i.invariant.2);
       defaults = record {
         at = λ f. ap (λ (m : ℕ). has m f) (l.loop-i.invariant.3 ∙ ap (built test) e)
-            ∙ defaults-made p s.args.case s.args.set c.upto-n.result c.scope_of-scope.result c.said_unknown-unknown.result c.sights_of-sights.result c.election_policies-elections.result long c.upto-n.ensures.0 c.scope_of-scope.ensures tells f;
+            ∙ defaults-made p s.args.case s.args.set c.min-n.result c.scope_of-scope.result c.said_unknown-unknown.result c.sights_of-sights.result c.election_policies-elections.result long c.min-n.ensures c.scope_of-scope.ensures tells f;
       };
     }

@@ -13,6 +13,3 @@ invariant-loop-i l =
     × (l.i ≤ l.n)
     × Filled (code_at l.set l.facts l.families l.scope l.sights l.unknown l.elections) l.codes l.i
     × (l.defaults ≡ built (default_at_lem l.set l.facts l.sights l.unknown l.elections) l.i)
-
-abbrev pub decreases-loop-i : goal.decreases-loop-i
-decreases-loop-i l = l.n - l.i

@@ -10,6 +10,3 @@ invariant-loop-i l =
     (length l.families.items ≡ 16)
     × (l.i ≤ l.n)
     × (silent_from l.families.items l.families.count l.number l.scope l.i l.i ≡ silent_from l.families.items l.families.count l.number l.scope 0 0)
-
-abbrev pub decreases-loop-i : goal.decreases-loop-i
-decreases-loop-i l = l.n - l.i

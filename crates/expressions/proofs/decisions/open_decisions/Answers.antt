@@ -1,21 +1,20 @@
 -- `decisions::open_decisions`: an accepted plan has at most sixteen.
-use Prim.Native.Nat.{ℕ, ◌≤◌}
-use mathlib.Core.Path.{sym, ap, ◌∙◌, subst}
-use lib.ListN.{length}
-use Rattle.records.specs.code.Decoded.{plan_of}
-use Rattle.expressions.specs.paper.Influence.{open_below, open_decisions}
+use mathlib.Core.Path.{◌≡◌}
+use native.Mathlib.Omega.{arith}
+use Rattle.records.specs.code.Decoded.{plan_of, edge_of}
+use Rattle.expressions.specs.paper.Influence.{open_decisions}
+use Rattle.expressions.proofs.ListLaws.{made-length}
 use Rattle.expressions.proofs.OpenLaws.{all_few}
 use Rattle.expressions.proofs.decisions.open_decisions.Goals as goal
 
 pub open_over-requires : goal.open_over-requires
 unfolding plan_of
 open_over-requires c =
-    let s = c in
-    let P = plan_of s.args.plan in
-    (c.edge_count.ensures.1, subst (λ (n : ℕ). length (open_below P.cuts n (length P.cuts)) ≤ 16) (sym c.edge_count.ensures.0) (all_few P s.requires))
+    let es = c.args.plan.edges in
+    (omega (arith, c.min.ensures), rw (← made-length edge_of es.items es.count 64 _ (omega (arith, c.well_formed)) c.min.ensures) (all_few (plan_of c.args.plan) c.requires))
 
 pub returns : goal.returns
 unfolding plan_of open_decisions
 returns c =
-    let P = plan_of c.args.plan in
-    c.open_over.ensures ∙ ap (λ (n : ℕ). open_below P.cuts n (length P.cuts)) c.edge_count.ensures.0
+    let es = c.args.plan.edges in
+    rw (made-length edge_of es.items es.count 64 _ (omega (arith, c.well_formed)) c.min.ensures) c.open_over.ensures

@@ -1,5 +1,4 @@
 -- `decisions::open_over`: after i cuts the list has their open decisions.
-use Prim.Native.Nat.{◌≤◌, ◌-◌}
 use mathlib.Core.Path.{◌≡◌}
 use Rattle.records.specs.code.Decoded.{cuts_of}
 use Rattle.expressions.specs.paper.Influence.{open_below}
@@ -7,7 +6,4 @@ use Rattle.expressions.specs.code.Undecided.{opens_of}
 use Rattle.expressions.proofs.decisions.open_over.Given as goal
 
 abbrev pub invariant-loop-i : goal.invariant-loop-i
-invariant-loop-i l = (l.i ≤ l.n) × (opens_of l.out ≡ open_below (cuts_of l.cuts) l.edges l.i)
-
-abbrev pub decreases-loop-i : goal.decreases-loop-i
-decreases-loop-i l = l.n - l.i
+invariant-loop-i l = opens_of l.out ≡ open_below (cuts_of l.cuts) l.edges l.i

@@ -1,5 +1,4 @@
 -- `decisions::touches_over`: after i decisions the array holds whom the first i touch.
-use Prim.Native.Nat.{◌≤◌, ◌-◌}
 use mathlib.Core.Path.{◌≡◌}
 use lib.ListN.{length}
 use Rattle.sets.specs.paper.Sets.{below}
@@ -12,7 +11,4 @@ use Rattle.expressions.proofs.decisions.touches_over.Given as goal
 
 abbrev pub invariant-loop-i : goal.invariant-loop-i
 invariant-loop-i l =
-    (length l.out ≡ 16) × (l.i ≤ l.n) × ((P : Plan) → P.cuts ≡ cuts_of l.cuts → P.edges ≡ edges_of l.edges → Holds 0 l.out (below l.i (λ k. open_touch P (open_at l.found.cuts l.found.edges k))))
-
-abbrev pub decreases-loop-i : goal.decreases-loop-i
-decreases-loop-i l = l.n - l.i
+    (length l.out ≡ 16) × ((P : Plan) → P.cuts ≡ cuts_of l.cuts → P.edges ≡ edges_of l.edges → Holds 0 l.out (below l.i (λ k. open_touch P (open_at l.found.cuts l.found.edges k))))

@@ -4,6 +4,3 @@ use Rattle.expressions.proofs.elections.elect_by_attachments.Given as goal
 
 abbrev pub invariant-loop-i : goal.invariant-loop-i
 invariant-loop-i l = Electing (λ x. x.election) l.attachments.items l.attachments.count 32 l.initial.out.items l.out.items l.i
-
-abbrev pub decreases-loop-i : goal.decreases-loop-i
-decreases-loop-i l = l.i

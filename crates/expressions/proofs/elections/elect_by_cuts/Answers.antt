@@ -11,18 +11,18 @@ use Rattle.expressions.proofs.elections.elect_by_cuts.Goals.{else-e-via-else-e, 
 pub loop-i-init : goal.loop-i-init
 loop-i-init c =
     let s = c in
-    electing_none _ _ _ 16 _ _ (omega (arith, s.well_formed)) (omega (arith, s.well_formed)) c.upto-i.ensures.0
+    electing_none _ _ _ 16 _ _ (omega (arith, s.well_formed)) (omega (arith, s.well_formed)) c.min-i.ensures
 
 pub loop-i-preserved-then-f-lt64 : goal.loop-i-preserved-then-f-lt64
 loop-i-preserved-then-f-lt64 c =
-    let w = c.wide-f in
-    electing_stored _ _ _ c.loop-i.invariant c.loop-i-test.true _ w.result w.ensures.0 (ltb-true w.result 64 c.if-f-lt64.true-raw) c.if-e.true
+    let w = c.from-f in
+    electing_stored _ _ _ c.loop-i.invariant c.loop-i-test.true _ w.result w.ensures (ltb-true w.result 64 c.if-f-lt64.true-raw) c.if-e.true
 
 pub loop-i-preserved : goal.loop-i-preserved
 loop-i-preserved c =
-    let w = c.wide-f in
+    let w = c.from-f in
     electing_kept _ _ _ c.loop-i.invariant c.loop-i-test.true _
-    (λ f h. (elim c.else-e.branch [ else-e-via-then-e+else-f-lt64 x ↦ inr (λ q. let z : w.result ≡ f = w.ensures.0 ∙ q in omega (arith, x.if-f-lt64.false)) | else-e-via-else-e x ↦ inl x.if-e.false ]))
+    (λ f h. (elim c.else-e.branch [ else-e-via-then-e+else-f-lt64 x ↦ inr (λ q. let z : w.result ≡ f = w.ensures ∙ q in omega (arith, x.if-f-lt64.false)) | else-e-via-else-e x ↦ inl x.if-e.false ]))
 
 pub returns : goal.returns
 returns c = λ f h.

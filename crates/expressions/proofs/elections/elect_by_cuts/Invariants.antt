@@ -4,6 +4,3 @@ use Rattle.expressions.proofs.elections.elect_by_cuts.Given as goal
 
 abbrev pub invariant-loop-i : goal.invariant-loop-i
 invariant-loop-i l = Electing (λ x. x.election) l.cuts.items l.cuts.count 16 l.initial.out.items l.out.items l.i
-
-abbrev pub decreases-loop-i : goal.decreases-loop-i
-decreases-loop-i l = l.i

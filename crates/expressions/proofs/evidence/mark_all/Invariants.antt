@@ -9,6 +9,3 @@ use Rattle.expressions.proofs.evidence.mark_all.Given as goal
 
 abbrev pub invariant-loop-i : goal.invariant-loop-i
 invariant-loop-i l = (l.i ≤ l.n) × (union l.all (union_of evidence_mark (drop l.i (observations_of l.o))) ≡ union l.m (union_of evidence_mark (observations_of l.o)))
-
-abbrev pub decreases-loop-i : goal.decreases-loop-i
-decreases-loop-i l = l.n - l.i

@@ -11,6 +11,6 @@ use Rattle.expressions.proofs.evidence.note.Goals as goal
 pub returns : goal.returns
 returns c = λ f.
     let a = c.args in
-    let w = c.wide-f in
-    note_at a.table.now w.result f a.more _ (omega (arith, c.whole_256_words.ensures, w.ensures.1)) c.union-m.ensures
-    ∙ ap (λ (k : ℕ). union (get_or a.table.now f 0) (only (eqb k f) a.more)) w.ensures.0
+    let w = c.from-f in
+    note_at a.table.now w.result f a.more _ (omega (arith, c.told-table, w.ensures, c.ranges)) c.union-m.ensures
+    ∙ ap (λ (k : ℕ). union (get_or a.table.now f 0) (only (eqb k f) a.more)) w.ensures

@@ -5,7 +5,7 @@ use native.Mathlib.Omega.{arith}
 use Rattle.expressions.proofs.evidence.note_booleans.Goals as goal
 
 pub loop-i-init : goal.loop-i-init
-loop-i-init c = noting_none (omega (arith, c.well_formed)) c.upto-n.ensures.0
+loop-i-init c = noting_none (omega (arith, c.well_formed)) c.min-n.ensures
 
 pub evidence_in-more-requires : goal.evidence_in-more-requires
 unfolding boolean_of

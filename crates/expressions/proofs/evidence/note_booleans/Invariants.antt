@@ -7,6 +7,3 @@ use Rattle.expressions.proofs.evidence.note_booleans.Given as goal
 
 abbrev pub invariant-loop-i : goal.invariant-loop-i
 invariant-loop-i l = Noting boolean_of (λ x. x.fact) (λ x. boolean_evidence x) l.booleans.items l.booleans.count 64 l.initial.table l.n l.table l.i
-
-abbrev pub decreases-loop-i : goal.decreases-loop-i
-decreases-loop-i l = l.n - l.i

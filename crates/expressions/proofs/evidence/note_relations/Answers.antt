@@ -7,7 +7,7 @@ use native.Mathlib.Omega.{arith}
 use Rattle.expressions.proofs.evidence.note_relations.Goals as goal
 
 pub loop-i-init : goal.loop-i-init
-loop-i-init c = noting_none (omega (arith, c.well_formed)) c.upto-n.ensures.0
+loop-i-init c = noting_none (omega (arith, c.well_formed)) c.min-n.ensures
 
 pub mark-more-requires : goal.mark-more-requires
 unfolding relation_of

@@ -7,6 +7,3 @@ use Rattle.expressions.proofs.evidence.note_relations.Given as goal
 
 abbrev pub invariant-loop-i : goal.invariant-loop-i
 invariant-loop-i l = Noting relation_of (λ x. x.fact) (λ x. evidence_mark x.observation) l.relations.items l.relations.count 256 l.initial.table l.n l.table l.i
-
-abbrev pub decreases-loop-i : goal.decreases-loop-i
-decreases-loop-i l = l.n - l.i

@@ -1,40 +1,28 @@
--- `nodes::value`: by the node's sort.
-use Prim.Native.Nat.{ℕ}
-use mathlib.Core.Path.{sym, ap, ◌∙◌}
-use mathlib.Core.Bool.{not}
+-- `nodes::value`: of the children what std says of all and of any.
+use mathlib.Core.Path.{◌≡◌, ap, ◌∙◌}
 use native.Mathlib.Omega.{arith}
-use Rattle.records.specs.code.Decoded.{numbers_of, node_of, node_by}
+use borrow.Author.Rules.{rules}
+use borrow.Author.Tests.{tests}
+use lib.ListN.{take}
+use Rattle.std.proofs.lemmas.Iterator.{YieldsList-from_slice}
+use Rattle.std.proofs.lemmas.Iterator.Search.{any_from_yields_List, all_from_yields_List}
+use Rattle.sets.specs.paper.Sets.{all_of, any_of}
+use Rattle.records.specs.code.Decoded.{node_of, node_by}
 use Rattle.expressions.specs.paper.Nodes.{on, value}
-use Rattle.expressions.proofs.NodeLaws.{any_true, none-false, by_sort, negated}
+use Rattle.expressions.proofs.ListLaws.{any_listed, all_listed}
+use Rattle.expressions.proofs.NodeLaws.{numbers_used}
 use Rattle.expressions.proofs.nodes.value.Goals as goal
-
-pub returns-in-0 : goal.returns-in-0
-unfolding value node_of node_by
-returns-in-0 c =
-    let a = c.args in
-    by_sort (value a.facts a.lower.now) a.node.number (numbers_of a.node.children) c.in-0.is
-
-pub returns-in-1 : goal.returns-in-1
-unfolding value node_of node_by
-returns-in-1 c =
-    let a = c.args in
-    c.contains.ensures ∙ by_sort (value a.facts a.lower.now) a.node.number (numbers_of a.node.children) c.in-1.is
 
 pub returns-in-2 : goal.returns-in-2
 unfolding value node_of node_by
 returns-in-2 c =
-    let a = c.args in
-    ap not c.one_is.ensures ∙ none-false (on a.lower.now) (numbers_of a.node.children) ∙ by_sort (value a.facts a.lower.now) a.node.number (numbers_of a.node.children) c.in-2.is
+    let is = c.args.node.children in
+    let all : c.all.result ≡ _ = all_from_yields_List (on c.args.lower.now) _ _ c.all.result c.all.ensures.ran (YieldsList-from_slice (take c.min.result is.items) cc) (λ x b q k. search (rules, tests)) in
+    rw c.in-2.is (all ∙ all_listed _ _ ∙ ap (all_of (on c.args.lower.now)) (numbers_used is _ _ (omega (arith, c.well_formed)) c.from.ensures c.min.ensures))
 
 pub returns-in-3 : goal.returns-in-3
 unfolding value node_of node_by
 returns-in-3 c =
-    let a = c.args in
-    c.one_is-in-3.ensures ∙ any_true (on a.lower.now) (numbers_of a.node.children) ∙ by_sort (value a.facts a.lower.now) a.node.number (numbers_of a.node.children) c.in-3.is
-
-pub returns-in_default : goal.returns-in_default
-unfolding value node_of
-returns-in_default c =
-    let a = c.args in
-    ap (λ (k : ℕ). not (on a.lower.now k)) c.wide.ensures.0
-    ∙ ap (value a.facts a.lower.now) (sym (negated a.node.sort a.node.number (numbers_of a.node.children) (omega arith) (omega arith) (omega arith) (omega arith)))
+    let is = c.args.node.children in
+    let any : c.any.result ≡ _ = any_from_yields_List (on c.args.lower.now) _ _ c.any.result c.any.ensures.ran (YieldsList-from_slice (take c.min.result is.items) cc) (λ x b q k. search (rules, tests)) in
+    rw c.in-3.is (any ∙ any_listed _ _ ∙ ap (any_of (on c.args.lower.now)) (numbers_used is _ _ (omega (arith, c.well_formed)) c.from.ensures c.min.ensures))

@@ -1,5 +1,4 @@
 -- `nodes::values`: after i nodes the array holds the values of the first i.
-use Prim.Native.Nat.{◌≤◌, ◌-◌}
 use mathlib.Core.Path.{◌≡◌}
 use mathlib.Core.Bool.{false}
 use mathlib.Core.List.{[]}
@@ -10,7 +9,4 @@ use Rattle.expressions.specs.code.Coded.{Holds}
 use Rattle.expressions.proofs.nodes.values.Given as goal
 
 abbrev pub invariant-loop-i : goal.invariant-loop-i
-invariant-loop-i l = (length l.out ≡ 256) × (l.i ≤ l.n) × Holds false l.out (values_from l.facts (take l.i (nodes_of l.nodes)) [])
-
-abbrev pub decreases-loop-i : goal.decreases-loop-i
-decreases-loop-i l = l.n - l.i
+invariant-loop-i l = (length l.out ≡ 256) × Holds false l.out (values_from l.facts (take l.i (nodes_of l.nodes)) [])

@@ -8,6 +8,3 @@ use Rattle.expressions.proofs.observations.look_all.Given as goal
 
 abbrev pub invariant-loop-i : goal.invariant-loop-i
 invariant-loop-i l = (l.i ≤ l.n) × (look_all l.s (drop l.i (pairs l.n l.values l.evidence)) ≡ look_all l.initial.s (pairs l.n l.values l.evidence))
-
-abbrev pub decreases-loop-i : goal.decreases-loop-i
-decreases-loop-i l = l.n - l.i

@@ -7,14 +7,14 @@ use Rattle.expressions.proofs.observations.look_in_booleans.Goals as goal
 use Rattle.expressions.proofs.observations.look_in_booleans.Goals.{else-f-lt64, then-f-lt64}
 
 pub loop-i-init : goal.loop-i-init
-loop-i-init c = looking_none (omega (arith, c.well_formed)) (omega (arith, c.well_formed)) c.upto-n.ensures.0
+loop-i-init c = looking_none (omega (arith, c.well_formed)) (omega (arith, c.well_formed)) c.min-n.ensures
 
 pub loop-i-preserved : goal.loop-i-preserved
 unfolding boolean_of look_all
 loop-i-preserved c =
     let w = c.loop-i.invariant in
     let taken = c.loop-i-test.true in
-    let lies = c.wide-f.ensures.0 in
+    let lies = c.from-f.ensures in
     (elim c.if-f-lt64.branch [ then-f-lt64 x ↦ rw x.s-is (looking_next w taken _ _ _ lies x.if-f-lt64.true x.look_all-more.ensures) | else-f-lt64 x ↦ rw x.s-is (looking_past w taken _ _ lies x.if-f-lt64.false) ])
 
 pub returns : goal.returns

@@ -6,6 +6,3 @@ use Rattle.expressions.proofs.observations.look_in_booleans.Given as goal
 
 abbrev pub invariant-loop-i : goal.invariant-loop-i
 invariant-loop-i l = Looking boolean_of (λ x. x.fact) (λ x. x.observations) l.booleans.items l.booleans.count 64 l.initial.s.items l.n l.s.items l.i
-
-abbrev pub decreases-loop-i : goal.decreases-loop-i
-decreases-loop-i l = l.n - l.i

@@ -7,6 +7,3 @@ use Rattle.expressions.proofs.observations.look_in_relations.Given as goal
 
 abbrev pub invariant-loop-i : goal.invariant-loop-i
 invariant-loop-i l = Looking relation_of (λ x. x.fact) (λ x. x.observation ∷ []) l.relations.items l.relations.count 256 l.initial.s.items l.n l.s.items l.i
-
-abbrev pub decreases-loop-i : goal.decreases-loop-i
-decreases-loop-i l = l.n - l.i

@@ -11,6 +11,3 @@ use Rattle.expressions.proofs.observations.said_unknown.Given as goal
 
 abbrev pub invariant-loop-i : goal.invariant-loop-i
 invariant-loop-i l = (length l.booleans.items ≡ 64) × (l.i ≤ l.n) × ((f : ℕ) → f < 64 → (has l.m f || said (drop l.i (map boolean_of (take l.booleans.count l.booleans.items))) f) ≡ said (map boolean_of (take l.booleans.count l.booleans.items)) f)
-
-abbrev pub decreases-loop-i : goal.decreases-loop-i
-decreases-loop-i l = l.n - l.i

@@ -3,24 +3,34 @@ use Prim.Native.Nat.{ℕ}
 use mathlib.Core.Path.{ap, ◌∙◌}
 use mathlib.Core.List.{List, ◌++◌, map}
 use native.Mathlib.Omega.{arith}
-use Rattle.records.specs.code.Decoded.{plan_of}
+use borrow.Author.Rules.{rules}
+use Rattle.records.specs.code.Decoded.{plan_of, status_of}
+use Rattle.expressions.specs.code.Coded.{PersonFits}
 use Rattle.expressions.specs.code.Listed.{used_at, rule_uses, persons_by_rule, status_used, held_by_status}
 use Rattle.expressions.proofs.FitLaws.{statuses-fit}
+use Rattle.expressions.proofs.RuleLaws.{each_in_use, ruled_in_use}
 use Rattle.expressions.proofs.rules.all_rules.Goals as goal
 
-pub add_statuses-n-requires : goal.add_statuses-n-requires
-unfolding plan_of
-add_statuses-n-requires c = (c.requires.1.few, statuses-fit (plan_of c.args.plan) c.requires.0)
+pub add-requires-clause-room : goal.add-requires-clause-room
+add-requires-clause-room c = omega (arith, c.requires.1.few)
+
+pub add-requires-clause-each : goal.add-requires-clause-each
+unfolding plan_of status_of
+add-requires-clause-each c =
+    let ss = c.args.plan.statuses in
+    each_in_use status_of ss.items ss.count 32 _ (omega (arith, c.well_formed)) c.min.ensures PersonFits (statuses-fit (plan_of c.args.plan) c.requires.0) (λ s h. search rules)
 
 pub returns : goal.returns
-unfolding plan_of rule_uses persons_by_rule
+unfolding plan_of rule_uses persons_by_rule status_of
 returns c =
-    let s = c in
-    let xs = (plan_of s.args.plan).statuses in
-    let added = c.add_statuses-n.ensures.0 in
+    let ss = c.args.plan.statuses in
+    let at : ℕ → ℕ = used_at c.args.nodes.now in
+    let added = ruled_in_use status_of ss.items ss.count 32 _ (omega (arith, c.well_formed)) c.min.ensures PersonFits (statuses-fit (plan_of c.args.plan) c.requires.0)
+    (status_used at) held_by_status c.add.ensures.added (λ s h r told. search rules) in
+    let xs = (plan_of c.args.plan).statuses in
     record {
-      uses = added.uses ∙ ap (λ (l : List ℕ). l ++ map (status_used (used_at s.args.nodes.now)) xs) s.requires.1.uses;
-      persons = added.persons ∙ ap (λ (l : List ℕ). l ++ map held_by_status xs) s.requires.1.persons;
-      few = omega (arith, s.requires.1.few, c.add_statuses-n.ensures.1);
-      room = (c.whole_176_words.ensures, c.whole_176_words-2.ensures);
+      uses = added.uses ∙ ap (λ (l : List ℕ). l ++ map (status_used at) xs) c.requires.1.uses;
+      persons = added.persons ∙ ap (λ (l : List ℕ). l ++ map held_by_status xs) c.requires.1.persons;
+      few = omega (arith, c.requires.1.few, c.add.ensures.count);
+      room = search rules;
     }

@@ -1,5 +1,4 @@
 -- `touch::touches`: after i facts the array holds whom the first i touch.
-use Prim.Native.Nat.{◌≤◌, ◌-◌}
 use mathlib.Core.Path.{◌≡◌}
 use lib.ListN.{length}
 use Rattle.sets.specs.paper.Sets.{below}
@@ -10,7 +9,4 @@ use Rattle.expressions.proofs.touch.touches.Given as goal
 
 abbrev pub invariant-loop-i : goal.invariant-loop-i
 invariant-loop-i l =
-    (length l.out ≡ 64) × (l.i ≤ l.n) × Holds 0 l.out (below l.i (touch_by l.uses l.persons l.constraints l.roster l.bound (facts_of l.facts)))
-
-abbrev pub decreases-loop-i : goal.decreases-loop-i
-decreases-loop-i l = l.n - l.i
+    (length l.out ≡ 64) × Holds 0 l.out (below l.i (touch_by l.uses l.persons l.constraints l.roster l.bound (facts_of l.facts)))

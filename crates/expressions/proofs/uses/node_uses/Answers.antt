@@ -1,46 +1,30 @@
-use Prim.Native.Nat.{◌+◌, ◌≤◌}
-use mathlib.Core.Path.{◌≡◌, refl, sym, subst}
-use mathlib.Core.List.{List, []}
+use mathlib.Core.Path.{refl}
 use native.Mathlib.Omega.{arith}
-use lib.ListN.{length, set, length-set}
-use borrow.Author.Rules.{rules}
-use Rattle.records.specs.paper.Plan.{Node}
+use lib.ListN.{length-set}
 use Rattle.records.specs.code.Decoded.{node_of}
 use Rattle.expressions.specs.paper.Nodes.{uses_from}
-use Rattle.expressions.specs.code.Coded.{Holds, FactFits}
+use Rattle.expressions.specs.code.Coded.{FactFits}
 use Rattle.expressions.proofs.ListLaws.{made_each, made-next, made-part, made_all, holds_none}
 use Rattle.expressions.proofs.NodeLaws.{uses-next}
 use Rattle.expressions.proofs.uses.node_uses.Goals as goal
 
 pub loop-i-init : goal.loop-i-init
 unfolding uses_from
-loop-i-init c = (refl, search rules, holds_none 256 0)
+loop-i-init c = (refl, holds_none 256 0)
 
-pub node_use-u-requires : goal.node_use-u-requires
-node_use-u-requires c =
-    let long : length c.args.nodes.items ≡ 256 = omega (arith, c.well_formed) in
-    let l = c in
-    let a = l in
-    let s = a in
-    made_each node_of s.args.nodes.items s.args.nodes.count 256 a.upto-n.result long a.upto-n.ensures.0 FactFits l.loop-i.i _ (search rules) s.requires
+pub node_use-requires : goal.node_use-requires
+node_use-requires c =
+    let ns = c.args.nodes in
+    made_each node_of ns.items ns.count 256 _ (omega (arith, c.well_formed)) c.min-i-end.ensures FactFits c.loop-i.i _ c.loop-i-test.true c.requires
 
 pub loop-i-preserved : goal.loop-i-preserved
 loop-i-preserved c =
-    let long : length c.args.nodes.items ≡ 256 = omega (arith, c.well_formed) in
-    let l = c in
-    let a = l in
-    let s = a in
-    let xs = s.args.nodes.items in
-    let count = s.args.nodes.count in
-    let more : l.loop-i.i + 1 ≤ a.upto-n.result = search rules in
-    let next = made-next node_of xs count 256 a.upto-n.result long a.upto-n.ensures.0 l.loop-i.i _ (search rules) in
-    let part = made-part node_of xs count 256 a.upto-n.result long a.upto-n.ensures.0 l.loop-i.i l.loop-i.invariant.1 in
-    (simp length-set l.loop-i.invariant.0, more, subst (λ (ns : List Node). Holds 0 (set l.loop-i.out l.loop-i.i c.node_use-u.result) (uses_from ns [])) (sym next) (uses-next _ _ l.loop-i.out l.loop-i.i c.node_use-u.result part (omega arith) l.loop-i.invariant.2 c.node_use-u.ensures))
+    let ns = c.args.nodes in
+    let part = made-part node_of ns.items ns.count 256 _ (omega (arith, c.well_formed)) c.min-i-end.ensures c.loop-i.i c.loop-i.auto.i-end in
+    let next = made-next node_of ns.items ns.count 256 _ (omega (arith, c.well_formed)) c.min-i-end.ensures c.loop-i.i _ c.loop-i-test.true in
+    (simp length-set c.loop-i.invariant.0, rw next (uses-next _ _ c.loop-i.out c.loop-i.i c.node_use.result part (omega arith) c.loop-i.invariant.1 c.node_use.ensures))
 
 pub returns : goal.returns
 returns c =
-    let long : length c.args.nodes.items ≡ 256 = omega (arith, c.well_formed) in
-    let a = c in
-    let s = a in
-    subst (λ (ns : List Node). Holds 0 c.loop-i.out (uses_from ns []))
-    (made_all node_of s.args.nodes.items s.args.nodes.count 256 a.upto-n.result long a.upto-n.ensures.0 c.loop-i.i (search rules)) c.loop-i.invariant.2
+    let ns = c.args.nodes in
+    rw (← made_all node_of ns.items ns.count 256 _ (omega (arith, c.well_formed)) c.min-i-end.ensures c.loop-i.i c.loop-i-test.false) c.loop-i.invariant.1

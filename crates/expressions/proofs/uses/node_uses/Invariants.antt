@@ -1,5 +1,4 @@
 -- `uses::node_uses`: after i nodes the array holds the facts of the first i.
-use Prim.Native.Nat.{◌≤◌, ◌-◌}
 use mathlib.Core.Path.{◌≡◌}
 use mathlib.Core.List.{[]}
 use lib.ListN.{length, take}
@@ -9,7 +8,4 @@ use Rattle.expressions.specs.code.Coded.{Holds}
 use Rattle.expressions.proofs.uses.node_uses.Given as goal
 
 abbrev pub invariant-loop-i : goal.invariant-loop-i
-invariant-loop-i l = (length l.out ≡ 256) × (l.i ≤ l.n) × Holds 0 l.out (uses_from (take l.i (nodes_of l.nodes)) [])
-
-abbrev pub decreases-loop-i : goal.decreases-loop-i
-decreases-loop-i l = l.n - l.i
+invariant-loop-i l = (length l.out ≡ 256) × Holds 0 l.out (uses_from (take l.i (nodes_of l.nodes)) [])

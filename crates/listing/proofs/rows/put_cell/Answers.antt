@@ -3,4 +3,4 @@ use Rattle.listing.proofs.RowLaws.{cell_put}
 use Rattle.listing.proofs.rows.put_cell.Goals as goal
 
 pub returns : goal.returns
-returns c = cell_put _ _ _ _ _ c.wide.ensures.0 c.put_number-next.ensures c.put.ensures
+returns c = cell_put _ _ _ _ _ c.from.ensures c.put_number-next.ensures c.put.ensures

@@ -9,6 +9,3 @@ use Rattle.listing.proofs.rows.put_rows.Given as goal
 
 abbrev pub invariant-loop-k : goal.invariant-loop-k
 invariant-loop-k l = (l.k ≤ l.n) × (length l.out ≡ length l.initial.out) × (◌≡◌ {A = Page} (puts (record { count = l.next; out = l.out }) (rows (lines_from l.lines l.k (l.n - l.k)))) (puts (record { count = l.at; out = l.initial.out }) (rows (lines_from l.lines 0 l.n))))
-
-abbrev pub decreases-loop-k : goal.decreases-loop-k
-decreases-loop-k l = l.n - l.k

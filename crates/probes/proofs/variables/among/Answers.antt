@@ -26,7 +26,7 @@ loop-i-preserved c =
     let items = c.args.order.items in
     let i = l.i in
     let long : length c.args.order.items ≡ 80 = omega (arith, c.well_formed) in
-    let here : i < length items = omega (arith, long, c.upto-n.ensures.1) in
+    let here : i < length items = omega (arith, long, c.min-n.ensures) in
     let found = sym c.varies.ensures in
     elim c.if-varies.branch [
       | then-varies w ↦
@@ -55,8 +55,8 @@ returns c =
     let bs = map bound_of c.args.codes in
     let items = c.args.order.items in
     let long : length c.args.order.items ≡ 80 = omega (arith, c.well_formed) in
-    let e : l.i ≡ c.upto-n.result = omega arith in (
+    let e : l.i ≡ c.min-n.result = omega arith in (
       l.invariant.2,
-      l.invariant.3 ∙ ap (λ (n : ℕ). variable_codes bs (map slot_of (take n items))) (e ∙ c.upto-n.ensures.0)
+      l.invariant.3 ∙ ap (λ (n : ℕ). variable_codes bs (map slot_of (take n items))) (e ∙ c.min-n.ensures)
           ∙ ap (λ (xs : List ℕ). variable_codes bs (map slot_of xs)) (take_min c.args.order.count 80 items long),
     )

@@ -12,6 +12,3 @@ use Rattle.probes.proofs.variables.among.Given as goal
 abbrev pub invariant-loop-i : goal.invariant-loop-i
 invariant-loop-i l =
     (l.i ≤ l.n) × (l.out.count ≤ l.i) × (l.out.count ≡ length (codes_of l.out)) × (codes_of l.out ≡ variable_codes (map bound_of l.codes) (map slot_of (take l.i l.order.items)))
-
-abbrev pub decreases-loop-i : goal.decreases-loop-i
-decreases-loop-i l = l.n - l.i

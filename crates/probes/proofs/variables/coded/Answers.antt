@@ -14,7 +14,7 @@ use Rattle.probes.proofs.variables.coded.Goals.{else-at-lt64, then-at-lt64}
 pub returns : goal.returns
 returns c =
     let a = c.args in
-    let e = c.wide-at.ensures.0 in
+    let e = c.from-at.ensures in
     elim c.if-at-lt64.branch [
       | then-at-lt64 w ↦
           ap (λ (n : ℕ). a.item + 256 * n) (w.choice-is ∙ w.candidates-choice.ensures ∙ ap (λ (n : ℕ). choice_code (choices (bound_of (get_or a.codes n 0)))) e)

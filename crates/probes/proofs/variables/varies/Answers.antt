@@ -12,11 +12,11 @@ use Rattle.probes.proofs.variables.varies.Goals as goal
 pub returns-then-at-lt64 : goal.returns-then-at-lt64
 returns-then-at-lt64 c =
     let a = c.args in
-    let e = c.wide-at.ensures.0 in
+    let e = c.from-at.ensures in
     ap (λ (n : ℕ). leb 3 (get_or a.codes n 0)) e ∙ fact-varies a.codes a.item (omega (arith, c.if-at-lt64.true, e))
 
 pub returns-else-at-lt64 : goal.returns-else-at-lt64
 returns-else-at-lt64 c =
     let a = c.args in
-    let e = c.wide-at.ensures.0 in
+    let e = c.from-at.ensures in
     decision-varies (map bound_of a.codes) a.item (omega (arith, c.if-at-lt64.false, e))

@@ -8,6 +8,3 @@ use Rattle.records.proofs.fields.entries_stand.Given as goal
 
 abbrev pub invariant-loop-i : goal.invariant-loop-i
 invariant-loop-i l = (l.i ≤ l.n) × (is_got (bytes_at l.s l.p (repeat (l.n - l.i) (up_to l.top ∷ []))) ≡ is_got (bytes_at l.s l.at (repeat l.n (up_to l.top ∷ []))))
-
-abbrev pub decreases-loop-i : goal.decreases-loop-i
-decreases-loop-i l = l.n - l.i

@@ -22,17 +22,17 @@ pub overflow_add-result : goal.overflow_add-result
 overflow_add-result c =
     let a = c.args in
     let rs = up_to a.top ∷ [] in
-    let n = c.wide-n.ensures.0 in
+    let n = c.from-n.ensures in
     let h = list-stands a.s.now a.at a.limit rs (seen field_read c.byte_at.ensures c.in-Got.is)
     (sym c.if-entries_stand.true ∙ c.entries_stand.ensures ∙ ap (λ (k : ℕ). is_got (bytes_at a.s.now c.in-Got.first (repeat k rs))) n) in
-    let z : c.in-Got.first + c.wide-n.result ≤ length a.s.now = omega (arith, n, h.2) in
+    let z : c.in-Got.first + c.from-n.result ≤ length a.s.now = omega (arith, n, h.2) in
     search (rules, z)
 
 pub returns-then-entries_stand : goal.returns-then-entries_stand
 returns-then-entries_stand c =
     let a = c.args in
     let rs = up_to a.top ∷ [] in
-    let n = c.wide-n.ensures.0 in
+    let n = c.from-n.ensures in
     let h = list-stands a.s.now a.at a.limit rs (seen field_read c.byte_at.ensures c.in-Got.is)
     (sym c.if-entries_stand.true ∙ c.entries_stand.ensures ∙ ap (λ (k : ℕ). is_got (bytes_at a.s.now c.in-Got.first (repeat k rs))) n) in
     (rw (not-false a.present c.if-not-present.false-raw) (ap₂ (λ (k m : ℕ). got (bytes_from a.s.now c.in-Got.first k) m) (omega arith) (omega (arith, n)) ∙ h.0), (h.1, omega (arith, h.2)))
@@ -41,7 +41,7 @@ pub returns : goal.returns
 returns c =
     let a = c.args in
     let rs = up_to a.top ∷ [] in
-    let n = c.wide-n.ensures.0 in (
+    let n = c.from-n.ensures in (
       rw (not-false a.present c.if-not-present.false-raw) (list-stands-not a.s.now a.at a.limit rs (seen field_read c.byte_at.ensures c.in-Got.is)
           (sym c.if-entries_stand.false ∙ c.entries_stand.ensures ∙ ap (λ (k : ℕ). is_got (bytes_at a.s.now c.in-Got.first (repeat k rs))) n)),
       tt,

@@ -20,7 +20,7 @@ stand : (c : lts.After-pairs_stand tie.the-claims reads.Pre reads.Post) → let 
 stand c =
     let a = c.args in
     c.pairs_stand.ensures
-    ∙ ap (λ (k : ℕ). is_got (bytes_at a.s.now c.in-Got.first (repeat k (up_to a.top ∷ record { low = a.low; top = a.high } ∷ [])))) c.wide-n.ensures.0
+    ∙ ap (λ (k : ℕ). is_got (bytes_at a.s.now c.in-Got.first (repeat k (up_to a.top ∷ record { low = a.low; top = a.high } ∷ [])))) c.from-n.ensures
 
 pub returns-then-not-present : goal.returns-then-not-present
 unfolding bytes_from
@@ -33,17 +33,17 @@ pub overflow_add-result : goal.overflow_add-result
 overflow_add-result c =
     let a = c.args in
     let rs = up_to a.top ∷ record { low = a.low; top = a.high } ∷ [] in
-    let n = c.wide-n.ensures.0 in
+    let n = c.from-n.ensures in
     let h = list-stands a.s.now a.at a.limit rs (seen field_read c.byte_at.ensures c.in-Got.is)
     (sym c.if-pairs_stand.true ∙ stand c.before.before) in
-    let z : c.in-Got.first + c.wide-n.result * 2 ≤ length a.s.now = omega (arith, n, h.2) in
+    let z : c.in-Got.first + c.from-n.result * 2 ≤ length a.s.now = omega (arith, n, h.2) in
     search (rules, z)
 
 pub returns-then-pairs_stand : goal.returns-then-pairs_stand
 returns-then-pairs_stand c =
     let a = c.args in
     let rs = up_to a.top ∷ record { low = a.low; top = a.high } ∷ [] in
-    let n = c.wide-n.ensures.0 in
+    let n = c.from-n.ensures in
     let h = list-stands a.s.now a.at a.limit rs (seen field_read c.byte_at.ensures c.in-Got.is)
     (sym c.if-pairs_stand.true ∙ stand c.before.before) in
     (rw (not-false a.present c.if-not-present.false-raw) (ap (got (bytes_from a.s.now c.in-Got.first (c.in-Got.count * 2))) (omega (arith, n)) ∙ h.0), (h.1, h.2))
@@ -52,7 +52,7 @@ pub returns : goal.returns
 returns c =
     let a = c.args in
     let rs = up_to a.top ∷ record { low = a.low; top = a.high } ∷ [] in
-    let n = c.wide-n.ensures.0 in (
+    let n = c.from-n.ensures in (
       rw (not-false a.present c.if-not-present.false-raw) (list-stands-not a.s.now a.at a.limit rs (seen field_read c.byte_at.ensures c.in-Got.is)
           (sym c.if-pairs_stand.false ∙ stand c.before.before)),
       tt,

@@ -9,6 +9,3 @@ use Rattle.records.proofs.fields.pairs_stand.Given as goal
 abbrev pub invariant-loop-i : goal.invariant-loop-i
 invariant-loop-i l =
     (l.i ≤ l.n) × (is_got (bytes_at l.s l.p (repeat (l.n - l.i) (up_to l.top ∷ record { low = l.low; top = l.high } ∷ []))) ≡ is_got (bytes_at l.s l.at (repeat l.n (up_to l.top ∷ record { low = l.low; top = l.high } ∷ []))))
-
-abbrev pub decreases-loop-i : goal.decreases-loop-i
-decreases-loop-i l = l.n - l.i

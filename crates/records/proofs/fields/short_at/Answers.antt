@@ -22,8 +22,8 @@ returns-in_default-byte_at c = rw (not-false c.args.present c.if-not-present.fal
 
 pub returns-then-value-le4096 : goal.returns-then-value-le4096
 unfolding field_at bytes_at
-returns-then-value-le4096 c = let w = word_is c.to_u16.ensures.0 c.to_u16-2.ensures.0 in rw (not-false c.args.present c.if-not-present.false-raw, seen field_read c.byte_at.ensures c.in-Got.is, seen field_read c.byte_at-2.ensures c.in-Got-byte_at.is, ap (λ (x : ℕ). leb x 4096) (sym w) ∙ le-leb _ _ c.if-value-le4096.true) (ap (λ (x : ℕ). got x c.in-Got-byte_at.q) w)
+returns-then-value-le4096 c = let w = word_is c.from.ensures c.from-2.ensures in rw (not-false c.args.present c.if-not-present.false-raw, seen field_read c.byte_at.ensures c.in-Got.is, seen field_read c.byte_at-2.ensures c.in-Got-byte_at.is, ap (λ (x : ℕ). leb x 4096) (sym w) ∙ le-leb _ _ c.if-value-le4096.true) (ap (λ (x : ℕ). got x c.in-Got-byte_at.q) w)
 
 pub returns : goal.returns
 unfolding field_at bytes_at
-returns c = let w = word_is c.to_u16.ensures.0 c.to_u16-2.ensures.0 in rw (not-false c.args.present c.if-not-present.false-raw, seen field_read c.byte_at.ensures c.in-Got.is, seen field_read c.byte_at-2.ensures c.in-Got-byte_at.is, ap (λ (x : ℕ). leb x 4096) (sym w) ∙ lt-leb _ _ c.if-value-le4096.false)
+returns c = let w = word_is c.from.ensures c.from-2.ensures in rw (not-false c.args.present c.if-not-present.false-raw, seen field_read c.byte_at.ensures c.in-Got.is, seen field_read c.byte_at-2.ensures c.in-Got-byte_at.is, ap (λ (x : ℕ). leb x 4096) (sym w) ∙ lt-leb _ _ c.if-value-le4096.false)

@@ -8,7 +8,7 @@ pub returns : goal.returns
 returns c =
     let a = c.args in
     let s = a.s.now in (
-      four_is s a.at c.to_u64-a.ensures.0 c.to_u64-b.ensures.0 c.to_u64-c.ensures.0 c.to_u64-d.ensures.0,
+      four_is s a.at c.from-a.ensures c.from-b.ensures c.from-c.ensures c.from-d.ensures,
       search rules,
-      four_free s a.at c.requires (omega (arith, c.to_u64-a.ensures)) (omega (arith, c.to_u64-b.ensures)) (omega (arith, c.to_u64-c.ensures)) (omega (arith, c.to_u64-d.ensures)),
+      four_free s a.at c.requires (omega (arith, c.from-a.ensures)) (omega (arith, c.from-b.ensures)) (omega (arith, c.from-c.ensures)) (omega (arith, c.from-d.ensures)),
     )

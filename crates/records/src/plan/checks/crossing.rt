@@ -10,7 +10,6 @@ use crate::checked::Checked;
 use crate::plan::checks::naming::entry;
 use crate::plan::counts::{Counts, count_records};
 use crate::plan::{Cut, Decisions, Edge, Plan};
-use sets::numbers::wide;
 use sets::persons::has_person;
 
 #[derive(Drop)]
@@ -23,13 +22,11 @@ pub fn decided(decisions: Decisions, edge: usize) -> bool
     ensures { result ≡ decided_in (decisions_of decisions) edge }
 {
     let list = decisions.edges;
-    let count = wide(decisions.count);
-    let mut i: usize = 0;
-    while i < count {
-        if wide(entry(list, i)) == edge {
+    let count = usize::from(decisions.count);
+    for i in 0..count {
+        if usize::from(entry(list, i)) == edge {
             return true;
         }
-        i = i + 1;
     }
     false
 }

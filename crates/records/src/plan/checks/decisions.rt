@@ -6,20 +6,17 @@ ghost use Rattle.records.specs.code.Decoded.{decisions_of};
 ghost use Rattle.records.specs.code.PlanPasses.{decisions_left};
 
 use crate::plan::Decisions;
-use sets::numbers::wide;
 
 // whether one of the decisions from number i on is of this edge
 fn decided_from(d: Decisions, edge: u8, i: usize) -> bool
     requires { (d.count ≤ 64) × (i ≤ d.count) }
     ensures { result ≡ any_of (λ e. eqb e.edge edge) (decisions_left d i) }
 {
-    let n = wide(d.count);
-    let mut j = i;
-    while j < n {
+    let n = usize::from(d.count);
+    for j in i..n {
         if d.edges[j] == edge {
             return true;
         }
-        j = j + 1;
     }
     false
 }
@@ -28,13 +25,11 @@ pub fn decided_once(d: Decisions) -> bool
     requires { d.count ≤ 64 }
     ensures { result ≡ decided_once (decisions_of d) }
 {
-    let n = wide(d.count);
-    let mut i: usize = 0;
-    while i < n {
+    let n = usize::from(d.count);
+    for i in 0..n {
         if decided_from(d, d.edges[i], i + 1) {
             return false;
         }
-        i = i + 1;
     }
     true
 }
@@ -43,14 +38,12 @@ pub fn unresolved_in(d: Decisions) -> usize
     requires { d.count ≤ 64 }
     ensures { (result ≡ unresolved_in (decisions_of d)) × (result ≤ 64) }
 {
-    let n = wide(d.count);
+    let n = usize::from(d.count);
     let mut total: usize = 0;
-    let mut i: usize = 0;
-    while i < n {
+    for i in 0..n {
         if d.verdicts[i] == 3 {
             total = total + 1;
         }
-        i = i + 1;
     }
     total
 }

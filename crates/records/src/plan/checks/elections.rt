@@ -1,5 +1,5 @@
 // Refusal 7 of a plan: elections for one fact that differ. The record refused is the later one.
-ghost use Rattle.std.specs.Prelude.{◌≡◌, cond};
+ghost use Rattle.std.specs.Prelude.{◌≡◌, ◌<◌, cond};
 ghost use Rattle.records.specs.paper.Fields.{fine, first_fault};
 ghost use Rattle.records.specs.paper.Plan.{cuts_at};
 ghost use Rattle.records.specs.code.Decoded.{plan_of, election_of};
@@ -10,7 +10,6 @@ use crate::checked::Checked;
 use crate::fields::no_election;
 use crate::plan::counts::{Counts, count_records};
 use crate::plan::{Attachment, Attachments, Cut, Cuts, Election, Plan};
-use sets::numbers::wide;
 
 pub fn same(a: Election, b: Election) -> bool
     ensures { result ≡ agree (election_of a) (election_of b) }
@@ -39,6 +38,13 @@ fn latest(earlier: Election, later: Election) -> Election
     if later.given { later } else { earlier }
 }
 
+// The place of an election's fact among all that there may be.
+fn fact_place(election: Election) -> usize
+    ensures { (result ≡ election.fact) × (result < 256) }
+{
+    usize::from(election.fact)
+}
+
 // One election for a fact is kept: as long as none differs, it stands for all of them.
 pub fn elections(plan: Plan) -> Checked
     ensures { result ≡ checked_of (first_fault (cuts_at (plan_of plan)) (agreement (plan_of plan)) (fine (plan_of plan))) }
@@ -50,17 +56,13 @@ pub fn elections(plan: Plan) -> Checked
     let cuts = plan.cuts;
     let attachments = plan.attachments;
     let mut kept = [no_election(); 256];
-    let mut k: usize = 0;
-    while k < total {
-        let mut election = no_election();
-        if k < cut_count {
-            let cut = cuts.items[k];
-            election = cut.election;
+    for k in 0..total {
+        let election = if k < cut_count {
+            cuts.items[k].election
         } else {
-            let attachment = attachments.items[k - cut_count];
-            election = attachment.election;
-        }
-        let fact = wide(election.fact);
+            attachments.items[k - cut_count].election
+        };
+        let fact = fact_place(election);
         let earlier = kept[fact];
         if !same(election, earlier) {
             return Checked::Refused {
@@ -69,7 +71,6 @@ pub fn elections(plan: Plan) -> Checked
             };
         }
         kept[fact] = latest(earlier, election);
-        k = k + 1;
     }
     Checked::Accepted
 }

@@ -5,23 +5,20 @@ ghost use Rattle.records.specs.paper.Plan.{rises};
 ghost use Rattle.records.specs.code.Decoded.{fact_of};
 
 use crate::plan::Fact;
-use sets::numbers::wide;
 
 pub fn tuple_less(a: [u8; 4], m: u8, b: [u8; 4], n: u8) -> bool
     requires { (m ≤ 4) × (n ≤ 4) }
     ensures { result ≡ lex_less (take m a) (take n b) }
 {
-    let j = wide(m);
-    let k = wide(n);
-    let mut i: usize = 0;
-    while i < j {
+    let j = usize::from(m);
+    let k = usize::from(n);
+    for i in 0..j {
         if k <= i {
             return false;
         }
         if a[i] != b[i] {
             return a[i] < b[i];
         }
-        i = i + 1;
     }
     j < k
 }

@@ -12,22 +12,19 @@ use crate::plan::checks::naming::{
 };
 use crate::plan::counts::{Counts, count_records};
 use crate::plan::{Attachments, Bars, Cuts, Edges, Nodes, Plan, Statuses};
-use sets::numbers::{upto, wide};
 
 fn node_faults(facts: usize, nodes: Nodes, first: usize) -> Checked
     requires { first ≤ 1000 }
     ensures { NodesNamed facts nodes first result }
 {
-    let count = upto(nodes.count, 256);
-    let mut k: usize = 0;
-    while k < count {
+    let count = nodes.count.min(256);
+    for k in 0..count {
         if !node_sound(facts, k, nodes.items[k]) {
             return Checked::Refused {
                 number: 4,
                 record: first + k,
             };
         }
-        k = k + 1;
     }
     Checked::Accepted
 }
@@ -36,16 +33,14 @@ fn edge_faults(nodes: usize, edges: Edges, first: usize) -> Checked
     requires { first ≤ 1000 }
     ensures { EdgesNamed nodes edges first result }
 {
-    let count = upto(edges.count, 64);
-    let mut k: usize = 0;
-    while k < count {
+    let count = edges.count.min(64);
+    for k in 0..count {
         if !edge_sound(nodes, edges.items[k]) {
             return Checked::Refused {
                 number: 4,
                 record: first + k,
             };
         }
-        k = k + 1;
     }
     Checked::Accepted
 }
@@ -54,16 +49,14 @@ fn cut_faults(booleans: u64, counts: Counts, cuts: Cuts, first: usize) -> Checke
     requires { first ≤ 1000 }
     ensures { CutsNamed booleans counts cuts first result }
 {
-    let count = upto(cuts.count, 16);
-    let mut k: usize = 0;
-    while k < count {
+    let count = cuts.count.min(16);
+    for k in 0..count {
         if !cut_sound(booleans, counts, cuts.items[k]) {
             return Checked::Refused {
                 number: 4,
                 record: first + k,
             };
         }
-        k = k + 1;
     }
     Checked::Accepted
 }
@@ -72,16 +65,14 @@ fn attachment_faults(booleans: u64, nodes: usize, attachments: Attachments, firs
     requires { first ≤ 1000 }
     ensures { AttachmentsNamed booleans nodes attachments first result }
 {
-    let count = upto(attachments.count, 32);
-    let mut k: usize = 0;
-    while k < count {
+    let count = attachments.count.min(32);
+    for k in 0..count {
         if !attachment_sound(booleans, nodes, attachments.items[k]) {
             return Checked::Refused {
                 number: 4,
                 record: first + k,
             };
         }
-        k = k + 1;
     }
     Checked::Accepted
 }
@@ -90,16 +81,14 @@ fn bar_faults(nodes: usize, bars: Bars, first: usize) -> Checked
     requires { first ≤ 1000 }
     ensures { BarsNamed nodes bars first result }
 {
-    let count = upto(bars.count, 32);
-    let mut k: usize = 0;
-    while k < count {
-        if wide(bars.items[k].condition) >= nodes {
+    let count = bars.count.min(32);
+    for k in 0..count {
+        if usize::from(bars.items[k].condition) >= nodes {
             return Checked::Refused {
                 number: 4,
                 record: first + k,
             };
         }
-        k = k + 1;
     }
     Checked::Accepted
 }
@@ -108,16 +97,14 @@ fn status_faults(nodes: usize, statuses: Statuses, first: usize) -> Checked
     requires { first ≤ 1000 }
     ensures { StatusesNamed nodes statuses first result }
 {
-    let count = upto(statuses.count, 32);
-    let mut k: usize = 0;
-    while k < count {
-        if wide(statuses.items[k].condition) >= nodes {
+    let count = statuses.count.min(32);
+    for k in 0..count {
+        if usize::from(statuses.items[k].condition) >= nodes {
             return Checked::Refused {
                 number: 4,
                 record: first + k,
             };
         }
-        k = k + 1;
     }
     Checked::Accepted
 }

@@ -6,20 +6,17 @@ ghost use Rattle.records.specs.code.Named.{all_under, all_decide, NodeSound, Edg
 
 use crate::plan::counts::Counts;
 use crate::plan::{Attachment, Cut, Decisions, Edge, Election, Facts, Node, Numbers};
-use sets::numbers::{upto, wide};
 use sets::{bit, contains, union};
 
 pub fn all_under(n: Numbers, bound: usize) -> bool
     ensures { result ≡ all_under bound (numbers_of n) }
 {
     let items = n.items;
-    let count = upto(wide(n.count), 16);
-    let mut i: usize = 0;
-    while i < count {
-        if wide(items[i]) >= bound {
+    let count = usize::from(n.count).min(16);
+    for i in 0..count {
+        if usize::from(items[i]) >= bound {
             return false;
         }
-        i = i + 1;
     }
     true
 }
@@ -32,10 +29,10 @@ pub fn node_sound(facts: usize, k: usize, node: Node) -> bool
         return true;
     }
     if sort == 1 {
-        return wide(node.number) < facts;
+        return usize::from(node.number) < facts;
     }
     if sort >= 4 {
-        return wide(node.number) < k;
+        return usize::from(node.number) < k;
     }
     let children = node.children;
     all_under(children, k)
@@ -44,7 +41,7 @@ pub fn node_sound(facts: usize, k: usize, node: Node) -> bool
 pub fn edge_sound(nodes: usize, edge: Edge) -> bool
     ensures { EdgeSound nodes edge result }
 {
-    if wide(edge.condition) >= nodes {
+    if usize::from(edge.condition) >= nodes {
         return false;
     }
     let defeaters = edge.defeaters;
@@ -55,14 +52,12 @@ pub fn edge_sound(nodes: usize, edge: Edge) -> bool
 pub fn boolean_facts(facts: Facts) -> u64
     ensures { BooleanFacts facts result }
 {
-    let count = upto(facts.count, 64);
+    let count = facts.count.min(64);
     let mut m: u64 = 0;
-    let mut k: usize = 0;
-    while k < count {
+    for k in 0..count {
         if facts.items[k].boolean {
             m = union(m, bit(k as u8));
         }
-        k = k + 1;
     }
     m
 }
@@ -90,13 +85,11 @@ pub fn all_decide(decisions: Decisions, edges: usize) -> bool
     ensures { result ≡ all_decide edges (decisions_of decisions) }
 {
     let list = decisions.edges;
-    let count = wide(decisions.count);
-    let mut i: usize = 0;
-    while i < count {
-        if wide(entry(list, i)) >= edges {
+    let count = usize::from(decisions.count);
+    for i in 0..count {
+        if usize::from(entry(list, i)) >= edges {
             return false;
         }
-        i = i + 1;
     }
     true
 }
@@ -104,7 +97,7 @@ pub fn all_decide(decisions: Decisions, edges: usize) -> bool
 pub fn cut_sound(booleans: u64, counts: Counts, cut: Cut) -> bool
     ensures { CutSound booleans counts cut result }
 {
-    if wide(cut.condition) >= counts.nodes {
+    if usize::from(cut.condition) >= counts.nodes {
         return false;
     }
     let election = cut.election;
@@ -122,7 +115,7 @@ pub fn cut_sound(booleans: u64, counts: Counts, cut: Cut) -> bool
 pub fn attachment_sound(booleans: u64, nodes: usize, attachment: Attachment) -> bool
     ensures { AttachmentSound booleans nodes attachment result }
 {
-    if wide(attachment.condition) >= nodes {
+    if usize::from(attachment.condition) >= nodes {
         return false;
     }
     let election = attachment.election;

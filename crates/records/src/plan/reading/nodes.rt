@@ -13,7 +13,6 @@ use crate::fields::lists::numbers_from;
 use crate::fields::passing::{Passing, refused};
 use crate::fields::{Field, Listed, byte_at, list_at, opt_at};
 use crate::plan::{Node, Nodes, Numbers};
-use sets::numbers::to_u64;
 
 // The fields of a node, each 0 without its bit; where the children of And and of Or stand, and how many there are.
 #[derive(Drop)]
@@ -119,7 +118,7 @@ fn node_from(s: &[u8], bits: u8, fields: NodeFields) -> Node
 fn one_bit(bits: u8) -> bool
     ensures { result ≡ single bits }
 {
-    u64::count_ones(to_u64(bits)) == 1
+    u64::count_ones(u64::from(bits)) == 1
 }
 
 #[derive(Drop)]

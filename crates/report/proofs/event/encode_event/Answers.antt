@@ -1,9 +1,8 @@
--- `event::encode_event`: the code divides as the definition does.
-use mathlib.Core.Path.{refl}
-use Rattle.page.specs.Little.{little_bytes}
+-- `event::encode_event`: four bytes, then the mask's.
+use mathlib.Core.List.{append-nil}
 use Rattle.worlds.specs.paper.Events.{event}
 use Rattle.report.proofs.event.encode_event.Goals as goal
 
 pub returns : goal.returns
-unfolding event little_bytes
-returns c = refl
+unfolding event
+returns c = rw (c.copy_from_slice.ensures.after, c.copy_from_slice-2.ensures.after, c.mask_bytes.ensures) (simp append-nil)

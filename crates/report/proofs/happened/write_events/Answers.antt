@@ -6,7 +6,7 @@ pub returns-then-count-eq0 : goal.returns-then-count-eq0
 returns-then-count-eq0 c = none_written _ _ _ _ _ _ _ _ c.requires.0 c.if-count-eq0.true
 
 pub write_rules-requires : goal.write_rules-requires
-write_rules-requires c = room-same _ _ _ _ _ c.shift_up.ensures.long c.requires.0
+write_rules-requires c = room-same _ _ _ _ _ c.copy_within.ensures.len c.requires.0
 
 pub returns : goal.returns
-returns c = behind_all _ _ _ _ _ _ _ _ _ _ c.shift_up.ensures c.write_rules.ensures
+returns c = behind_all _ _ _ _ _ _ _ _ _ _ c.requires.1 c.copy_within.ensures.after c.write_rules.ensures

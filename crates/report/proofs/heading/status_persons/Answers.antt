@@ -1,44 +1,39 @@
-use mathlib.Core.Path.{refl, sym, ◌∙◌}
+-- `heading::status_persons`: the persons of the statuses in use, taken in one after another.
+use mathlib.Core.Path.{◌≡◌, sym, ap, ◌∙◌}
+use mathlib.Core.List.{map}
+use Prim.Native.Nat.{◌<◌}
+use native.Mathlib.Omega.{arith}
 use borrow.Author.Rules.{rules}
-use Rattle.sets.specs.paper.Sets.{union}
+use lib.ListN.{take}
+use Rattle.std.specs.List.{fold}
+use Rattle.std.proofs.lemmas.Iterator.{YieldsList-from_slice}
+use Rattle.std.proofs.lemmas.Iterator.Adapters.{serves_from_places}
+use Rattle.sets.specs.paper.Sets.{union, union_of, one, All}
+use Rattle.sets.proofs.Every.{all_of_map}
+use Rattle.sets.proofs.LoopLaws.{all_at}
 use Rattle.records.specs.code.Decoded.{status_of}
+use Rattle.records.specs.declared.plan.Status.{Status}
+use Rattle.records.proofs.UsedLaws.{used_take}
 use Rattle.expressions.specs.code.Coded.{PersonFits}
 use Rattle.expressions.specs.code.Listed.{held_by_status}
-use Rattle.expressions.proofs.ListLaws.{made_each}
-use Rattle.sets.proofs.UnionLaws.{none-union, union-first, union_end}
-use Rattle.report.proofs.HeadingLaws.{made-rest, made_end}
-use native.Mathlib.Omega.{arith}
+use Rattle.report.proofs.HeadingLaws.{folded-union, union-map}
 use Rattle.report.proofs.heading.status_persons.Goals as goal
 
-pub loop-i-init : goal.loop-i-init
-loop-i-init c = (search rules, none-union _)
-
-pub person_mask-all-requires : goal.person_mask-all-requires
+pub fold-requires-clause-can : goal.fold-requires-clause-can
 unfolding status_of
-person_mask-all-requires c =
-    let l = c in
-    let a = l in
-    let s = a in
-    made_each status_of s.args.statuses.items s.args.statuses.count 32 a.upto-n.result (omega (arith, c.well_formed)) a.upto-n.ensures.0 PersonFits l.loop-i.i _ (search rules) s.requires
-
-pub loop-i-preserved : goal.loop-i-preserved
-unfolding status_of union
-loop-i-preserved c =
-    let l = c in
-    let a = l in
-    let s = a in (
-      search rules,
-      union-first held_by_status l.loop-i.all _ c.person_mask-all.result _ _ _
-          (made-rest status_of s.args.statuses.items s.args.statuses.count 32 a.upto-n.result (omega (arith, c.well_formed)) a.upto-n.ensures.0 l.loop-i.i _ (search rules)) refl
-          c.person_mask-all.ensures
-          ∙ l.loop-i.invariant.1,
+fold-requires-clause-can c =
+    let s = c.args.statuses in
+    let used = used_take s.items s.count 32 c.min.result (omega (arith, c.well_formed)) c.min.ensures in
+    let each : All (λ (x : Status). x.person < 64) (take c.min.result s.items) = rw used (all_of_map status_of PersonFits (take s.count s.items) c.requires) in (
+      tt,
+      serves_from_places (YieldsList-from_slice (take c.min.result s.items) cc) (λ x q r. search rules)
+          (λ x k h e. let small : x.now.person < 64 = rw e (all_at (λ (x : Status). x.person < 64) _ x.now k each h) in search rules),
     )
 
 pub returns : goal.returns
+unfolding status_of
 returns c =
-    let l = c in
-    let a = l in
-    let s = a in
-    sym (union_end held_by_status l.loop-i.all _
-    (made_end status_of s.args.statuses.items s.args.statuses.count 32 a.upto-n.result (omega (arith, c.well_formed)) a.upto-n.ensures.0 l.loop-i.i (search rules)))
-    ∙ l.loop-i.invariant.1
+    let s = c.args.statuses in
+    let used = used_take s.items s.count 32 c.min.result (omega (arith, c.well_formed)) c.min.ensures in
+    let all : c.fold.result ≡ fold union 0 (map (λ (x : Status). one x.person) (take c.min.result s.items)) = search rules in
+    all ∙ folded-union (λ m. m) _ ∙ union-map (λ m. m) _ _ ∙ ap (union_of (λ (x : Status). one x.person)) used ∙ sym (union-map held_by_status status_of _)

@@ -1,28 +1,40 @@
 -- `line::encode`: the fields one after another.
-use mathlib.Core.Path.{ap, ◌∙◌}
-use mathlib.Core.List.{List, [], ◌∷◌, ◌++◌}
-use Prim.Native.Nat.{ℕ}
-use lib.ListN.{get_or}
+use mathlib.Core.Path.{refl}
+use native.Mathlib.Omega.{arith}
 use Rattle.page.specs.Little.{little_bytes}
 use Rattle.report.specs.paper.Line.{line_bytes}
-use Rattle.report.specs.declared.line.Line.{Line}
 use Rattle.report.proofs.line.encode.Goals as goal
 
--- the eight bytes of a list
-abbrev eight : List ℕ → List ℕ
-eight b = get_or b 0 0 ∷ get_or b 1 0 ∷ get_or b 2 0 ∷ get_or b 3 0 ∷ get_or b 4 0 ∷ get_or b 5 0 ∷ get_or b 6 0 ∷ get_or b 7 0 ∷ []
+pub slice_bounds-bytes-end-4 : goal.slice_bounds-bytes-end-4
+unfolding little_bytes
+slice_bounds-bytes-end-4 c =
+    rw (c.copy_from_slice.ensures.after, c.copy_from_slice-2.ensures.after, c.mask_bytes.ensures, c.copy_from_slice-3.ensures.after, c.mask_bytes-2.ensures)
+    (omega arith)
 
--- the fields, with the masks' bytes from three lists
-abbrev fields : Line → List ℕ → List ℕ → List ℕ → List ℕ
-fields l b f d = l.person ∷ l.kind ∷ l.role ∷ (eight b ++ (eight f ++ (little_bytes 2 l.decisions ++ eight d)))
+pub slice_bounds-bytes-end-5 : goal.slice_bounds-bytes-end-5
+unfolding little_bytes
+slice_bounds-bytes-end-5 c =
+    rw (
+      c.copy_from_slice.ensures.after,
+      c.copy_from_slice-2.ensures.after,
+      c.mask_bytes.ensures,
+      c.copy_from_slice-3.ensures.after,
+      c.mask_bytes-2.ensures,
+      c.copy_from_slice-4.ensures.after,
+      c.to_le_bytes.ensures,
+    ) (omega arith)
 
 pub returns : goal.returns
 unfolding line_bytes little_bytes
 returns c =
-    let l = c.args.l in
-    let b = c.mask_bytes-b in
-    let f = c.mask_bytes-f in
-    let d = c.mask_bytes-c in
-    ap (λ (x : List ℕ). fields l x f.result d.result) b.ensures
-    ∙ ap (λ (x : List ℕ). fields l (little_bytes 8 l.block) x d.result) f.ensures
-    ∙ ap (λ (x : List ℕ). fields l (little_bytes 8 l.block) (little_bytes 8 l.facts) x) d.ensures
+    rw (
+      c.copy_from_slice.ensures.after,
+      c.copy_from_slice-2.ensures.after,
+      c.mask_bytes.ensures,
+      c.copy_from_slice-3.ensures.after,
+      c.mask_bytes-2.ensures,
+      c.copy_from_slice-4.ensures.after,
+      c.to_le_bytes.ensures,
+      c.copy_from_slice-5.ensures.after,
+      c.mask_bytes-3.ensures,
+    ) refl

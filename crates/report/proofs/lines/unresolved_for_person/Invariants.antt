@@ -1,12 +1,8 @@
 -- `lines::unresolved_for_person`: the numbers passed whose sets hold the person.
 use mathlib.Core.Path.{◌≡◌}
-use Prim.Native.Nat.{◌-◌, ◌≤◌}
-use lib.ListN.{length, get_or}
+use lib.ListN.{get_or}
 use Rattle.sets.specs.paper.Sets.{has, one, only, union_below}
 use Rattle.report.proofs.lines.unresolved_for_person.Given as goal
 
 abbrev pub invariant-loop-i : goal.invariant-loop-i
-invariant-loop-i l = (l.i ≤ length l.sets) × (l.found ≡ union_below l.i (λ j. only (has (get_or l.sets j 0) l.p) (one j)))
-
-abbrev pub decreases-loop-i : goal.decreases-loop-i
-decreases-loop-i l = length l.sets - l.i
+invariant-loop-i l = l.found ≡ union_below l.i (λ j. only (has (get_or l.sets j 0) l.p) (one j))

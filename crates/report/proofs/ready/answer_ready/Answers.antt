@@ -4,7 +4,7 @@ use Rattle.report.proofs.ReadyLaws.{rows-clean, tables_ready, facts-few, decisio
 use Rattle.report.proofs.ready.answer_ready.Goals as goal
 
 pub influence_sets-influence-requires : goal.influence_sets-influence-requires
-influence_sets-influence-requires c = let s = c in (facts-few s.requires, decisions-few s.requires)
+influence_sets-influence-requires c = (facts-few c.requires, decisions-few c.requires)
 
 pub lay_tables-requires : goal.lay_tables-requires
 lay_tables-requires c = tables_ready c.requires
@@ -13,23 +13,16 @@ pub common_of-common-requires : goal.common_of-common-requires
 common_of-common-requires c = c.requires.sound
 
 pub variable_order-order-requires : goal.variable_order-order-requires
-variable_order-order-requires c =
-    let s = c in
-    (booleans-fit s.requires c.boolean_count.ensures.0, facts-few s.requires, decisions-few s.requires)
+variable_order-order-requires c = (booleans-fit c.requires c.boolean_count.ensures.0, facts-few c.requires, decisions-few c.requires)
 
 pub free_variables-n-requires : goal.free_variables-n-requires
-free_variables-n-requires c =
-    let v = c in
-    (order-fits c.requires v.boolean_count.ensures.0 v.variable_order-order.result v.variable_order-order.ensures, zeros-small 16)
+free_variables-n-requires c = (order-fits c.requires c.boolean_count.ensures.0 c.variable_order-order.result c.variable_order-order.ensures, zeros-small 16)
 
 pub spans_of-spans-requires : goal.spans_of-spans-requires
-spans_of-spans-requires c = let f = c in (facts-few f.requires, f.free_variables-n.ensures.few)
+spans_of-spans-requires c = (facts-few c.requires, c.free_variables-n.ensures.few)
 
 pub run-walked-requires : goal.run-walked-requires
-run-walked-requires c =
-    let f = c in
-    let h = f.requires in
-    (h.textual, f.free_variables-n.ensures.few, f.free_variables-n.ensures.small)
+run-walked-requires c = (c.requires.textual, c.free_variables-n.ensures.few, c.free_variables-n.ensures.small)
 
 -- ---- once the worlds are looked at
 
@@ -43,7 +36,7 @@ finish-requires c =
     let standing = stands h v.result v.ensures i.result i.ensures c.lay_tables.ensures c.common_of-common.ensures in
     let ordered = order_is h c.boolean_count.ensures.0 c.variable_order-order.result c.variable_order-order.ensures in
     ends h standing c.common_of-common.ensures.people ordered c.free_variables-n.ensures
-    (spans_told h i.result influenced c.spans_of-spans.ensures) c.run-walked.ensures c.started-sums.ensures (rows-clean 3 64)
+    (spans_told h i.result influenced c.spans_of-spans.ensures) c.run-walked.ensures c.started.ensures (rows-clean 3 64)
     influenced c.concerns-opens.ensures
 
 pub returns : goal.returns
@@ -55,5 +48,5 @@ returns c =
     let standing = stands h v.result v.ensures i.result i.ensures c.lay_tables.ensures c.common_of-common.ensures in
     let ordered = order_is h c.boolean_count.ensures.0 c.variable_order-order.result c.variable_order-order.ensures in
     answers h standing c.common_of-common.ensures.people ordered c.free_variables-n.ensures
-    (spans_told h i.result influenced c.spans_of-spans.ensures) c.run-walked.ensures c.started-sums.ensures (rows-clean 3 64)
+    (spans_told h i.result influenced c.spans_of-spans.ensures) c.run-walked.ensures c.started.ensures (rows-clean 3 64)
     influenced c.concerns-opens.ensures c.finish.ensures

@@ -16,14 +16,14 @@ returns-then-b-lt48 c =
     let L = c in
     let a = L.args in
     let d = between_cons a.s.now L.loop-i.i a.to c.loop-i-test.true L.requires.1 in
-    read_low a.top L.loop-i.v (get_or a.s.now L.loop-i.i 0) (between a.s.now (L.loop-i.i + 1) a.to) (omega (arith, c.wide-b.ensures)) ∙ ap (decimal_from a.top L.loop-i.v) (sym d) ∙ L.loop-i.invariant.1.1.1
+    read_low a.top L.loop-i.v (get_or a.s.now L.loop-i.i 0) (between a.s.now (L.loop-i.i + 1) a.to) (omega (arith, c.from-b.ensures)) ∙ ap (decimal_from a.top L.loop-i.v) (sym d) ∙ L.loop-i.invariant.1.1.1
 
 pub returns-then-b-gt57 : goal.returns-then-b-gt57
 returns-then-b-gt57 c =
     let L = c in
     let a = L.args in
     let d = between_cons a.s.now L.loop-i.i a.to c.loop-i-test.true L.requires.1 in
-    read_high a.top L.loop-i.v (get_or a.s.now L.loop-i.i 0) (between a.s.now (L.loop-i.i + 1) a.to) (omega (arith, c.wide-b.ensures)) (omega (arith, c.wide-b.ensures)) ∙ ap (decimal_from a.top L.loop-i.v) (sym d) ∙ L.loop-i.invariant.1.1.1
+    read_high a.top L.loop-i.v (get_or a.s.now L.loop-i.i 0) (between a.s.now (L.loop-i.i + 1) a.to) (omega (arith, c.from-b.ensures)) (omega (arith, c.from-b.ensures)) ∙ ap (decimal_from a.top L.loop-i.v) (sym d) ∙ L.loop-i.invariant.1.1.1
 
 pub returns-then-v-most : goal.returns-then-v-most
 returns-then-v-most c =
@@ -32,7 +32,7 @@ returns-then-v-most c =
     let b = get_or a.s.now L.loop-i.i 0 in
     let t = between a.s.now (L.loop-i.i + 1) a.to in
     let d = between_cons a.s.now L.loop-i.i a.to c.loop-i-test.true L.requires.1 in
-    decimal-over a.top (10 * L.loop-i.v + (b - 48)) t (omega (arith, c.wide-b.ensures)) ∙ sym (read_step a.top L.loop-i.v b t (omega (arith, c.wide-b.ensures)) (omega (arith, c.wide-b.ensures))) ∙ ap (decimal_from a.top L.loop-i.v) (sym d) ∙ L.loop-i.invariant.1.1.1
+    decimal-over a.top (10 * L.loop-i.v + (b - 48)) t (omega (arith, c.from-b.ensures)) ∙ sym (read_step a.top L.loop-i.v b t (omega (arith, c.from-b.ensures)) (omega (arith, c.from-b.ensures))) ∙ ap (decimal_from a.top L.loop-i.v) (sym d) ∙ L.loop-i.invariant.1.1.1
 
 pub loop-i-preserved : goal.loop-i-preserved
 loop-i-preserved c =
@@ -41,7 +41,7 @@ loop-i-preserved c =
     let b = get_or a.s.now L.loop-i.i 0 in
     let t = between a.s.now (L.loop-i.i + 1) a.to in
     let d = between_cons a.s.now L.loop-i.i a.to c.loop-i-test.true L.requires.1 in
-    (omega arith, (omega arith, (omega arith, ap (λ (x : ℕ). decimal_from a.top (10 * L.loop-i.v + (x - 48)) t) c.wide-b.ensures.0 ∙ sym (read_step a.top L.loop-i.v b t (omega (arith, c.wide-b.ensures)) (omega (arith, c.wide-b.ensures))) ∙ ap (decimal_from a.top L.loop-i.v) (sym d) ∙ L.loop-i.invariant.1.1.1)))
+    (omega arith, (omega arith, (omega arith, ap (λ (x : ℕ). decimal_from a.top (10 * L.loop-i.v + (x - 48)) t) c.from-b.ensures ∙ sym (read_step a.top L.loop-i.v b t (omega (arith, c.from-b.ensures)) (omega (arith, c.from-b.ensures))) ∙ ap (decimal_from a.top L.loop-i.v) (sym d) ∙ L.loop-i.invariant.1.1.1)))
 
 pub returns : goal.returns
 returns c =

@@ -7,6 +7,3 @@ use Rattle.spreadsheet.proofs.number.decimal_in.Given as goal
 
 abbrev pub invariant-loop-i : goal.invariant-loop-i
 invariant-loop-i l = (l.from ≤ l.i) × ((l.i ≤ l.to) × ((l.v ≤ l.top) × (decimal_from l.top l.v (between l.s l.i l.to) ≡ decimal_from l.top 0 (between l.s l.from l.to))))
-
-abbrev pub decreases-loop-i : goal.decreases-loop-i
-decreases-loop-i l = l.to - l.i

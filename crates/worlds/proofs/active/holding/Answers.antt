@@ -1,63 +1,6 @@
-use mathlib.Core.Path.{sym, ap, ◌∙◌}
-use mathlib.Core.Bool.{Bool, ◌&&◌, ◌||◌, or-false}
-use Prim.Native.Nat.{ℕ}
-use native.Mathlib.Nat.{lt_trans}
-use native.Mathlib.Omega.{arith}
-use Rattle.sets.specs.paper.Sets.{has, union}
-use Rattle.sets.proofs.SetLaws.{has-none}
-use Rattle.expressions.specs.paper.Nodes.{on}
-use Rattle.worlds.specs.code.Over.{entry}
-use Rattle.sets.proofs.TurnLaws.{turn_has, found_in, found_out}
+-- `active::holding`: the rules whose node holds.
+use Rattle.worlds.proofs.OverLaws.{tested-has}
 use Rattle.worlds.proofs.active.holding.Goals as goal
-use Rattle.worlds.proofs.active.holding.Goals.{else-values-wide, then-values-wide}
-
-pub loop-m-init : goal.loop-m-init
-loop-m-init c = (c.ranges.rules.fits, λ i. ap (λ (b : Bool). b || (has c.args.rules i && on c.args.values.now (entry c.args.conditions.now i))) (has-none i))
-
-pub low-i-requires : goal.low-i-requires
-low-i-requires c = c.loop-m-test.true
-
-pub bounds-conditions-i : goal.bounds-conditions-i
-bounds-conditions-i c = c.low-i.ensures.1
-
-pub bounds-values-wide : goal.bounds-values-wide
-bounds-values-wide c = c.wide.ensures.1
-
-pub overflow_cast-i : goal.overflow_cast-i
-overflow_cast-i c = omega (arith, c.low-i.ensures.1)
-
-pub bit-found-requires : goal.bit-found-requires
-bit-found-requires c = c.low-i.ensures.1
-
-pub others-m-requires : goal.others-m-requires
-others-m-requires c = c.loop-m-test.true
-
-pub loop-m-smaller : goal.loop-m-smaller
-loop-m-smaller c = c.others-m.ensures.1
-
-pub loop-m-preserved : goal.loop-m-preserved
-unfolding union
-loop-m-preserved c =
-    let k = c in
-    let a = k in
-    let l = a in
-    let s = l in
-    let h : ℕ → Bool = λ i. on s.args.values.now (entry s.args.conditions.now i) in
-    let here = ap (on s.args.values.now) (sym k.wide.ensures.0) in
-    let left = turn_has _ _ _ l.loop-m.invariant.0 a.low-i.ensures c.others-m.ensures in (
-      lt_trans c.others-m.ensures.1 l.loop-m.invariant.0,
-      λ i. (elim c.if-values-wide.branch [
-        | then-values-wide w ↦ ap (λ (x : ℕ). has x i || (has c.others-m.result i && h i)) (w.found-is ∙ ap (union l.loop-m.found) w.bit-found.ensures)
-            ∙ found_in h l.loop-m.m c.others-m.result a.low-i.result l.loop-m.found left (here ∙ w.if-values-wide.true) i
-        | else-values-wide w ↦ ap (λ (x : ℕ). has x i || (has c.others-m.result i && h i)) w.found-is
-            ∙ found_out h l.loop-m.m c.others-m.result a.low-i.result l.loop-m.found left (here ∙ w.if-values-wide.false) i
-      ]) ∙ l.loop-m.invariant.1 i,
-    )
 
 pub returns : goal.returns
-returns c =
-    let l = c in
-    let s = l in
-    let h : ℕ → Bool = λ i. on s.args.values.now (entry s.args.conditions.now i) in
-    λ i. sym (ap (λ (x : ℕ). has l.loop-m.found i || (has x i && h i)) c.loop-m-test.false
-    ∙ ap (λ (b : Bool). has l.loop-m.found i || (b && h i)) (has-none i) ∙ or-false (has l.loop-m.found i)) ∙ l.loop-m.invariant.1 i
+returns c = tested-has _ _ _ c.those.ensures.outside (λ i e. let h = c.those.ensures.inside i e in cc)

@@ -18,17 +18,13 @@ returns-then-persons-eq0 c = record {
 }
 
 pub returns : goal.returns
-returns c = let statuses = c in
-    let bars = statuses in
-    let leading = bars in
-    let edges = leading in
-    let args = edges.args in
+returns c =
     record {
       at = λ P I a S F L W E p h l.
-          cites-view P I args.common args.t.now a args.frozen args.settled S F L W args.blocks.now _ _ _ _ _ _ _ _ _ args.persons _ _ _ _
-          (λ h. filled_at 64 h 0) edges.minus-barred.ensures (λ x. leading.own_citations.ensures x ∙ ap (λ (y : ℕ). union y (own_of args.t.now args.settled.applied x)) (filled_at 64 x 0) ∙ none-union _)
-          leading.unless_none-leading.ensures bars.unless_none-bars.ensures statuses.unless_none-statuses.ensures
-          edges.cite_edges.ensures c.cite_cuts.ensures bars.cite_attachments.ensures
-          statuses.cite_named.ensures c.cite_named-2.ensures c.hand_out.ensures E p h l;
+          cites-view P I c.args.common c.args.t.now a c.args.frozen c.args.settled S F L W c.args.blocks.now _ _ _ _ _ _ _ _ _ c.args.persons _ _ _ _
+          (λ h. filled_at 64 h 0) c.minus-barred.ensures (λ x. c.own_citations.ensures x ∙ ap (λ (y : ℕ). union y (own_of c.args.t.now c.args.settled.applied x)) (filled_at 64 x 0) ∙ none-union _)
+          c.unless_none-leading.ensures c.unless_none-bars.ensures c.unless_none-statuses.ensures
+          c.cite_edges.ensures c.cite_cuts.ensures c.cite_attachments.ensures
+          c.cite_named.ensures c.cite_named-2.ensures c.hand_out.ensures E p h l;
       others = kept c.hand_out.ensures;
     }

@@ -15,67 +15,38 @@ use Rattle.worlds.proofs.cite.cite_at.Goals as goal
 use Rattle.worlds.proofs.cite.cite_at.Goals.{else-b-ne0, then-b-ne0}
 
 pub loop-m-init : goal.loop-m-init
-loop-m-init c = (c.ranges.persons.fits, c.whole_64_words.ensures, record { at = λ live fits B p l. refl })
-
-pub low-requires : goal.low-requires
-low-requires c = c.loop-m-test.true
-
-pub offset_bounds-blocks-low : goal.offset_bounds-blocks-low
-offset_bounds-blocks-low c = omega (arith, c.low.ensures.1)
-
-pub bounds-blocks-low : goal.bounds-blocks-low
-bounds-blocks-low c = c.low.ensures.1
-
-pub low-k-requires : goal.low-k-requires
-low-k-requires c = c.if-b-ne0.true
-
-pub offset_bounds-cited-k : goal.offset_bounds-cited-k
-offset_bounds-cited-k c = omega (arith, c.low-k.ensures.1)
-
-pub bounds-cited-k : goal.bounds-cited-k
-bounds-cited-k c = c.low-k.ensures.1
-
-pub offset_bounds-cited-k-then-b-ne0 : goal.offset_bounds-cited-k-then-b-ne0
-offset_bounds-cited-k-then-b-ne0 c = omega (arith, c.low-k.ensures.1)
-
-pub bounds-cited-k-then-b-ne0 : goal.bounds-cited-k-then-b-ne0
-bounds-cited-k-then-b-ne0 c = c.low-k.ensures.1
-
-pub others-requires : goal.others-requires
-others-requires c = c.loop-m-test.true
+loop-m-init c = (c.ranges.persons.fits, c.told-cited, record { at = λ live fits B p l. refl })
 
 pub loop-m-smaller : goal.loop-m-smaller
-loop-m-smaller c = let l = c in
-    subst (λ (x : ℕ). x < l.loop-m.m) (sym c.minus-m.ensures) (lt_of_le_of_lt (minus_le _ _) c.others.ensures.1)
+loop-m-smaller c = subst (λ (x : ℕ). x < c.loop-m.m) (sym c.minus-m.ensures) (lt_of_le_of_lt (minus_le _ _) c.others.ensures.1)
 
 pub loop-m-preserved : goal.loop-m-preserved
 unfolding union
-loop-m-preserved c = let l = c in
-    let args = l.args in
+loop-m-preserved c = let args = c.args in
     let lies = c.low in
     let bs = args.blocks.now in
     let next = c.if-b-ne0.cited in
     let q = lies.result in
-    let added : (CitesIn bs (λ b. only (eqb b (entry bs q)) args.what) l.loop-m.cited next) × (length next ≡ 64) =
+    let added : (CitesIn bs (λ b. only (eqb b (entry bs q)) args.what) c.loop-m.cited next) × (length next ≡ 64) =
     (elim c.if-b-ne0.branch [
       | then-b-ne0 w ↦ (
-        subst (CitesIn bs (λ b. only (eqb b (entry bs q)) args.what) l.loop-m.cited) (sym w.cited-is)
-            (cites-add bs l.loop-m.cited q w.low-k.result _ args.what (λ b. eqb b (entry bs q)) l.loop-m.invariant.1 w.low-k.ensures refl w.if-b-ne0.true
+        subst (CitesIn bs (λ b. only (eqb b (entry bs q)) args.what) c.loop-m.cited) (sym w.cited-is)
+            (cites-add bs c.loop-m.cited q w.low-then-b-ne0.result _ args.what (λ b. eqb b (entry bs q)) c.loop-m.invariant.1 w.low-then-b-ne0.ensures refl w.if-b-ne0.true
             (λ live B here. eq-eqb (entry bs q) (entry bs q) refl) (λ live B p here h. sym (eqb-true (entry bs p) (entry bs q) h))),
-        ap length w.cited-is ∙ simp length-set l.loop-m.invariant.1,
+        ap length w.cited-is ∙ simp length-set c.loop-m.invariant.1,
       )
       | else-b-ne0 w ↦ (
-        subst (CitesIn bs (λ b. only (eqb b (entry bs q)) args.what) l.loop-m.cited) (sym w.cited-is)
-            (cites-none bs (λ b. only (eqb b (entry bs q)) args.what) l.loop-m.cited (λ live fits B p here.
+        subst (CitesIn bs (λ b. only (eqb b (entry bs q)) args.what) c.loop-m.cited) (sym w.cited-is)
+            (cites-none bs (λ b. only (eqb b (entry bs q)) args.what) c.loop-m.cited (λ live fits B p here.
             ap (λ (x : Bool). only x args.what) (ne_eqb (entry bs p) (entry bs q) (λ e. filled bs live fits B p here (e ∙ w.if-b-ne0.false))))),
-        ap length w.cited-is ∙ l.loop-m.invariant.1,
+        ap length w.cited-is ∙ c.loop-m.invariant.1,
       )
     ]) in
     let r = c.others.result in (
-      subst (λ (x : ℕ). x < 2 ^ 64) (sym c.minus-m.ensures) (lt_of_le_of_lt (minus_le r (entry bs q)) (lt_trans c.others.ensures.1 l.loop-m.invariant.0)),
+      subst (λ (x : ℕ). x < 2 ^ 64) (sym c.minus-m.ensures) (lt_of_le_of_lt (minus_le r (entry bs q)) (lt_trans c.others.ensures.1 c.loop-m.invariant.0)),
       added.1,
       subst (Unmet bs args.what args.persons args.cited.now next) (sym c.minus-m.ensures)
-          (unmet_next next r q l.loop-m.invariant.2 (turn_has _ _ _ l.loop-m.invariant.0 lies.ensures c.others.ensures) added.0),
+          (unmet_next next r q c.loop-m.invariant.2 (turn_has _ _ _ c.loop-m.invariant.0 lies.ensures c.others.ensures) added.0),
     )
 
 pub returns : goal.returns

@@ -7,8 +7,5 @@ use Rattle.worlds.specs.code.Tables.{row}
 use Rattle.worlds.proofs.CiteLaws.{Left}
 use Rattle.worlds.proofs.cite.cite_attachments.Given as goal
 
-abbrev pub invariant-loop-m : goal.invariant-loop-m
-invariant-loop-m l = (length l.cited ≡ 64) × Left l.blocks (λ i b. only (has b (lowest (row l.t 12 i)) && meets (row l.t 11 i) b) (row l.t 18 i)) l.attachments l.initial.cited l.cited l.m
-
-abbrev pub decreases-loop-m : goal.decreases-loop-m
-decreases-loop-m l = l.m
+abbrev pub invariant-loop-i : goal.invariant-loop-i
+invariant-loop-i l = (length l.cited ≡ 64) × Left l.blocks (λ i b. only (has b (lowest (row l.t 12 i)) && meets (row l.t 11 i) b) (row l.t 18 i)) l.attachments l.initial.cited l.cited l.i-iterator.0

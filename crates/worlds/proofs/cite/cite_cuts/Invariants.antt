@@ -5,9 +5,6 @@ use Rattle.worlds.specs.code.Citing.{far}
 use Rattle.worlds.proofs.CiteLaws.{Left}
 use Rattle.worlds.proofs.cite.cite_cuts.Given as goal
 
-abbrev pub invariant-loop-m : goal.invariant-loop-m
-invariant-loop-m l = Left l.blocks
-    (λ e b. union (only (has b (lowest (entry l.pairs e))) (entry l.own (far (entry l.pairs e)))) (only (has b (far (entry l.pairs e))) (entry l.own (lowest (entry l.pairs e))))) l.frozen l.initial.cited l.cited l.m
-
-abbrev pub decreases-loop-m : goal.decreases-loop-m
-decreases-loop-m l = l.m
+abbrev pub invariant-loop-e : goal.invariant-loop-e
+invariant-loop-e l = Left l.blocks
+    (λ e b. union (only (has b (lowest (entry l.pairs e))) (entry l.own (far (entry l.pairs e)))) (only (has b (far (entry l.pairs e))) (entry l.own (lowest (entry l.pairs e))))) l.frozen l.initial.cited l.cited l.e-iterator.0

@@ -7,8 +7,5 @@ use Rattle.worlds.specs.code.Tables.{row}
 use Rattle.worlds.proofs.CiteLaws.{Left}
 use Rattle.worlds.proofs.cite.cite_edges.Given as goal
 
-abbrev pub invariant-loop-m : goal.invariant-loop-m
-invariant-loop-m l = (length l.cited ≡ 64) × Left l.blocks (λ e b. only (meets (row l.t 0 e) b && subset (row l.t 0 e) b) (row l.t 16 e)) l.frozen l.initial.cited l.cited l.m
-
-abbrev pub decreases-loop-m : goal.decreases-loop-m
-decreases-loop-m l = l.m
+abbrev pub invariant-loop-e : goal.invariant-loop-e
+invariant-loop-e l = (length l.cited ≡ 64) × Left l.blocks (λ e b. only (meets (row l.t 0 e) b && subset (row l.t 0 e) b) (row l.t 16 e)) l.frozen l.initial.cited l.cited l.e-iterator.0

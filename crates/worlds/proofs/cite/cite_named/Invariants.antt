@@ -4,8 +4,5 @@ use Rattle.worlds.specs.code.Over.{entry}
 use Rattle.worlds.proofs.CiteLaws.{Left}
 use Rattle.worlds.proofs.cite.cite_named.Given as goal
 
-abbrev pub invariant-loop-m : goal.invariant-loop-m
-invariant-loop-m l = Left l.blocks (λ i b. only (meets (meet (entry l.named i) l.persons) b) (entry l.citations i)) l.rules l.initial.cited l.cited l.m
-
-abbrev pub decreases-loop-m : goal.decreases-loop-m
-decreases-loop-m l = l.m
+abbrev pub invariant-loop-i : goal.invariant-loop-i
+invariant-loop-i l = Left l.blocks (λ i b. only (meets (meet (entry l.named i) l.persons) b) (entry l.citations i)) l.rules l.initial.cited l.cited l.i-iterator.0

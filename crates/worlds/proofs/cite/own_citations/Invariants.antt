@@ -6,8 +6,5 @@ use Rattle.worlds.specs.code.Over.{entry}
 use Rattle.worlds.specs.code.Citing.{own_of}
 use Rattle.worlds.proofs.cite.own_citations.Given as goal
 
-abbrev pub invariant-loop-m : goal.invariant-loop-m
-invariant-loop-m l = (p : ℕ) → union (entry l.own p) (own_of l.t l.m p) ≡ union (entry l.initial.own p) (own_of l.t l.applied p)
-
-abbrev pub decreases-loop-m : goal.decreases-loop-m
-decreases-loop-m l = l.m
+abbrev pub invariant-loop-c : goal.invariant-loop-c
+invariant-loop-c l = (p : ℕ) → union (entry l.own p) (own_of l.t l.c-iterator.0 p) ≡ union (entry l.initial.own p) (own_of l.t l.applied p)

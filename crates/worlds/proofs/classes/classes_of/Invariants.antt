@@ -1,11 +1,8 @@
--- `classes::classes_of`: after i sets each person has the class by the first i.
-use Prim.Native.Nat.{◌-◌, ◌≤◌, ◌^◌}
-use lib.ListN.{length, take}
+-- `classes::classes_of`: each person has the class by the sets gone through.
+use Prim.Native.Nat.{◌-◌, ◌^◌}
+use lib.ListN.{take}
 use Rattle.worlds.specs.code.Classes.{ClassesBy}
 use Rattle.worlds.proofs.classes.classes_of.Given as goal
 
-abbrev pub invariant-loop-i : goal.invariant-loop-i
-invariant-loop-i l = (l.i ≤ length l.sets) × ClassesBy (2 ^ 64 - 1) (take l.i l.sets) l.classes
-
-abbrev pub decreases-loop-i : goal.decreases-loop-i
-decreases-loop-i l = length l.sets - l.i
+abbrev pub invariant-loop-set : goal.invariant-loop-set
+invariant-loop-set l = ClassesBy (2 ^ 64 - 1) (take l.set-index l.sets) l.classes

@@ -7,11 +7,8 @@ use Rattle.worlds.specs.code.Cuts.{blockers, blocked_twins}
 use Rattle.worlds.proofs.NoteLaws.{noting}
 use Rattle.worlds.proofs.cuts.blocked.Given as goal
 
-abbrev pub invariant-loop-m : goal.invariant-loop-m
-invariant-loop-m l =
-    (l.m < 2 ^ 64) × (length l.noted ≡ 64)
-    × (union l.found (blocked_twins l.t l.frozen l.decisions (members l.m)) ≡ blocked_twins l.t l.frozen l.decisions (members l.standing))
-    × ((i : ℕ) → noting (blockers l.t l.frozen l.decisions) l.m l.noted i ≡ noting (blockers l.t l.frozen l.decisions) l.standing l.initial.noted i)
-
-abbrev pub decreases-loop-m : goal.decreases-loop-m
-decreases-loop-m l = l.m
+abbrev pub invariant-loop-c : goal.invariant-loop-c
+invariant-loop-c l =
+    (l.c-iterator.0 < 2 ^ 64) × (length l.noted ≡ 64)
+    × (union l.found (blocked_twins l.t l.frozen l.decisions (members l.c-iterator.0)) ≡ blocked_twins l.t l.frozen l.decisions (members l.standing))
+    × ((i : ℕ) → noting (blockers l.t l.frozen l.decisions) l.c-iterator.0 l.noted i ≡ noting (blockers l.t l.frozen l.decisions) l.standing l.initial.noted i)

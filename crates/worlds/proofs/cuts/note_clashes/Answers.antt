@@ -8,55 +8,23 @@ use Rattle.sets.proofs.TurnLaws.{turn_has}
 use Rattle.worlds.proofs.NoteLaws.{note_store, note_end}
 use Rattle.worlds.proofs.cuts.note_clashes.Goals as goal
 
-pub loop-m-init : goal.loop-m-init
-loop-m-init c = (c.ranges.cuts.fits, c.whole_64_words.ensures, λ i. refl)
+pub loop-c-init : goal.loop-c-init
+loop-c-init c = rw c.into_iter-c-iterator.ensures.into_iter_gives (c.ranges.cuts.fits, c.told-noted, λ i. refl)
 
-pub low-c-requires : goal.low-c-requires
-low-c-requires c = c.loop-m-test.true
-
-pub offset_bounds-noted-c : goal.offset_bounds-noted-c
-offset_bounds-noted-c c = omega (arith, c.low-c.ensures.1)
-
-pub bounds-noted-c : goal.bounds-noted-c
-bounds-noted-c c = c.low-c.ensures.1
-
-pub offset_bounds-t-c : goal.offset_bounds-t-c
-offset_bounds-t-c c = omega (arith, c.low-c.ensures.1)
-
-pub bounds-t-6 : goal.bounds-t-6
-bounds-t-6 c = omega arith
-
-pub bounds-t-c : goal.bounds-t-c
-bounds-t-c c = c.low-c.ensures.1
-
-pub offset_bounds-noted-c-in-loop-m : goal.offset_bounds-noted-c-in-loop-m
-offset_bounds-noted-c-in-loop-m c = omega (arith, c.low-c.ensures.1)
-
-pub bounds-noted-c-in-loop-m : goal.bounds-noted-c-in-loop-m
-bounds-noted-c-in-loop-m c = c.low-c.ensures.1
-
-pub others-m-requires : goal.others-m-requires
-others-m-requires c = c.loop-m-test.true
-
-pub loop-m-smaller : goal.loop-m-smaller
-loop-m-smaller c = c.others-m.ensures.1
-
-pub loop-m-preserved : goal.loop-m-preserved
+pub loop-c-preserved : goal.loop-c-preserved
 unfolding union meet
-loop-m-preserved c =
-    let l = c in
-    let a = l.args in
-    let lies = c.low-c.ensures in (
-      lt_trans c.others-m.ensures.1 l.loop-m.invariant.0,
-      simp length-set l.loop-m.invariant.1,
-      λ i. note_store (λ d. meet (row a.t.now 6 d) a.cuts) l.loop-m.m c.others-m.result c.low-c.result _ l.loop-m.noted
-          (turn_has _ _ _ l.loop-m.invariant.0 lies c.others-m.ensures)
-          (omega (arith, lies.1, l.loop-m.invariant.1)) refl i
-          ∙ l.loop-m.invariant.2 i,
+loop-c-preserved c =
+    let a = c.args in
+    let lies = c.in-Some.ensures.steps.first in (
+      lt_trans c.in-Some.ensures.steps.rest.1 c.loop-c.invariant.0,
+      simp length-set c.loop-c.invariant.1,
+      λ i. note_store (λ d. meet (row a.t.now 6 d) a.cuts) c.loop-c.c-iterator.0 c.next.new.self.0 c.in-Some.c _ c.loop-c.noted
+          (turn_has _ _ _ c.loop-c.invariant.0 lies c.in-Some.ensures.steps.rest)
+          (omega (arith, lies.1, c.loop-c.invariant.1)) refl i
+          ∙ c.loop-c.invariant.2 i,
     )
 
 pub returns : goal.returns
 returns c =
-    let l = c in
-    let a = l.args in
-    record { at = λ i. sym (note_end (λ d. meet (row a.t.now 6 d) a.cuts) l.loop-m.m l.loop-m.noted c.loop-m-test.false i) ∙ l.loop-m.invariant.2 i }
+    let a = c.args in
+    record { at = λ i. sym (note_end (λ d. meet (row a.t.now 6 d) a.cuts) c.loop-c.c-iterator.0 c.loop-c.noted c.in-None.ensures.steps.0 i) ∙ c.loop-c.invariant.2 i }

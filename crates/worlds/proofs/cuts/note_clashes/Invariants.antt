@@ -7,9 +7,6 @@ use Rattle.worlds.specs.code.Tables.{row}
 use Rattle.worlds.proofs.NoteLaws.{noting}
 use Rattle.worlds.proofs.cuts.note_clashes.Given as goal
 
-abbrev pub invariant-loop-m : goal.invariant-loop-m
-invariant-loop-m l =
-    (l.m < 2 ^ 64) × (length l.noted ≡ 64) × ((i : ℕ) → noting (λ c. meet (row l.t 6 c) l.cuts) l.m l.noted i ≡ noting (λ c. meet (row l.t 6 c) l.cuts) l.cuts l.initial.noted i)
-
-abbrev pub decreases-loop-m : goal.decreases-loop-m
-decreases-loop-m l = l.m
+abbrev pub invariant-loop-c : goal.invariant-loop-c
+invariant-loop-c l =
+    (l.c-iterator.0 < 2 ^ 64) × (length l.noted ≡ 64) × ((i : ℕ) → noting (λ c. meet (row l.t 6 c) l.cuts) l.c-iterator.0 l.noted i ≡ noting (λ c. meet (row l.t 6 c) l.cuts) l.cuts l.initial.noted i)

@@ -6,21 +6,11 @@ use Rattle.worlds.proofs.cuts.settle_cuts.Goals as goal
 
 pub returns : goal.returns
 returns c =
-    let gathered = c in
-    let out = gathered in
-    let stood = out in
-    let noted = stood in
-    let lowest = noted in
-    let clashing = lowest in
-    let left = clashing in
-    let notes = left in
-    let a = notes.args in
-    let t = a.t.now in
-    let whole = notes.whole_3_rows.ensures.0 in record {
-      cuts = rows_noted a.noted.now whole _ _ (CutsSettled t a.active _)
-          (cuts-made t a.active _ _ _ _ _ left.apply_cut_precedence-left.result clashing.overlapping-clash.result lowest.lowest_twins.result
-          stood.minus-standing.result out.blocked-out.result gathered.gather-united.result left.apply_cut_precedence-left.ensures clashing.overlapping-clash.ensures
-          lowest.lowest_twins.ensures stood.minus-standing.ensures noted.note_clashes.ensures out.blocked-out.ensures.noted out.blocked-out.ensures.twins
-          gathered.gather-united.ensures c.gather.ensures c.minus.ensures);
-      parts = parts-kept a.noted.now whole _ _;
+    record {
+      cuts = rows_noted c.args.noted.now c.told-noted _ _ (CutsSettled c.args.t.now c.args.active _)
+          (cuts-made c.args.t.now c.args.active _ _ _ _ _ c.apply_cut_precedence-left.result c.overlapping-clash.result c.lowest_twins.result
+          c.minus-standing.result c.blocked-out.result c.gather-united.result c.apply_cut_precedence-left.ensures c.overlapping-clash.ensures
+          c.lowest_twins.ensures c.minus-standing.ensures c.note_clashes.ensures c.blocked-out.ensures.noted c.blocked-out.ensures.twins
+          c.gather-united.ensures c.gather.ensures c.minus.ensures);
+      parts = parts-kept c.args.noted.now c.told-noted _ _;
     }

@@ -12,20 +12,13 @@ use Rattle.worlds.proofs.discretion.component.Goals as goal
 fits : (c : lts.After-gather tie.the-claims reads.Pre reads.Post goal.the-invariant-loop-part goal.the-decreases-loop-part) → bit_or c.loop-part.part c.gather.result < 2 ^ 64
 fits c = or_lt 64 _ _ c.loop-part.invariant.0 (omega (arith, c.gather.type_inv))
 
-pub overflow_cast-p : goal.overflow_cast-p
-overflow_cast-p c = omega (arith, c.requires)
-
-pub person_mask-part-requires : goal.person_mask-part-requires
-person_mask-part-requires c = c.requires
-
 pub loop-part-init : goal.loop-part-init
 loop-part-init c = (omega (arith, c.person_mask-part.type_inv), grown_one _ _ _ c.person_mask-part.ensures)
 
 pub returns-then-next-part : goal.returns-then-next-part
 unfolding union
 returns-then-next-part c =
-    let l = c in
-    grown_all _ _ l.loop-part.part _ l.loop-part.invariant.0 c.gather.ensures l.loop-part.invariant.1 c.if-next-part.true
+    grown_all _ _ c.loop-part.part _ c.loop-part.invariant.0 c.gather.ensures c.loop-part.invariant.1 c.if-next-part.true
 
 pub loop-part-smaller : goal.loop-part-smaller
 loop-part-smaller c =
@@ -36,5 +29,4 @@ loop-part-smaller c =
 pub loop-part-preserved : goal.loop-part-preserved
 unfolding union
 loop-part-preserved c =
-    let l = c in
-    (fits c.before, grown_more _ _ l.loop-part.part _ l.loop-part.invariant.0 c.gather.ensures l.loop-part.invariant.1)
+    (fits c.before, grown_more _ _ c.loop-part.part _ c.loop-part.invariant.0 c.gather.ensures c.loop-part.invariant.1)

@@ -16,82 +16,47 @@ use Rattle.worlds.proofs.discretion.heads.Goals.{then-loose+then-parts-p, then-l
 pub loop-m-init : goal.loop-m-init
 loop-m-init c =
     let fits = c.ranges.persons.fits in
-    (fits, c.whole_64_words.ensures, renewed-none _, λ pairs edges L. found_none _ _ _ _ fits)
-
-pub low-p-requires : goal.low-p-requires
-low-p-requires c = c.loop-m-test.true
-
-pub component-class-requires : goal.component-class-requires
-component-class-requires c = c.low-p.ensures.1
-
-pub overflow_cast-p : goal.overflow_cast-p
-overflow_cast-p c = omega (arith, c.low-p.ensures.1)
-
-pub person_mask-found-requires : goal.person_mask-found-requires
-person_mask-found-requires c = c.low-p.ensures.1
-
-pub offset_bounds-parts-p : goal.offset_bounds-parts-p
-offset_bounds-parts-p c = omega (arith, c.low-p.ensures.1)
-
-pub bounds-parts-p : goal.bounds-parts-p
-bounds-parts-p c = c.low-p.ensures.1
-
-pub offset_bounds-parts-p-then-parts-p : goal.offset_bounds-parts-p-then-parts-p
-offset_bounds-parts-p-then-parts-p c = omega (arith, c.low-p.ensures.1)
-
-pub bounds-parts-p-then-parts-p : goal.bounds-parts-p-then-parts-p
-bounds-parts-p-then-parts-p c = c.low-p.ensures.1
-
-pub overflow_cast-p-then-parts-p : goal.overflow_cast-p-then-parts-p
-overflow_cast-p-then-parts-p c = omega (arith, c.low-p.ensures.1)
-
-pub person_mask-fresh-requires : goal.person_mask-fresh-requires
-person_mask-fresh-requires c = c.low-p.ensures.1
-
-pub others-requires : goal.others-requires
-others-requires c = c.loop-m-test.true
+    (fits, c.told-parts, renewed-none _, λ pairs edges L. found_none _ _ _ _ fits)
 
 pub loop-m-smaller : goal.loop-m-smaller
 loop-m-smaller c =
-    let l = c in
-    subst (λ (x : ℕ). x < l.loop-m.m) (sym c.minus-m.ensures) (left_less l.loop-m.m c.others.result _ l.loop-m.invariant.0 c.others.ensures.1)
+    subst (λ (x : ℕ). x < c.loop-m.m) (sym c.minus-m.ensures) (left_less c.loop-m.m c.others.result _ c.loop-m.invariant.0 c.others.ensures.1)
 
 pub loop-m-preserved : goal.loop-m-preserved
 unfolding union
 loop-m-preserved c =
-    let l = c in
-    let a = l.args in
-    let i = l.loop-m.invariant in
+    let a = c.args in
+    let i = c.loop-m.invariant in
     let o = c.others in
     let test = c.loose in
     let comp = c.component-class in
     let low = c.low-p in
     let t = low.result in
-    let ps = l.loop-m.parts in
+    let ps = c.loop-m.parts in
     let class = comp.result in
     let turn = turn_has _ _ _ i.0 low.ensures o.ensures in
-    let fits = lt_trans (left_less l.loop-m.m o.result class i.0 o.ensures.1) i.0 in
+    let fits = lt_trans (left_less c.loop-m.m o.result class i.0 o.ensures.1) i.0 in
     let less : c.minus-m.result < 2 ^ 64 = subst (λ (x : ℕ). x < 2 ^ 64) (sym c.minus-m.ensures) fits in
     elim c.if-loose.branch [
       | then-loose+then-parts-p w ↦ (
         less,
         ap length w.parts-is ∙ length-set ps t class ∙ i.1,
-        renewed_as (w.found-is ∙ ap (union l.loop-m.found) w.person_mask-found.ensures) (w.fresh-is ∙ ap (union l.loop-m.fresh) w.person_mask-fresh.ensures) w.parts-is
+        renewed_as (w.found-is ∙ ap (union c.loop-m.found) w.person_mask-found.ensures) (w.fresh-is ∙ ap (union c.loop-m.fresh) w.person_mask-fresh.ensures) w.parts-is
             (renewed-more _ _ t _ ps i.2 _ (λ p n. get_or-set_other ps t p class 0 n)),
         λ pairs edges L.
             let is = comp.ensures.at pairs edges L in
-            found_as (c.minus-m.ensures ∙ ap (minus o.result) is) (w.found-is ∙ ap (union l.loop-m.found) w.person_mask-found.ensures) w.parts-is
-            (found_in (loose_by (entry a.lead.now)) a.persons (joined_to pairs edges) l.loop-m.m o.result t l.loop-m.found ps turn o.ensures.1 (i.3 pairs edges L) _ (ap (loose_by (entry a.lead.now)) (sym is) ∙ sym test.ensures ∙ w.if-loose.true)
+            found_as (c.minus-m.ensures ∙ ap (minus o.result) is) (w.found-is ∙ ap (union c.loop-m.found) w.person_mask-found.ensures) w.parts-is
+            (found_in (loose_by (entry a.lead.now)) a.persons (joined_to pairs edges) c.loop-m.m o.result t c.loop-m.found ps turn o.ensures.1 (i.3 pairs edges L) _ (ap (loose_by (entry a.lead.now)) (sym is) ∙ sym test.ensures ∙ w.if-loose.true)
             (get_or-set_same ps t class 0 (omega (arith, low.ensures.1, i.1)) ∙ is) (λ p n. get_or-set_other ps t p class 0 n)),
       )
       | then-loose+else-parts-p w ↦ (
         less,
         ap length w.parts-is ∙ i.1,
-        renewed_as (w.found-is ∙ ap (union l.loop-m.found) w.person_mask-found.ensures) w.fresh-is w.parts-is (renewed-same _ _ t _ ps i.2),
+        renewed_as (w.found-is ∙ ap (union c.loop-m.found) w.person_mask-found.ensures) w.fresh-is w.parts-is (renewed-same _ _ t _ ps i.2),
         λ pairs edges L.
             let is = comp.ensures.at pairs edges L in
-            found_as (c.minus-m.ensures ∙ ap (minus o.result) is) (w.found-is ∙ ap (union l.loop-m.found) w.person_mask-found.ensures) w.parts-is
-            (found_in (loose_by (entry a.lead.now)) a.persons (joined_to pairs edges) l.loop-m.m o.result t l.loop-m.found ps turn o.ensures.1 (i.3 pairs edges L) ps (ap (loose_by (entry a.lead.now)) (sym is) ∙ sym test.ensures ∙ w.if-loose.true) (w.if-parts-p.false ∙ is) (λ p n. refl)),
+            found_as (c.minus-m.ensures ∙ ap (minus o.result) is) (w.found-is ∙ ap (union c.loop-m.found) w.person_mask-found.ensures) w.parts-is
+            (found_in (loose_by (entry a.lead.now)) a.persons (joined_to pairs edges) c.loop-m.m o.result t c.loop-m.found ps turn o.ensures.1 (i.3 pairs edges L) ps (ap (loose_by (entry a.lead.now)) (sym is) ∙ sym test.ensures ∙ w.if-loose.true) (w.if-parts-p.false ∙ is) (λ p n. refl)),
       )
       | else-loose w ↦ (
         less,
@@ -100,7 +65,7 @@ loop-m-preserved c =
         λ pairs edges L.
             let is = comp.ensures.at pairs edges L in
             found_as (c.minus-m.ensures ∙ ap (minus o.result) is) w.found-is w.parts-is
-            (found_out (loose_by (entry a.lead.now)) a.persons (joined_to pairs edges) l.loop-m.m o.result t l.loop-m.found ps turn o.ensures.1 (i.3 pairs edges L)
+            (found_out (loose_by (entry a.lead.now)) a.persons (joined_to pairs edges) c.loop-m.m o.result t c.loop-m.found ps turn o.ensures.1 (i.3 pairs edges L)
             (ap (loose_by (entry a.lead.now)) (sym is) ∙ sym test.ensures ∙ w.if-loose.false)),
       )
     ]

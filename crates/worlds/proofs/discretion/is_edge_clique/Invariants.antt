@@ -12,8 +12,5 @@ use Rattle.worlds.proofs.discretion.is_edge_clique.Given as goal
 abbrev led : List ℕ → ℕ → ℕ → Bool
 led lead set q = subset set (union (one q) (entry lead q))
 
-abbrev pub invariant-loop-m : goal.invariant-loop-m
-invariant-loop-m l = (l.m < 2 ^ 64) × (all_of (led l.lead l.set) (members l.m) ≡ clique_by (entry l.lead) l.set)
-
-abbrev pub decreases-loop-m : goal.decreases-loop-m
-decreases-loop-m l = l.m
+abbrev pub invariant-loop-p : goal.invariant-loop-p
+invariant-loop-p l = (l.p-iterator.0 < 2 ^ 64) × (all_of (led l.lead l.set) (members l.p-iterator.0) ≡ clique_by (entry l.lead) l.set)

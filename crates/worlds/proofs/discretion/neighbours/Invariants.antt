@@ -6,8 +6,5 @@ use Rattle.worlds.specs.code.Over.{entry}
 use Rattle.worlds.specs.code.Discretion.{near}
 use Rattle.worlds.proofs.discretion.neighbours.Given as goal
 
-abbrev pub invariant-loop-m : goal.invariant-loop-m
-invariant-loop-m l = (p : ℕ) → union (entry l.lead p) (near l.pairs l.m p) ≡ near l.pairs l.edges p
-
-abbrev pub decreases-loop-m : goal.decreases-loop-m
-decreases-loop-m l = l.m
+abbrev pub invariant-loop-e : goal.invariant-loop-e
+invariant-loop-e l = (p : ℕ) → union (entry l.lead p) (near l.pairs l.e-iterator.0 p) ≡ near l.pairs l.edges p

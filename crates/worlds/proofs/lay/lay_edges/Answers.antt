@@ -1,71 +1,48 @@
 use mathlib.Core.Path.{◌≡◌, refl, sym, ap, ◌∙◌}
-use mathlib.Core.Bool.{false}
-use mathlib.Core.List.{[], ◌∷◌}
-use Prim.Native.Nat.{ℕ, ◌+◌, ◌≤◌}
 use native.Mathlib.Omega.{arith}
-use borrow.Author.Rules.{rules}
-use lib.ListN.{length}
 use Rattle.sets.specs.paper.Sets.{one, any_of}
-use Rattle.records.specs.paper.Plan.{Edge}
+use Rattle.records.specs.paper.Plan.{Plan, Edge}
 use Rattle.records.specs.code.Decoded.{edge_of, edges_of}
-use Rattle.records.specs.declared.plan.Edge.{Edge as Coded}
-use Rattle.expressions.specs.paper.Rules.{ends_of}
-use Rattle.expressions.specs.paper.Rules.{edge, pair}
-use Rattle.expressions.proofs.ListLaws.{made-length, made_at, made_each}
+use Rattle.expressions.specs.paper.Rules.{edge_count, pair, ends_of}
+use Rattle.expressions.proofs.ListLaws.{made_each}
 use Rattle.worlds.specs.code.Laid.{EdgeFits}
-use Rattle.worlds.proofs.LayLaws.{each_none, each_next, each_other, each_row, same_start, same_next}
+use Rattle.worlds.proofs.LayLaws.{filled_none, filled_next, filled_other, filled_row, same_start, same_next}
+use Rattle.worlds.proofs.PlanAt.{edge-count, edge_at}
 use Rattle.worlds.proofs.lay.lay_edges.Goals as goal
 
-abbrev none : Edge
-none = record { left = 64; right = 64; condition = 256; citation = 0; defeaters = []; combination = false }
-
-abbrev ends : Edge → ℕ → Type 0
-ends e v = v ≡ ends_of e
-
-abbrev cites : Edge → ℕ → Type 0
-cites e v = v ≡ one e.citation
-
 pub loop-i-init : goal.loop-i-init
-loop-i-init c = (search rules, each_none _ _ _ _ _, each_none _ _ _ _ _, same_start _ _)
-
-pub ends-requires : goal.ends-requires
-ends-requires c =
-    let long : length c.args.edges.items ≡ 64 = omega (arith, c.well_formed) in
-    let fits = λ (d : Coded). made_each edge_of c.args.edges.items c.args.edges.count 64 c.upto-n.result long c.upto-n.ensures.0 EdgeFits c.loop-i.i d (search rules) c.requires in
-    let h = fits _ in (h.0, h.1)
+loop-i-init c = (λ P e. (filled_none _ _, filled_none _ _), same_start _ _)
 
 pub bit-requires : goal.bit-requires
 unfolding edge_of
 bit-requires c =
-    let long : length c.args.edges.items ≡ 64 = omega (arith, c.well_formed) in
-    let fits = λ (d : Coded). made_each edge_of c.args.edges.items c.args.edges.count 64 c.upto-n.result long c.upto-n.ensures.0 EdgeFits c.loop-i.i d (search rules) c.requires in
-    (fits _).2
+    (made_each edge_of c.args.edges.items c.args.edges.count 64 _ (omega (arith, c.well_formed)) c.min-n.ensures EdgeFits c.loop-i.i _ (omega arith) c.requires).2
 
--- `here` is the one at i, as the plan has it, `fits` what is required of it
+pub ends-requires : goal.ends-requires
+unfolding edge_of
+ends-requires c =
+    let h = made_each edge_of c.args.edges.items c.args.edges.count 64 _ (omega (arith, c.well_formed)) c.min-n.ensures EdgeFits c.loop-i.i _ (omega arith) c.requires in (h.0, h.1)
+
 pub loop-i-preserved : goal.loop-i-preserved
-unfolding edge_of any_of
+unfolding edge_of any_of pair
 loop-i-preserved c =
-    let long : length c.args.edges.items ≡ 64 = omega (arith, c.well_formed) in
-    let here = λ (d : Coded). made_at edge_of c.args.edges.items c.args.edges.count 64 c.upto-n.result long c.upto-n.ensures.0 c.loop-i.i d none (search rules) in
-    let inv = c.loop-i.invariant in
-    let more : c.loop-i.i + 1 ≤ c.upto-n.result = search rules in
-    let xs = edges_of c.args.edges in
-    let e = sym (here _) in
-    let pairs = c.lay.ensures in
-    let citations = c.lay-in-loop-i.ensures in (
-      more,
-      each_other ends none xs citations refl (each_next ends none xs pairs (c.ends.ensures ∙ ap ends_of e) inv.1),
-      each_next cites none xs citations (c.bit.ensures ∙ ap (λ (x : Edge). one x.citation) e) (each_other cites none xs pairs refl inv.2),
-      same_next (0 ∷ 16 ∷ []) refl citations (same_next (0 ∷ 16 ∷ []) refl pairs inv.3),
+    let v = c.loop-i.invariant in
+    let first = c.lay.ensures in
+    let second = c.lay-in-loop-i.ensures in (
+      λ P e.
+          let here = edge_at c.args.edges c.min-n.result (omega (arith, c.well_formed)) c.min-n.ensures P e c.loop-i.i in (
+            filled_other second refl (filled_next first (c.ends.ensures ∙ sym (ap ends_of (here _ (omega arith)))) (v.0 P e).0),
+            filled_next second (c.bit.ensures ∙ sym (ap (λ (x : Edge). one x.citation) (here _ (omega arith)))) (filled_other first refl (v.0 P e).1),
+          ),
+      same_next _ refl second (same_next _ refl first v.1),
     )
 
 pub returns : goal.returns
-unfolding edge pair
 returns c =
-    let long : length c.args.edges.items ≡ 64 = omega (arith, c.well_formed) in
-    let xs = edges_of c.args.edges in
-    let end : length xs ≤ c.loop-i.i = omega (arith, made-length edge_of c.args.edges.items c.args.edges.count 64 c.upto-n.result long c.upto-n.ensures.0, c.loop-i-test.false) in record {
-      pairs = λ P e. each_row ends_of none xs P.edges c.loop-i.t 0 c.loop-i.i e end c.loop-i.invariant.1;
-      cites = λ P e. each_row (λ (x : Edge). one x.citation) none xs P.edges c.loop-i.t 16 c.loop-i.i e end c.loop-i.invariant.2;
-      same = c.loop-i.invariant.3;
+    let v = c.loop-i.invariant in
+    let end : (P : Plan) → P.edges ≡ edges_of c.args.edges → edge_count P ≡ c.loop-i.i =
+    λ P e. omega (arith, edge-count c.args.edges c.min-n.result (omega (arith, c.well_formed)) c.min-n.ensures P e, c.loop-i-test.false) in record {
+      pairs = λ P e. filled_row (end P e) (v.0 P e).0;
+      cites = λ P e. filled_row (end P e) (v.0 P e).1;
+      same = v.1;
     }

@@ -8,9 +8,7 @@ use Rattle.worlds.specs.code.Tables.{row}
 use Rattle.worlds.specs.code.Laid.{Same}
 use Rattle.worlds.proofs.make.lay_spread.Given as goal
 
-abbrev pub invariant-loop-m : goal.invariant-loop-m
-invariant-loop-m l =
-    (l.m < 2 ^ 64) × Same (15 ∷ []) l.initial.t l.t × ((p : ℕ) → has l.roster p ≡ true → has l.m p ≡ false → row l.t 15 p ≡ close_of l.rules (close_of l.influence (one p)))
-
-abbrev pub decreases-loop-m : goal.decreases-loop-m
-decreases-loop-m l = l.m
+abbrev pub invariant-loop-p : goal.invariant-loop-p
+invariant-loop-p l =
+    (l.p-iterator.0 < 2 ^ 64) × Same (15 ∷ []) l.initial.t l.t
+    × ((p : ℕ) → has l.roster p ≡ true → has l.p-iterator.0 p ≡ false → row l.t 15 p ≡ close_of l.rules (close_of l.influence (one p)))

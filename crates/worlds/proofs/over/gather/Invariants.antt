@@ -5,8 +5,6 @@ use Rattle.sets.specs.paper.Sets.{union, members, union_of}
 use Rattle.worlds.specs.code.Over.{entry}
 use Rattle.worlds.proofs.over.gather.Given as goal
 
-abbrev pub invariant-loop-m : goal.invariant-loop-m
-invariant-loop-m l = (l.m < 2 ^ 64) × (union l.all (union_of (entry l.table) (members l.m)) ≡ union_of (entry l.table) (members l.set))
-
-abbrev pub decreases-loop-m : goal.decreases-loop-m
-decreases-loop-m l = l.m
+abbrev pub invariant-loop-i : goal.invariant-loop-i
+invariant-loop-i l =
+    (l.i-iterator.0 < 2 ^ 64) × (union l.all (union_of (entry l.table) (members l.i-iterator.0)) ≡ union_of (entry l.table) (members l.set))

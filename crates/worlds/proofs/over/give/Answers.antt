@@ -1,53 +1,12 @@
-use mathlib.Core.Path.{refl, sym, ◌∙◌}
-use Prim.Native.Nat.{ℕ}
-use native.Mathlib.Nat.{lt_trans}
-use native.Mathlib.Omega.{arith}
-use lib.ListN.{length-set}
+use mathlib.Core.Path.{refl}
 use Rattle.sets.specs.paper.Sets.{union}
 use Rattle.sets.proofs.UnionLaws.{union_twice}
-use Rattle.sets.proofs.TurnLaws.{turn_has}
-use Rattle.worlds.proofs.OverLaws.{change_next, change_end}
+use Rattle.worlds.proofs.OverLaws.{changing_start, changing_next, changing_end}
 use Rattle.worlds.proofs.over.give.Goals as goal
 
-pub loop-m-init : goal.loop-m-init
-loop-m-init c = (c.ranges.set.fits, c.whole_64_words.ensures, λ i. refl)
-
-pub low-i-requires : goal.low-i-requires
-low-i-requires c = c.loop-m-test.true
-
-pub offset_bounds-table-i : goal.offset_bounds-table-i
-offset_bounds-table-i c = omega (arith, c.low-i.ensures.1)
-
-pub bounds-table-i : goal.bounds-table-i
-bounds-table-i c = c.low-i.ensures.1
-
-pub offset_bounds-table-i-in-loop-m : goal.offset_bounds-table-i-in-loop-m
-offset_bounds-table-i-in-loop-m c = omega (arith, c.low-i.ensures.1)
-
-pub bounds-table-i-in-loop-m : goal.bounds-table-i-in-loop-m
-bounds-table-i-in-loop-m c = c.low-i.ensures.1
-
-pub others-m-requires : goal.others-m-requires
-others-m-requires c = c.loop-m-test.true
-
-pub loop-m-smaller : goal.loop-m-smaller
-loop-m-smaller c = c.others-m.ensures.1
-
-pub loop-m-preserved : goal.loop-m-preserved
+pub loop-i-preserved : goal.loop-i-preserved
 unfolding union
-loop-m-preserved c =
-    let l = c in
-    let lies = c.low-i.ensures in
-    let more = l.args.more in (
-      lt_trans c.others-m.ensures.1 l.loop-m.invariant.0,
-      simp length-set l.loop-m.invariant.1,
-      λ i. change_next (λ (x : ℕ). union x more) (λ x. union_twice x more) l.loop-m.m c.others-m.result c.low-i.result _ l.loop-m.table
-          (turn_has _ _ _ l.loop-m.invariant.0 lies c.others-m.ensures)
-          (omega (arith, lies.1, l.loop-m.invariant.1)) refl i
-          ∙ l.loop-m.invariant.2 i,
-    )
+loop-i-preserved c = changing_next _ 0 (λ i x. union_twice x c.args.more) _ c.in-Some.ensures.steps refl c.loop-i.invariant
 
 pub returns : goal.returns
-returns c =
-    let l = c in
-    record { at = λ i. sym (change_end (λ (x : ℕ). union x l.args.more) l.loop-m.m i l.loop-m.table c.loop-m-test.false) ∙ l.loop-m.invariant.2 i }
+returns c = record { at = changing_end _ 0 c.in-None.ensures.steps.0 c.loop-i.invariant }

@@ -1,11 +1,7 @@
--- `relate::chain`: after i turns all that are reached in i steps.
+-- `relate::chain`: after so many turns all that are reached in as many steps.
 use mathlib.Core.Path.{◌≡◌}
-use Prim.Native.Nat.{◌-◌, ◌≤◌}
 use Rattle.worlds.specs.code.Related.{chain_by}
 use Rattle.worlds.proofs.relate.chain.Given as goal
 
-abbrev pub invariant-loop-i : goal.invariant-loop-i
-invariant-loop-i l = (l.i ≤ l.steps) × (l.m ≡ chain_by l.direct l.i l.from)
-
-abbrev pub decreases-loop-i : goal.decreases-loop-i
-decreases-loop-i l = l.steps - l.i
+abbrev pub invariant-loop-step : goal.invariant-loop-step
+invariant-loop-step l = l.m ≡ chain_by l.direct l._step l.from

@@ -1,6 +1,6 @@
 -- `relate::direct_precedence`: after i cuts the first i entries stand.
 use mathlib.Core.Path.{◌≡◌}
-use Prim.Native.Nat.{ℕ, ◌-◌, ◌≤◌, ◌<◌}
+use Prim.Native.Nat.{ℕ, ◌<◌}
 use lib.ListN.{length, get_or}
 use Rattle.sets.specs.paper.Sets.{set_of}
 use Rattle.records.specs.paper.Plan.{Cut}
@@ -9,8 +9,4 @@ use Rattle.worlds.specs.code.Over.{entry}
 use Rattle.worlds.proofs.relate.direct_precedence.Given as goal
 
 abbrev pub invariant-loop-i : goal.invariant-loop-i
-invariant-loop-i l =
-    (l.i ≤ l.n) × (length l.direct ≡ 64) × ((j : ℕ) → j < l.i → (d : Cut) → entry l.direct j ≡ set_of (get_or (cuts_of l.cuts) j d).precedes)
-
-abbrev pub decreases-loop-i : goal.decreases-loop-i
-decreases-loop-i l = l.n - l.i
+invariant-loop-i l = (length l.direct ≡ 64) × ((j : ℕ) → j < l.i → (d : Cut) → entry l.direct j ≡ set_of (get_or (cuts_of l.cuts) j d).precedes)

@@ -1,51 +1,33 @@
+use mathlib.Core.Path.{◌≡◌, refl, sym, ap, ◌∙◌, subst}
 use Prim.Native.Nat.{ℕ, ◌<◌, min}
-use mathlib.Core.Path.{◌≡◌, refl, sym, ap, ◌∙◌}
-use lib.ListN.{length}
-use borrow.Author.Rules.{rules}
-use Rattle.sets.specs.paper.Sets.{one, union}
-use Rattle.records.specs.code.Decoded.{numbers_of}
-use Rattle.records.proofs.UsedLaws.{used_next, used_end, used_each}
-use Rattle.sets.proofs.UnionLaws.{none-union, union-first, union_end, set-union}
 use native.Mathlib.Omega.{arith}
-use Rattle.worlds.proofs.relate.set_of.Lts as lts
-use Rattle.worlds.proofs.relate.set_of.Reads as reads
-use Rattle.worlds.proofs.relate.set_of.Tie as tie
+use lib.ListN.{length, take, drop_of_length-le}
+use Rattle.sets.specs.paper.Sets.{one, union, set_of, All}
+use Rattle.sets.proofs.LoopLaws.{all_at}
+use Rattle.sets.proofs.UnionLaws.{none-union, union-first, union_end, set-union}
+use Rattle.records.specs.declared.plan.Numbers.{Numbers}
+use Rattle.records.specs.code.Decoded.{numbers_of}
+use Rattle.records.proofs.UsedLaws.{rest-next, used_take}
 use Rattle.worlds.proofs.relate.set_of.Goals as goal
 
-long : (c : lts.Start tie.the-claims reads.Pre reads.Post goal.the-invariant-loop-i goal.the-decreases-loop-i) → length c.args.list.items ≡ 16
-long c = omega (arith, c.well_formed)
+-- the numbers that the loop goes over
+in_use : (list : Numbers) (k n : ℕ) → length list.items ≡ 16 → k ≡ list.count → n ≡ min k 16 → take n list.items ≡ numbers_of list
+unfolding numbers_of
+in_use list k n long e some = used_take list.items list.count 16 n long (some ∙ ap (λ (x : ℕ). min x 16) e)
 
-some : (c : goal.After-upto-n) → c.upto-n.result ≡ min c.args.list.count 16
-some c = c.upto-n.ensures.0 ∙ ap (λ (x : ℕ). min x 16) c.wide.ensures.0
-
-pub loop-i-init : goal.loop-i-init
-loop-i-init c = (search rules, none-union _ ∙ sym (set-union _))
+pub loop-p-init : goal.loop-p-init
+loop-p-init c = none-union _
 
 pub bit-all-requires : goal.bit-all-requires
-unfolding numbers_of
 bit-all-requires c =
-    let l = c in
-    let a = l in
-    let s = a in
-    used_each s.args.list.items s.args.list.count 16 a.upto-n.result (long s.before.before.before.before.before) (some a.before.before.before) (λ n. n < 64) l.loop-i.i 0 (search rules) s.requires
+    let all = subst (All (λ n. n < 64)) (sym (in_use c.args.list _ _ (omega (arith, c.well_formed)) c.from.ensures c.min-n.ensures)) c.requires in
+    all_at (λ n. n < 64) _ 0 c.loop-p.p-index all c.loop-p-test.true
 
-pub loop-i-preserved : goal.loop-i-preserved
-unfolding numbers_of union
-loop-i-preserved c =
-    let l = c in
-    let a = l in
-    let s = a in (
-      search rules,
-      union-first one l.loop-i.all _ c.bit-all.result _ _ _
-          (used_next s.args.list.items s.args.list.count 16 a.upto-n.result (long s.before.before.before.before.before.before) (some a.before.before.before.before) l.loop-i.i 0 _ (search rules) refl) refl c.bit-all.ensures
-          ∙ l.loop-i.invariant.1,
-    )
+pub loop-p-preserved : goal.loop-p-preserved
+unfolding union
+loop-p-preserved c = union-first one c.loop-p.all _ _ _ _ _ (rest-next _ c.loop-p.p-index 0 c.loop-p-test.true) refl c.bit-all.ensures ∙ c.loop-p.invariant
 
 pub returns : goal.returns
-unfolding numbers_of
 returns c =
-    let l = c in
-    let a = l in
-    let s = a in
-    sym (union_end one l.loop-i.all _ (used_end s.args.list.items s.args.list.count 16 a.upto-n.result (long s.before.before.before.before) (some a.before.before) l.loop-i.i (search rules)))
-    ∙ l.loop-i.invariant.1
+    sym (union_end one c.loop-p.all _ (drop_of_length-le _ c.loop-p-test.false)) ∙ c.loop-p.invariant ∙ sym (set-union _)
+    ∙ ap set_of (in_use c.args.list _ _ (omega (arith, c.well_formed)) c.from.ensures c.min-n.ensures)

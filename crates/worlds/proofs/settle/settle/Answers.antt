@@ -8,9 +8,7 @@ use Rattle.worlds.proofs.settle.settle.Goals as goal
 pub returns : goal.returns
 unfolding union meet
 returns c =
-    settles c.args.t.now c.args.common c.args.active c.args.noted.now c.settle_cuts-cuts.new.noted _ c.settle_cuts-cuts.result c.gather-loose.result c.minus.result c.gather.result _
-    c.whole_3_rows.ensures.0
-    (record {
+    settles c.args.t.now _ _ c.args.noted.now c.settle_cuts-cuts.new.noted _ _ _ _ _ _ c.told-noted (record {
       components = c.loose_parts-parted.ensures.parts;
       renewed = c.loose_parts-parted.ensures.fresh;
       seed = c.gather-loose.ensures;

@@ -2,8 +2,5 @@
 use Rattle.worlds.proofs.CutBlocks.{CutSoFar}
 use Rattle.worlds.proofs.world.cut_blocks.Given as goal
 
-abbrev pub invariant-loop-m : goal.invariant-loop-m
-invariant-loop-m l = CutSoFar l.members l.applied l.placed l.m l.initial.blocks l.blocks l.rest
-
-abbrev pub decreases-loop-m : goal.decreases-loop-m
-decreases-loop-m l = l.m
+abbrev pub invariant-loop-c : goal.invariant-loop-c
+invariant-loop-c l = CutSoFar l.members l.applied l.placed l.c-iterator.0 l.initial.blocks l.blocks l.rest

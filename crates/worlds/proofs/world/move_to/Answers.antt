@@ -6,17 +6,12 @@ use Rattle.worlds.proofs.world.move_to.Goals as goal
 
 pub returns-then-not-subset : goal.returns-then-not-subset
 unfolding union
-returns-then-not-subset c =
-    let start = c in
-    let a = start.args in
-    record {
-      at = λ live anchor B is inside p.
-          c.regroup.ensures.at p
-          ∙ moved_apart live anchor a.block a.movers a.blocks.now B is inside c.gather-left.result start.ranges.movers.fits c.gather-left.ensures p;
-    }
+returns-then-not-subset c = record {
+  at = λ live anchor B is inside p.
+      c.regroup.ensures.at p ∙ moved_apart live anchor _ _ _ B is inside _ c.ranges.movers.fits c.gather-left.ensures p;
+}
 
 pub returns-else-not-subset : goal.returns-else-not-subset
-returns-else-not-subset c =
-    let a = c.args in
-    let here = sym c.subset.ensures ∙ c.if-not-subset.false in
-    record { at = λ live anchor B is inside p. moved_already live anchor a.block a.movers a.blocks.now B is inside here p }
+returns-else-not-subset c = record {
+  at = λ live anchor B is inside p. moved_already live anchor _ _ _ B is inside (sym c.subset.ensures ∙ c.if-not-subset.false) p;
+}

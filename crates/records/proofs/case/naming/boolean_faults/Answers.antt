@@ -14,7 +14,7 @@ pub loop-k-init : goal.loop-k-init
 loop-k-init c =
     let x = c.args.booleans in
     let long : length x.items ≡ 64 = omega (arith, c.well_formed) in
-    (omega arith, omega (arith, c.upto-count.ensures.0, min-le_right x.count 64), c.upto-count.ensures.0 ∙ sym (length_front boolean_of x.items x.count 64 long), λ P C e. none_yet c.args.first (boolean_faults P x) C)
+    (omega arith, omega (arith, c.min-count.ensures, min-le_right x.count 64), c.min-count.ensures ∙ sym (length_front boolean_of x.items x.count 64 long), λ P C e. none_yet c.args.first (boolean_faults P x) C)
 
 pub returns-then-not-contains : goal.returns-then-not-contains
 unfolding boolean_of

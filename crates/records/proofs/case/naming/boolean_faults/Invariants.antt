@@ -14,6 +14,3 @@ use Rattle.records.proofs.case.naming.boolean_faults.Given as goal
 abbrev pub invariant-loop-k : goal.invariant-loop-k
 invariant-loop-k l =
     (l.k ≤ l.count) × (l.count ≤ 64) × (l.count ≡ length (map boolean_of (take l.booleans.count l.booleans.items))) × ((P : paper.Plan) (C : case.Case) → MarksBooleans P l.set → NoneYet l.first (boolean_faults P l.booleans) C l.k)
-
-abbrev pub decreases-loop-k : goal.decreases-loop-k
-decreases-loop-k l = l.count - l.k

@@ -12,6 +12,3 @@ abbrev pub invariant-loop-k : goal.invariant-loop-k
 invariant-loop-k l =
     (l.k ≤ l.count) × (l.count ≤ 16) × (l.count ≤ l.constraints.count) × (l.count ≡ length (take l.constraints.count l.constraints.items))
     × ((P : paper.Plan) (C : case.Case) → l.nodes ≡ length P.nodes → NoneYet l.first (constraint_faults P l.constraints) C l.k)
-
-abbrev pub decreases-loop-k : goal.decreases-loop-k
-decreases-loop-k l = l.count - l.k

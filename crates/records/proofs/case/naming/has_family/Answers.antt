@@ -15,8 +15,8 @@ pub loop-i-init : goal.loop-i-init
 loop-i-init c =
     let f = c.args.families in
     let long : length f.items ≡ 16 = omega (arith, c.well_formed) in
-    let e = c.upto-count.ensures.0 ∙ sym (length_front family_of f.items f.count 16 long) in
-    (omega arith, omega (arith, c.upto-count.ensures.0, min-le_right f.count 16), e, refl)
+    let e = c.min-count.ensures ∙ sym (length_front family_of f.items f.count 16 long) in
+    (omega arith, omega (arith, c.min-count.ensures, min-le_right f.count 16), e, refl)
 
 pub returns-then-families-i : goal.returns-then-families-i
 returns-then-families-i c =

@@ -10,6 +10,3 @@ use Rattle.records.proofs.case.naming.has_family.Given as goal
 abbrev pub invariant-loop-i : goal.invariant-loop-i
 invariant-loop-i l =
     (l.i ≤ l.count) × (l.count ≤ 16) × (l.count ≡ length (families_of l.families)) × (any_of (same_family l.number) (drop l.i (families_of l.families)) ≡ any_of (same_family l.number) (families_of l.families))
-
-abbrev pub decreases-loop-i : goal.decreases-loop-i
-decreases-loop-i l = l.count - l.i

@@ -14,7 +14,7 @@ pub loop-k-init : goal.loop-k-init
 loop-k-init c =
     let x = c.args.relations in
     let long : length x.items ≡ 256 = omega (arith, c.well_formed) in
-    (omega arith, omega (arith, c.upto-count.ensures.0, min-le_right x.count 256), c.upto-count.ensures.0 ∙ sym (length_front relation_of x.items x.count 256 long), λ P C e. none_yet c.args.first (relation_faults P C x) C)
+    (omega arith, omega (arith, c.min-count.ensures, min-le_right x.count 256), c.min-count.ensures ∙ sym (length_front relation_of x.items x.count 256 long), λ P C e. none_yet c.args.first (relation_faults P C x) C)
 
 pub returns-then-not-contains : goal.returns-then-not-contains
 unfolding relation_of

@@ -13,6 +13,3 @@ use Rattle.records.proofs.case.naming.relation_faults.Given as goal
 abbrev pub invariant-loop-k : goal.invariant-loop-k
 invariant-loop-k l =
     (l.k ≤ l.count) × (l.count ≤ 256) × (l.count ≡ length (map relation_of (take l.relations.count l.relations.items))) × ((P : paper.Plan) (C : case.Case) → MarksRelations P C l.set → NoneYet l.first (relation_faults P C l.relations) C l.k)
-
-abbrev pub decreases-loop-k : goal.decreases-loop-k
-decreases-loop-k l = l.count - l.k

@@ -11,6 +11,3 @@ use Rattle.records.proofs.fields.lists.decisions_from.Given as goal
 abbrev pub invariant-loop-i : goal.invariant-loop-i
 invariant-loop-i l =
     (l.i ≤ l.n) × (length l.edges ≡ 64) × (length l.verdicts ≡ 64) × (below l.i (decided l.edges l.verdicts) ≡ paper.decisions_from (bytes_from l.s l.first (l.i * 2)))
-
-abbrev pub decreases-loop-i : goal.decreases-loop-i
-decreases-loop-i l = l.n - l.i

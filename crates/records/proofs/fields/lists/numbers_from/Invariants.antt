@@ -7,6 +7,3 @@ use Rattle.records.proofs.fields.lists.numbers_from.Given as goal
 
 abbrev pub invariant-loop-i : goal.invariant-loop-i
 invariant-loop-i l = (l.i ≤ l.n) × (length l.items ≡ 16) × (take l.i l.items ≡ bytes_from l.s l.first l.i)
-
-abbrev pub decreases-loop-i : goal.decreases-loop-i
-decreases-loop-i l = l.n - l.i

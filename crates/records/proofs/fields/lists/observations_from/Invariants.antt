@@ -17,6 +17,3 @@ observed vs es i = mk (get_or vs i 0) (get_or es i 0)
 abbrev pub invariant-loop-i : goal.invariant-loop-i
 invariant-loop-i l =
     (l.i ≤ l.n) × (length l.values ≡ 16) × (length l.evidence ≡ 16) × (below l.i (observed l.values l.evidence) ≡ paper.observations_from (bytes_from l.s l.first (l.i * 2)))
-
-abbrev pub decreases-loop-i : goal.decreases-loop-i
-decreases-loop-i l = l.n - l.i

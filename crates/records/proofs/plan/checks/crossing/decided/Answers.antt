@@ -22,27 +22,27 @@ decides_not : (d : Decisions) (edge : ℕ) → not (all_of (other edge) (entries
 decides_not d edge = ap not (sym (all_edges (other edge) d)) ∙ sym (any_not (λ (x : paper.Decision). eqb x.edge edge) (decisions_of d))
 
 pub loop-i-init : goal.loop-i-init
-loop-i-init c = (omega arith, c.wide-count.ensures.1, refl)
+loop-i-init c = (omega arith, (omega (arith, c.from-count.ensures, c.ranges)), refl)
 
-pub returns-then-wide-edge : goal.returns-then-wide-edge
-returns-then-wide-edge c =
-    let s = c.args in let l = c.loop-i in let n = c.wide-count.result in let f = other s.edge in
+pub returns-then-from-edge : goal.returns-then-from-edge
+returns-then-from-edge c =
+    let s = c.args in let l = c.loop-i in let n = c.from-count.result in let f = other s.edge in
     let es = entries s.decisions.edges n in
     let long : length es ≡ n = length-below n _ in
-    let t : f (get_or es l.i 0) ≡ false = rw (get_or-below n (λ i. get_or s.decisions.edges i 0) 0 l.i (omega arith), ← c.entry.ensures, ← c.wide.ensures.0, eq-eqb _ _ c.if-wide-edge.true) in
-    ap not (all_fails f es l.i 0 (all_of f es) (omega arith) t l.invariant.2) ∙ rw c.wide-count.ensures.0 (decides_not s.decisions s.edge)
+    let t : f (get_or es l.i 0) ≡ false = rw (get_or-below n (λ i. get_or s.decisions.edges i 0) 0 l.i (omega arith), ← c.entry.ensures, ← c.from.ensures, eq-eqb _ _ c.if-from-edge.true) in
+    ap not (all_fails f es l.i 0 (all_of f es) (omega arith) t l.invariant.2) ∙ rw c.from-count.ensures (decides_not s.decisions s.edge)
 
 pub loop-i-preserved : goal.loop-i-preserved
 loop-i-preserved c =
-    let s = c.args in let l = c.loop-i in let n = c.wide-count.result in let f = other s.edge in
+    let s = c.args in let l = c.loop-i in let n = c.from-count.result in let f = other s.edge in
     let es = entries s.decisions.edges n in
     let long : length es ≡ n = length-below n _ in
-    let t : f (get_or es l.i 0) ≡ true = rw (get_or-below n (λ i. get_or s.decisions.edges i 0) 0 l.i (omega arith), ← c.entry.ensures, ← c.wide.ensures.0, ne_eqb _ _ c.if-wide-edge.false) in
+    let t : f (get_or es l.i 0) ≡ true = rw (get_or-below n (λ i. get_or s.decisions.edges i 0) 0 l.i (omega arith), ← c.entry.ensures, ← c.from.ensures, ne_eqb _ _ c.if-from-edge.false) in
     (omega arith, omega arith, all_goes f es l.i 0 (all_of f es) (omega arith) t l.invariant.2)
 
 pub returns : goal.returns
 returns c =
-    let s = c.args in let l = c.loop-i in let n = c.wide-count.result in let f = other s.edge in
+    let s = c.args in let l = c.loop-i in let n = c.from-count.result in let f = other s.edge in
     let es = entries s.decisions.edges n in
     let long : length es ≡ n = length-below n _ in
-    ap not (all_ends f es l.i (all_of f es) (omega arith) l.invariant.2) ∙ rw c.wide-count.ensures.0 (decides_not s.decisions s.edge)
+    ap not (all_ends f es l.i (all_of f es) (omega arith) l.invariant.2) ∙ rw c.from-count.ensures (decides_not s.decisions s.edge)

@@ -13,6 +13,3 @@ other edge x = not (eqb x edge)
 
 abbrev pub invariant-loop-i : goal.invariant-loop-i
 invariant-loop-i l = (l.i ≤ l.count) × (l.count < 256) × (all_of (other l.edge) (drop l.i (entries l.list l.count)) ≡ all_of (other l.edge) (entries l.list l.count))
-
-abbrev pub decreases-loop-i : goal.decreases-loop-i
-decreases-loop-i l = l.count - l.i

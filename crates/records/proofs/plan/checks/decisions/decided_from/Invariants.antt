@@ -8,6 +8,3 @@ use Rattle.records.proofs.plan.checks.decisions.decided_from.Given as goal
 
 abbrev pub invariant-loop-j : goal.invariant-loop-j
 invariant-loop-j l = (l.j ≤ l.n) × (any_of (λ e. eqb e.edge l.edge) (decisions_left l.d l.j) ≡ any_of (λ e. eqb e.edge l.edge) (decisions_left l.d l.i))
-
-abbrev pub decreases-loop-j : goal.decreases-loop-j
-decreases-loop-j l = l.n - l.j

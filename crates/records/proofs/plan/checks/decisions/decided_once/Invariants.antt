@@ -8,6 +8,3 @@ use Rattle.records.proofs.plan.checks.decisions.decided_once.Given as goal
 
 abbrev pub invariant-loop-i : goal.invariant-loop-i
 invariant-loop-i l = (l.i ≤ l.n) × (decided_once (decisions_left l.d l.i) ≡ decided_once (decisions_of l.d))
-
-abbrev pub decreases-loop-i : goal.decreases-loop-i
-decreases-loop-i l = l.n - l.i

@@ -8,6 +8,3 @@ use Rattle.records.proofs.plan.checks.decisions.unresolved_in.Given as goal
 
 abbrev pub invariant-loop-i : goal.invariant-loop-i
 invariant-loop-i l = (l.i ≤ l.n) × (l.total ≤ l.i) × (l.total + unresolved_in (decisions_left l.d l.i) ≡ unresolved_in (decisions_of l.d))
-
-abbrev pub decreases-loop-i : goal.decreases-loop-i
-decreases-loop-i l = l.n - l.i

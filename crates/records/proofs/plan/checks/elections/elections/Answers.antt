@@ -56,10 +56,10 @@ pub bounds-attachments-k : goal.bounds-attachments-k
 bounds-attachments-k c = omega (arith, c.count_records-counts.ensures.1)
 
 pub offset_bounds-kept-fact : goal.offset_bounds-kept-fact
-offset_bounds-kept-fact c = omega (arith, c.wide-fact.ensures.1)
+offset_bounds-kept-fact c = omega (arith, c.fact_place-fact.ensures.1)
 
 pub bounds-kept-fact : goal.bounds-kept-fact
-bounds-kept-fact c = c.wide-fact.ensures.1
+bounds-kept-fact c = c.fact_place-fact.ensures.1
 
 pub overflow_add-result : goal.overflow_add-result
 overflow_add-result c = omega (arith, c.count_records-counts.ensures.1)
@@ -76,27 +76,21 @@ returns-then-not-same c =
       | then-k-cut_count w ↦ ap election_of w.election-is ∙ cut-election p.cuts p.attachments P b l.k _ (omega (arith, w.if-k-cut_count.true, n.ensures.0.cuts))
       | else-k-cut_count w ↦ ap election_of w.election-is ∙ attachment-election p.cuts p.attachments P b l.k n.result.cuts _ n.ensures.0.cuts (omega (arith, w.if-k-cut_count.false)) (omega (arith, w.if-k-cut_count.false, n.ensures.0))
     ]) in
-    let v = beside ess l.k l.kept j.election inv.1 h c.wide-fact.ensures.0 c.same.ensures in
+    let v = beside ess l.k l.kept j.election inv.1 h c.fact_place-fact.ensures.0 c.same.ensures in
     let t : 7 ≡ get_or fs l.k 0 = ap (λ (x : Bool). fault 7 x) (sym (v ∙ not-true c.same.result c.if-not-same.true-raw)) ∙ election-fault P l.k in
     let first = n.result.headings + n.result.facts + n.result.nodes + n.result.edges in
     let at : first ≡ cuts_at P = omega (arith, n.ensures.0) in
     ap checked_of (fault_stops first fs l.k 6 (fine P) (first_fault first fs (fine P)) (omega (arith, length-agreement P, n.ensures.0)) t inv.0) ∙ ap (λ (i : ℕ). checked_of (first_fault i fs (fine P))) at
 
 pub offset_bounds-kept-fact-in-loop-k : goal.offset_bounds-kept-fact-in-loop-k
-offset_bounds-kept-fact-in-loop-k c = omega (arith, c.wide-fact.ensures.1)
+offset_bounds-kept-fact-in-loop-k c = omega (arith, c.fact_place-fact.ensures.1)
 
 pub bounds-kept-fact-in-loop-k : goal.bounds-kept-fact-in-loop-k
-bounds-kept-fact-in-loop-k c = c.wide-fact.ensures.1
-
-pub overflow_add-k : goal.overflow_add-k
-overflow_add-k c = omega (arith, c.count_records-counts.ensures.1)
-
-pub loop-k-smaller : goal.loop-k-smaller
-loop-k-smaller c = omega arith
+bounds-kept-fact-in-loop-k c = c.fact_place-fact.ensures.1
 
 pub loop-k-preserved : goal.loop-k-preserved
 loop-k-preserved c =
-    let n = c.count_records-counts in let l = c.loop-k in let j = c.if-k-cut_count in let w = c.wide-fact in let p = c.args.plan in
+    let n = c.count_records-counts in let l = c.loop-k in let j = c.if-k-cut_count in let w = c.fact_place-fact in let p = c.args.plan in
     let first = n.result.headings + n.result.facts + n.result.nodes + n.result.edges in (
       omega arith,
       length-set l.kept w.result c.latest.result ∙ l.invariant.1,
@@ -114,7 +108,7 @@ loop-k-preserved c =
             fault_goes first (agreement P) l.k (fine P) (first_fault first (agreement P) (fine P)) (omega (arith, length-agreement P, total)) t inv.0,
             subst (λ z. Kept ess (l.k + 1) z)
                 (ap (λ (i : ℕ). set l.kept i (cond j.election.given j.election (get_or l.kept i no_election))) (sym w.ensures.0) ∙ ap (set l.kept w.result) (sym c.latest.ensures))
-                (kept_more ess l.k l.kept j.election (omega (arith, w.ensures, l.invariant.1)) h (at_fact l.kept j.election w.ensures.0 ∙ sym c.same.ensures ∙ s) inv.1),
+                (kept_more ess l.k l.kept j.election (omega (arith, w.ensures.1, l.invariant.1)) h (at_fact l.kept j.election w.ensures.0 ∙ sym c.same.ensures ∙ s) inv.1),
           ),
     )
 

@@ -12,6 +12,3 @@ abbrev pub invariant-loop-k : goal.invariant-loop-k
 invariant-loop-k l =
     (l.k ≤ l.total) × (length l.kept ≡ 256) × ((P : Plan) → Elects l.cuts l.attachments P → l.cut_count ≡ length P.cuts → l.total ≡ length P.cuts + length P.attachments
     → NoneYet l.first (agreement P) P l.k × Kept (election_records P) l.k l.kept)
-
-abbrev pub decreases-loop-k : goal.decreases-loop-k
-decreases-loop-k l = l.total - l.k

@@ -15,26 +15,26 @@ returns-then-k-i c =
     let a = c.args in
     let la : length a.a ≡ 4 = search rules in
     let lb : length a.b ≡ 4 = search rules in
-    lex_short a.a a.b a.m a.n c.loop-i.i (omega (arith, la, c.requires)) (omega (arith, lb, c.requires)) (omega (arith, c.loop-i-test.true, c.wide-j.ensures)) (omega (arith, c.if-k-i.true, c.wide-k.ensures)) ∙ c.loop-i.invariant.2
+    lex_short a.a a.b a.m a.n c.loop-i.i (omega (arith, la, c.requires)) (omega (arith, lb, c.requires)) (omega (arith, c.loop-i-test.true, c.from-j.ensures)) (omega (arith, c.if-k-i.true, c.from-k.ensures)) ∙ c.loop-i.invariant.2
 
 pub returns-then-a-i : goal.returns-then-a-i
 returns-then-a-i c =
     let a = c.args in
     let la : length a.a ≡ 4 = search rules in
     let lb : length a.b ≡ 4 = search rules in
-    lex_differ a.a a.b a.m a.n c.loop-i.i (omega (arith, la, c.requires)) (omega (arith, lb, c.requires)) (omega (arith, c.loop-i-test.true, c.wide-j.ensures)) (omega (arith, c.if-k-i.false, c.wide-k.ensures)) c.if-a-i.true ∙ c.loop-i.invariant.2
+    lex_differ a.a a.b a.m a.n c.loop-i.i (omega (arith, la, c.requires)) (omega (arith, lb, c.requires)) (omega (arith, c.loop-i-test.true, c.from-j.ensures)) (omega (arith, c.if-k-i.false, c.from-k.ensures)) c.if-a-i.true ∙ c.loop-i.invariant.2
 
 pub loop-i-preserved : goal.loop-i-preserved
 loop-i-preserved c =
     let a = c.args in
     let la : length a.a ≡ 4 = search rules in
     let lb : length a.b ≡ 4 = search rules in
-    (omega arith, omega arith, lex_same a.a a.b a.m a.n c.loop-i.i (omega (arith, la, c.requires)) (omega (arith, lb, c.requires)) (omega (arith, c.loop-i-test.true, c.wide-j.ensures)) (omega (arith, c.if-k-i.false, c.wide-k.ensures)) c.if-a-i.false ∙ c.loop-i.invariant.2)
+    (omega arith, omega arith, lex_same a.a a.b a.m a.n c.loop-i.i (omega (arith, la, c.requires)) (omega (arith, lb, c.requires)) (omega (arith, c.loop-i-test.true, c.from-j.ensures)) (omega (arith, c.if-k-i.false, c.from-k.ensures)) c.if-a-i.false ∙ c.loop-i.invariant.2)
 
 pub returns : goal.returns
 returns c =
     let a = c.args in
     let la : length a.a ≡ 4 = search rules in
     let lb : length a.b ≡ 4 = search rules in
-    ap (λ (x : ℕ). ltb x c.wide-k.result) c.wide-j.ensures.0 ∙ ap (ltb a.m) c.wide-k.ensures.0
-    ∙ lex_end a.a a.b a.m a.n c.loop-i.i (omega (arith, la, c.requires)) (omega (arith, lb, c.requires)) (omega (arith, c.loop-i-test.false, c.wide-j.ensures, c.loop-i.invariant.0)) (omega (arith, c.loop-i.invariant.1, c.wide-k.ensures)) ∙ c.loop-i.invariant.2
+    ap (λ (x : ℕ). ltb x c.from-k.result) c.from-j.ensures ∙ ap (ltb a.m) c.from-k.ensures
+    ∙ lex_end a.a a.b a.m a.n c.loop-i.i (omega (arith, la, c.requires)) (omega (arith, lb, c.requires)) (omega (arith, c.loop-i-test.false, c.from-j.ensures, c.loop-i.invariant.0)) (omega (arith, c.loop-i.invariant.1, c.from-k.ensures)) ∙ c.loop-i.invariant.2

@@ -14,7 +14,7 @@ pub loop-k-init : goal.loop-k-init
 loop-k-init c =
     let x = c.args.attachments in
     let long : length x.items ≡ 32 = omega (arith, c.well_formed) in
-    (omega arith, omega (arith, c.upto-count.ensures.0, min-le_right x.count 32), c.upto-count.ensures.0 ∙ sym (length_front attachment_of x.items x.count 32 long), λ P e h. none_yet c.args.first (attachment_faults P x) P)
+    (omega arith, omega (arith, c.min-count.ensures, min-le_right x.count 32), c.min-count.ensures ∙ sym (length_front attachment_of x.items x.count 32 long), λ P e h. none_yet c.args.first (attachment_faults P x) P)
 
 pub returns-then-not-attachment_sound : goal.returns-then-not-attachment_sound
 returns-then-not-attachment_sound c =

@@ -12,6 +12,3 @@ use Rattle.records.proofs.plan.checks.name_faults.attachment_faults.Given as goa
 abbrev pub invariant-loop-k : goal.invariant-loop-k
 invariant-loop-k l =
     (l.k ≤ l.count) × (l.count ≤ 32) × (l.count ≡ length (map attachment_of (take l.attachments.count l.attachments.items))) × ((P : paper.Plan) → MarksBooleans P l.booleans → l.nodes ≡ length P.nodes → NoneYet l.first (attachment_faults P l.attachments) P l.k)
-
-abbrev pub decreases-loop-k : goal.decreases-loop-k
-decreases-loop-k l = l.count - l.k

@@ -19,27 +19,27 @@ pub loop-k-init : goal.loop-k-init
 loop-k-init c =
     let x = c.args.bars in
     let long : length x.items ≡ 32 = omega (arith, c.well_formed) in
-    (omega arith, omega (arith, c.upto-count.ensures.0, min-le_right x.count 32), c.upto-count.ensures.0 ∙ sym (length_front bar_of x.items x.count 32 long), λ P e. none_yet c.args.first (bar_faults P x) P)
+    (omega arith, omega (arith, c.min-count.ensures, min-le_right x.count 32), c.min-count.ensures ∙ sym (length_front bar_of x.items x.count 32 long), λ P e. none_yet c.args.first (bar_faults P x) P)
 
-pub returns-then-wide-nodes : goal.returns-then-wide-nodes
+pub returns-then-from-nodes : goal.returns-then-from-nodes
 unfolding bar_of
-returns-then-wide-nodes c =
+returns-then-from-nodes c =
     let a = c.args in let l = c.loop-k in
-    let w : c.wide.result ≡ (get_or a.bars.items l.k none).condition = c.wide.ensures.0 in λ P e.
+    let w : c.from.result ≡ (get_or a.bars.items l.k none).condition = c.from.ensures in λ P e.
     one_faulty (λ b. paper.node_number P b.condition) bar_of a.bars.items a.bars.count _ l.invariant.2 a.first P l.k (l.invariant.3 P e) none c.loop-k-test.true
-    (ap (ltb _) (sym e) ∙ le-ltb (get_or a.bars.items l.k none).condition a.nodes (omega (arith, c.if-wide-nodes.true, w)))
+    (ap (ltb _) (sym e) ∙ le-ltb (get_or a.bars.items l.k none).condition a.nodes (omega (arith, c.if-from-nodes.true, w)))
 
 pub loop-k-preserved : goal.loop-k-preserved
 unfolding bar_of
 loop-k-preserved c =
     let a = c.args in let l = c.loop-k in
-    let w : c.wide.result ≡ (get_or a.bars.items l.k none).condition = c.wide.ensures.0 in (
+    let w : c.from.result ≡ (get_or a.bars.items l.k none).condition = c.from.ensures in (
       omega arith,
       l.invariant.1,
       l.invariant.2,
       λ P e.
           one-sound (λ b. paper.node_number P b.condition) bar_of a.bars.items a.bars.count _ l.invariant.2 a.first P l.k (l.invariant.3 P e) none c.loop-k-test.true
-          (ap (ltb _) (sym e) ∙ lt-ltb (get_or a.bars.items l.k none).condition a.nodes (omega (arith, c.if-wide-nodes.false, w))),
+          (ap (ltb _) (sym e) ∙ lt-ltb (get_or a.bars.items l.k none).condition a.nodes (omega (arith, c.if-from-nodes.false, w))),
     )
 
 pub returns : goal.returns

@@ -12,6 +12,3 @@ use Rattle.records.proofs.plan.checks.name_faults.bar_faults.Given as goal
 abbrev pub invariant-loop-k : goal.invariant-loop-k
 invariant-loop-k l =
     (l.k ≤ l.count) × (l.count ≤ 32) × (l.count ≡ length (map bar_of (take l.bars.count l.bars.items))) × ((P : paper.Plan) → l.nodes ≡ length P.nodes → NoneYet l.first (bar_faults P l.bars) P l.k)
-
-abbrev pub decreases-loop-k : goal.decreases-loop-k
-decreases-loop-k l = l.count - l.k

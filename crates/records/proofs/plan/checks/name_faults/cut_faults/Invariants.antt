@@ -12,6 +12,3 @@ use Rattle.records.proofs.plan.checks.name_faults.cut_faults.Given as goal
 abbrev pub invariant-loop-k : goal.invariant-loop-k
 invariant-loop-k l =
     (l.k ≤ l.count) × (l.count ≤ 16) × (l.count ≡ length (map cut_of (take l.cuts.count l.cuts.items))) × ((P : paper.Plan) → MarksBooleans P l.booleans → CountsOf P l.counts → NoneYet l.first (cut_faults P l.cuts) P l.k)
-
-abbrev pub decreases-loop-k : goal.decreases-loop-k
-decreases-loop-k l = l.count - l.k

@@ -14,7 +14,7 @@ pub loop-k-init : goal.loop-k-init
 loop-k-init c =
     let x = c.args.edges in
     let long : length x.items ≡ 64 = omega (arith, c.well_formed) in
-    (omega arith, omega (arith, c.upto-count.ensures.0, min-le_right x.count 64), c.upto-count.ensures.0 ∙ sym (length_front edge_of x.items x.count 64 long), λ P e. none_yet c.args.first (edge_faults P x) P)
+    (omega arith, omega (arith, c.min-count.ensures, min-le_right x.count 64), c.min-count.ensures ∙ sym (length_front edge_of x.items x.count 64 long), λ P e. none_yet c.args.first (edge_faults P x) P)
 
 pub returns-then-not-edge_sound : goal.returns-then-not-edge_sound
 returns-then-not-edge_sound c =

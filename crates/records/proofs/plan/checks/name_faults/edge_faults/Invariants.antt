@@ -12,6 +12,3 @@ use Rattle.records.proofs.plan.checks.name_faults.edge_faults.Given as goal
 abbrev pub invariant-loop-k : goal.invariant-loop-k
 invariant-loop-k l =
     (l.k ≤ l.count) × (l.count ≤ 64) × (l.count ≡ length (map edge_of (take l.edges.count l.edges.items))) × ((P : paper.Plan) → l.nodes ≡ length P.nodes → NoneYet l.first (edge_faults P l.edges) P l.k)
-
-abbrev pub decreases-loop-k : goal.decreases-loop-k
-decreases-loop-k l = l.count - l.k

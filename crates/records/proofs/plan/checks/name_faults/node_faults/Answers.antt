@@ -13,7 +13,7 @@ pub loop-k-init : goal.loop-k-init
 loop-k-init c =
     let x = c.args.nodes in
     let long : length x.items ≡ 256 = omega (arith, c.well_formed) in
-    (omega arith, omega (arith, c.upto-count.ensures.0, min-le_right x.count 256), c.upto-count.ensures.0 ∙ sym (length_front node_of x.items x.count 256 long), λ P e. none_yet c.args.first (node_faults P x) P)
+    (omega arith, omega (arith, c.min-count.ensures, min-le_right x.count 256), c.min-count.ensures ∙ sym (length_front node_of x.items x.count 256 long), λ P e. none_yet c.args.first (node_faults P x) P)
 
 pub returns-then-not-node_sound : goal.returns-then-not-node_sound
 returns-then-not-node_sound c =

@@ -12,6 +12,3 @@ use Rattle.records.proofs.plan.checks.name_faults.node_faults.Given as goal
 abbrev pub invariant-loop-k : goal.invariant-loop-k
 invariant-loop-k l =
     (l.k ≤ l.count) × (l.count ≤ 256) × (l.count ≡ length (map node_of (take l.nodes.count l.nodes.items))) × ((P : paper.Plan) → l.facts ≡ length P.facts → NoneYet l.first (node_faults P l.nodes) P l.k)
-
-abbrev pub decreases-loop-k : goal.decreases-loop-k
-decreases-loop-k l = l.count - l.k

@@ -12,6 +12,3 @@ use Rattle.records.proofs.plan.checks.name_faults.status_faults.Given as goal
 abbrev pub invariant-loop-k : goal.invariant-loop-k
 invariant-loop-k l =
     (l.k ≤ l.count) × (l.count ≤ 32) × (l.count ≡ length (map status_of (take l.statuses.count l.statuses.items))) × ((P : paper.Plan) → l.nodes ≡ length P.nodes → NoneYet l.first (status_faults P l.statuses) P l.k)
-
-abbrev pub decreases-loop-k : goal.decreases-loop-k
-decreases-loop-k l = l.count - l.k

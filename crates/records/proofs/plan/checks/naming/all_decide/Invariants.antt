@@ -8,6 +8,3 @@ use Rattle.records.proofs.plan.checks.naming.all_decide.Given as goal
 
 abbrev pub invariant-loop-i : goal.invariant-loop-i
 invariant-loop-i l = (l.i ≤ l.count) × (l.count < 256) × (all_under l.edges (drop l.i (entries l.list l.count)) ≡ all_under l.edges (entries l.list l.count))
-
-abbrev pub decreases-loop-i : goal.decreases-loop-i
-decreases-loop-i l = l.count - l.i

@@ -7,6 +7,3 @@ use Rattle.records.proofs.plan.checks.naming.all_under.Given as goal
 
 abbrev pub invariant-loop-i : goal.invariant-loop-i
 invariant-loop-i l = (l.i ≤ l.count) × (l.count ≤ 16) × (all_under l.bound (drop l.i (take l.count l.items)) ≡ all_under l.bound (take l.count l.items))
-
-abbrev pub decreases-loop-i : goal.decreases-loop-i
-decreases-loop-i l = l.count - l.i

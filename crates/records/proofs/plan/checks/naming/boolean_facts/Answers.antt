@@ -22,7 +22,7 @@ unfolding union_below
 loop-k-init c =
     let x = c.args.facts in
     let long : length x.items ≡ 64 = omega (arith, c.well_formed) in
-    (omega arith, omega (arith, c.upto-count.ensures.0, min-le_right x.count 64), c.upto-count.ensures.0 ∙ sym (length_front fact_of x.items x.count 64 long), refl)
+    (omega arith, omega (arith, c.min-count.ensures, min-le_right x.count 64), c.min-count.ensures ∙ sym (length_front fact_of x.items x.count 64 long), refl)
 
 pub loop-k-preserved : goal.loop-k-preserved
 loop-k-preserved c =

@@ -10,6 +10,3 @@ use Rattle.records.proofs.plan.checks.naming.boolean_facts.Given as goal
 
 abbrev pub invariant-loop-k : goal.invariant-loop-k
 invariant-loop-k l = (l.k ≤ l.count) × (l.count ≤ 64) × (l.count ≡ length (facts_of l.facts)) × (l.m ≡ built (lets paper.is_boolean l.facts) l.k)
-
-abbrev pub decreases-loop-k : goal.decreases-loop-k
-decreases-loop-k l = l.count - l.k

@@ -7,11 +7,11 @@ use borrow.Author.Tests.{lt-ltb, le-ltb}
 use Rattle.records.specs.paper.Plan.{edge_sound}
 use Rattle.records.proofs.plan.checks.naming.edge_sound.Goals as goal
 
-pub returns-then-wide-nodes : goal.returns-then-wide-nodes
+pub returns-then-from-nodes : goal.returns-then-from-nodes
 unfolding edge_of edge_sound
-returns-then-wide-nodes c = λ P e. rw (← e, ← c.wide.ensures.0, le-ltb _ _ c.if-wide-nodes.true)
+returns-then-from-nodes c = λ P e. rw (← e, ← c.from.ensures, le-ltb _ _ c.if-from-nodes.true)
 
 pub returns : goal.returns
 unfolding edge_of edge_sound
 returns c = λ P e. let s = c.args in
-    rw (← e, ← c.wide.ensures.0, lt-ltb _ _ c.if-wide-nodes.false) (c.all_under.ensures ∙ ap (λ (n : ℕ). all_under n (numbers_of s.edge.defeaters)) e)
+    rw (← e, ← c.from.ensures, lt-ltb _ _ c.if-from-nodes.false) (c.all_under.ensures ∙ ap (λ (n : ℕ). all_under n (numbers_of s.edge.defeaters)) e)

@@ -13,12 +13,12 @@ returns-then-sort-eq0 c = λ P e. rw c.if-sort-eq0.true
 
 pub returns-then-sort-eq1 : goal.returns-then-sort-eq1
 unfolding node_of node_sound node_by
-returns-then-sort-eq1 c = λ P e. rw (c.if-sort-eq1.true, e, c.wide.ensures.0)
+returns-then-sort-eq1 c = λ P e. rw (c.if-sort-eq1.true, e, c.from.ensures)
 
 pub returns-then-sort-ge4 : goal.returns-then-sort-ge4
 unfolding node_of
 returns-then-sort-ge4 c = λ P e. let s = c.args in
-    ap (λ (x : ℕ). ltb x s.k) c.wide-then-sort-ge4.ensures.0 ∙ neg-sound P s.k s.node.sort s.node.number _ c.if-sort-ge4.true
+    ap (λ (x : ℕ). ltb x s.k) c.from-then-sort-ge4.ensures ∙ neg-sound P s.k s.node.sort s.node.number _ c.if-sort-ge4.true
 
 pub returns : goal.returns
 unfolding node_of

@@ -8,4 +8,4 @@ use Rattle.sets.proofs.SetLaws.{ones-size}
 use Rattle.records.proofs.plan.reading.nodes.one_bit.Goals as goal
 
 pub returns : goal.returns
-returns c = ap (λ (x : ℕ). eqb x 1) (ones-size c.to_u64.result (omega (arith, c.to_u64.ensures)) ∙ ap size c.to_u64.ensures.0)
+returns c = ap (λ (x : ℕ). eqb x 1) (ones-size c.from.result (omega (arith, c.from.ensures)) ∙ ap size c.from.ensures)
