@@ -3,7 +3,7 @@ use mathlib.Core.Path.{◌≡◌, refl, sym, ap, ap₂, ◌∙◌}
 use mathlib.Core.Bool.{Bool, true, false, ◌&&◌, ◌||◌, not, and-true, and-false}
 use mathlib.Core.List.{List, [], ◌∷◌, map}
 use mathlib.Core.Logic.{◌≢◌}
-use Prim.Native.Nat.{ℕ, ◌+◌, ◌-◌, ◌≤◌, ◌<◌}
+use Prim.Native.Nat.{ℕ}
 use lib.ListN.{length, get_or}
 use lib.Dec.{eqb}
 use borrow.Author.Tests.{eqb-false, eq-eqb, ne_eqb, not-true}
@@ -12,12 +12,9 @@ use Rattle.sets.proofs.Every.{all_then}
 use Rattle.sets.proofs.SetLaws.{and_parts, eqb_swap}
 use Rattle.sets.proofs.SumLaws.{sum_where, sum_by, count-agree, count_all}
 use Rattle.report.specs.paper.Line.{Line}
-use Rattle.report.specs.paper.LineAt.{line_at, decoded, lines_from}
-use Rattle.report.specs.paper.Units.{join_unit, units_with, units}
+use Rattle.report.specs.paper.Units.{units}
 use Rattle.billing.specs.paper.Households.{makes_household, household, household_count}
 use Rattle.billing.specs.Shown.{with_block}
-use Rattle.billing.specs.declared.fields.Fields.{Fields}
-use Rattle.billing.proofs.UnitLaws.{lines_next, lines_none}
 use Rattle.billing.proofs.ByUnits.{units-once, units_any}
 use Rattle.billing.proofs.LinePlaces.{any_at, at_all}
 

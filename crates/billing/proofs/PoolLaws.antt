@@ -1,21 +1,18 @@
 -- Sums over the lines left, and what a line read back is counted for.
 use mathlib.Core.Path.{◌≡◌, refl, sym, ap, ap₂, ◌∙◌}
-use mathlib.Core.Bool.{Bool, true, false, ◌&&◌, ◌||◌, not}
+use mathlib.Core.Bool.{Bool, ◌||◌}
 use mathlib.Core.List.{List, ◌∷◌}
 use Prim.Native.Nat.{ℕ, zero, suc, ◌+◌, ◌-◌, ◌≤◌, ◌<◌}
 use native.Mathlib.Numerals.{add-one}
 use native.Mathlib.Omega.{arith}
 use lib.ListN.{length, get_or, drop}
 use lib.Seq.{drop-cons}
-use lib.Dec.{eqb}
 use Rattle.std.specs.List.{list_any, range_with_len}
 use Rattle.sets.specs.paper.Sets.{any_of, sum_of}
 use Rattle.sets.proofs.SumLaws.{sum_first, sum_end}
 use Rattle.report.specs.paper.Line.{Line}
 use Rattle.report.specs.paper.LineAt.{line_at, decoded, lines_from}
-use Rattle.billing.specs.paper.Pools.{Share, shares, pooled_as, pooled}
-use Rattle.billing.specs.Shown.{Shows}
-use Rattle.billing.specs.declared.fields.Fields.{Fields}
+use Rattle.billing.specs.paper.Pools.{Share, shares}
 use Rattle.billing.proofs.UnitLaws.{lines_next, lines_none}
 
 -- ---- the shares from line k on

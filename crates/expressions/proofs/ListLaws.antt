@@ -179,13 +179,6 @@ stored_behind f before xs at i v l s e =
     let here : at + (i + 1) ≡ suc (at + i) = omega arith in
     behind-next f before i e (ap (λ (n : ℕ). take n (set xs (at + i) v)) here ∙ take-suc-set xs (at + i) v l) s
 
--- an entry of one list stored behind the front of another
-pub store_next : {A : Type 0} (d : A) (sets before ms : List A) (k i : ℕ) → k < length sets → i < length ms → take k sets ≡ before ++ take i ms
-    → take (k + 1) (set sets k (get_or ms i d)) ≡ before ++ take (i + 1) ms
-store_next d sets before ms k i h l e =
-    ap (λ (n : ℕ). take n (set sets k (get_or ms i d))) (add-one k) ∙ take-suc-set sets k (get_or ms i d) h ∙ ap (λ (x : List _). x ++ (get_or ms i d ∷ [])) e
-    ∙ append_assoc before (take i ms) (get_or ms i d ∷ []) ∙ ap (λ (x : List _). before ++ x) (sym (ap (λ (n : ℕ). take n ms) (add-one i) ∙ take-suc ms i d l))
-
 -- an entry that is changed, seen by number
 pub changed_at : {A : Type 0} (xs : List A) (g f : ℕ) (h : A → A) (v d : A) → g < length xs → v ≡ h (get_or xs g d)
     → get_or (set xs g v) f d ≡ cond (eqb g f) (h (get_or xs f d)) (get_or xs f d)

@@ -17,24 +17,6 @@ use Rattle.expressions.proofs.ListLaws.{all_agree, any_agree, holds_next}
 use Rattle.records.proofs.UsedLaws.{used_take}
 use Rattle.sets.proofs.UnionLaws.{union-agree}
 
--- ---- whether one of them is true, or false
-
-pub any_true : {A : Type 0} (f : A → Bool) (xs : List A) → any_of (λ x. beq (f x) true) xs ≡ any_of f xs
-any_true f xs = any_agree (λ x. beq (f x) true) f (λ x. pick (f x)) xs
-  where
-    pick : (b : Bool) → beq b true ≡ b
-    pick true = refl
-    pick false = refl
-
-pub none-false : {A : Type 0} (f : A → Bool) (xs : List A) → not (any_of (λ x. beq (f x) false) xs) ≡ all_of f xs
-unfolding any_of all_of
-none-false f [] = refl
-none-false f (x ∷ xs) = pick (f x) (none-false f xs)
-  where
-    pick : (b : Bool) → not (any_of (λ x. beq (f x) false) xs) ≡ all_of f xs → not (beq b false || any_of (λ x. beq (f x) false) xs) ≡ (b && all_of f xs)
-    pick true e = e
-    pick false e = refl
-
 -- the numbers in use, at the front of their array
 pub numbers_used : (is : Numbers) (n m : ℕ) → length is.items ≡ 16 → n ≡ is.count → m ≡ min n 16 → take m is.items ≡ numbers_of is
 unfolding numbers_of

@@ -1,5 +1,5 @@
 // A person's circle: that person and all who are reached by what joins persons.
-ghost use Rattle.std.specs.Prelude.{◌≡◌, ◌++◌, ◌+◌, ◌<◌, ◌≤◌, length, get_or, take};
+ghost use Rattle.std.specs.Prelude.{◌≡◌, ◌++◌, ◌+◌, ◌<◌, ◌≤◌, length, take};
 ghost use Rattle.sets.specs.paper.Sets.{one, below, close_of};
 ghost use Rattle.expressions.specs.code.Joined.{joins_of};
 ghost use Rattle.expressions.specs.code.Listed.{used_at};

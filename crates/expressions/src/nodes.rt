@@ -1,9 +1,7 @@
 // Conditions in a table of nodes, each valued once.
 ghost use Rattle.std.specs.Prelude.{◌≡◌, false, []};
-ghost use Rattle.sets.specs.paper.Sets.{any_of};
-ghost use Rattle.records.specs.code.Decoded.{numbers_of, node_of, nodes_of};
-ghost use Rattle.std.specs.Bool.{beq};
-ghost use Rattle.expressions.specs.paper.Nodes.{on, value as value_of, values_from};
+ghost use Rattle.records.specs.code.Decoded.{node_of, nodes_of};
+ghost use Rattle.expressions.specs.paper.Nodes.{value as value_of, values_from};
 ghost use Rattle.expressions.specs.code.Coded.{Holds};
 
 use records::plan::{Node, Nodes};

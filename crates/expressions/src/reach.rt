@@ -1,6 +1,5 @@
 // What is made once for a case: the sets that a closing goes by, the bound facts, whom each fact touches, and the unresolved decisions with
 // whom they touch.
-ghost use Rattle.std.specs.Prelude.{◌≡◌};
 ghost use Rattle.records.specs.promises.Sound.{Sound};
 ghost use Rattle.records.specs.code.Decoded.{plan_of};
 ghost use Rattle.expressions.specs.code.Coded.{frame_by, HoldsUses};

@@ -1,6 +1,6 @@
 // The rules of a plan in two lent lists, made once: the facts that each uses, and whom it holds.
 ghost use Rattle.std.specs.Prelude.{◌≡◌, ◌≤◌, ◌<◌, ◌+◌, length};
-ghost use Rattle.sets.specs.paper.Sets.{one, All};
+ghost use Rattle.sets.specs.paper.Sets.{All};
 ghost use Rattle.records.specs.promises.Sound.{Sound};
 ghost use Rattle.records.specs.code.Decoded.{edge_of, attachment_of, plan_of};
 ghost use Rattle.expressions.specs.code.Coded.{EndsFit, AnchorFits};

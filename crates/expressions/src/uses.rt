@@ -1,5 +1,5 @@
 // The facts that each node uses: use is textual, short cuts ignored.
-ghost use Rattle.std.specs.Prelude.{◌≡◌, ℕ, get_or};
+ghost use Rattle.std.specs.Prelude.{◌≡◌, get_or};
 ghost use Rattle.sets.specs.paper.Sets.{union_of, All};
 ghost use Rattle.records.specs.code.Decoded.{numbers_of, node_of, nodes_of};
 ghost use Rattle.expressions.specs.paper.Nodes.{uses};

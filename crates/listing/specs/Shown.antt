@@ -1,14 +1,8 @@
--- What the code's structs stand for, and what the lister's function gives back.
+-- What the lister's function gives back.
 use Rattle.std.specs.Prelude.{◌≡◌, List, ℕ, ◌≤◌, length, take}
 use Rattle.page.specs.Page.{Page, begun}
 use Rattle.report.specs.paper.Operations as operations
 use Rattle.listing.specs.Listing.{longest, listing}
-use Rattle.listing.specs.declared.list.Told.{Told}
-
-pub record TellsAnswer (t : operations.Told) (r : Told) : Type 0 where
-  pub refusal : r.refusal ≡ t.refusal
-  pub at : r.at ≡ t.«record»
-  pub lines : r.lines ≡ t.lines
 
 -- before and after: the lines and the events are those of the answer, the text stands at the start of `out`
 pub record Listed (plan case lines₀ events₀ out₀ lines₁ events₁ out₁ : List ℕ) (r : ℕ) : Type 0 where

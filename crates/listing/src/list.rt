@@ -2,12 +2,11 @@
 ghost use Rattle.std.specs.Prelude.{◌≡◌, ◌*◌, ◌≤◌, length};
 ghost use Rattle.page.specs.Page.{puts};
 ghost use Rattle.report.specs.paper.Line.{line_length};
-ghost use Rattle.report.specs.paper.Operations.{told as told_of};
 ghost use Rattle.report.specs.paper.LineAt.{lines_from};
 ghost use Rattle.billing.specs.paper.Households.{household_count};
 ghost use Rattle.listing.specs.Text.{table, last_row};
 ghost use Rattle.listing.specs.Listing.{longest};
-ghost use Rattle.listing.specs.Shown.{TellsAnswer, Listed};
+ghost use Rattle.listing.specs.Shown.{Listed};
 
 use crate::rows::{put_refused, put_rows};
 use billing::households::household_count;
@@ -16,49 +15,13 @@ use page::{put, put_all};
 use report::Answer;
 use report::operations::answer;
 
-// Of document 01's numbers those that are printed.
-#[derive(Drop)]
-struct Told {
-    refusal: u8,
-    at: usize,
-    lines: usize,
-}
-
-fn tell(found: Answer) -> Told
-    ensures { TellsAnswer (told_of found) result }
-{
-    match found {
-        Answer::Accepted => Told {
-            refusal: 0,
-            at: 0,
-            lines: 0,
-        },
-        Answer::Answered { lines, .. } => Told {
-            refusal: 0,
-            at: 0,
-            lines: lines,
-        },
-        Answer::Refused { number, record: k } => Told {
-            refusal: number,
-            at: k,
-            lines: 0,
-        },
-        Answer::TooManyWorlds { .. } => Told {
-            refusal: 11,
-            at: 0,
-            lines: 0,
-        },
-    }
-}
-
 // The word "units" and how many of them are households.
 fn put_last(out: &mut [u8], at: usize, lines: &[u8], n: usize) -> usize
     requires { (n ≤ 64) × (line_length * n ≤ length lines.now) }
     ensures { record { count = result; out = out.new } ≡ puts (record { count = at; out = out.old }) (last_row (household_count (lines_from lines.now 0 n))) }
 {
-    let count = household_count(lines, n);
     let mut next = put_all(out, at, b"units ");
-    next = put_number(out, next, count);
+    next = put_number(out, next, household_count(lines, n));
     put(out, next, b'\n')
 }
 
@@ -76,10 +39,10 @@ fn put_table(out: &mut [u8], lines: &[u8], n: usize) -> usize
 pub fn list(plan: &[u8], case: &[u8], lines: &mut [u8], events: &mut [u8], out: &mut [u8]) -> usize
     ensures { Listed plan.now case.now lines.old events.old out.old lines.new events.new out.new result }
 {
-    let found = answer(plan, case, lines, events);
-    let told = tell(found);
-    if told.refusal != 0 {
-        return put_refused(out, 0, told.refusal, told.at);
+    match answer(plan, case, lines, events) {
+        Answer::Accepted => put_table(out, lines, 0),
+        Answer::Answered { lines: n, .. } => put_table(out, lines, n),
+        Answer::Refused { number, record: k } => put_refused(out, 0, number, k),
+        Answer::TooManyWorlds { .. } => put_refused(out, 0, 11, 0),
     }
-    put_table(out, lines, told.lines)
 }

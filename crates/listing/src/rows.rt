@@ -11,7 +11,7 @@ ghost use Rattle.listing.specs.Listing.{longest};
 use billing::fields::{Fields, fields_at};
 use page::number::put_number;
 use page::{put, put_all};
-use sets::{low, others};
+use sets::members::Members;
 
 // A person, behind a comma if another stands before.
 fn put_person(out: &mut [u8], at: usize, p: usize, first: bool) -> usize
@@ -29,12 +29,10 @@ pub fn put_persons(out: &mut [u8], at: usize, block: u64) -> usize
     ensures { record { count = result; out = out.new } ≡ puts (record { count = at; out = out.old }) (persons (members block)) }
 {
     let mut next = at;
-    let mut m = block;
     let mut first = true;
-    while m != 0 {
-        next = put_person(out, next, low(m), first);
+    for p in Members(block) {
+        next = put_person(out, next, p, first);
         first = false;
-        m = others(m);
     }
     if first {
         return put(out, next, b'-');

@@ -48,10 +48,7 @@ fn nothing(number: u8, place: usize) -> Bound
             count: 0,
             maximum: 0,
         },
-        refusal: Refusal {
-            number: number,
-            place: place,
-        },
+        refusal: Refusal { number, place },
     }
 }
 
@@ -60,24 +57,20 @@ fn bound_over(plan: Plan, case: Case) -> Bound
     ensures { Binds (fine (record { plan = plan_of plan; case = case_of case })) result }
 {
     let heading = case.heading;
-    let constraints = case.constraints;
     let uses = node_uses(plan.nodes);
-    let reach = reach_of(plan, &uses, heading.roster, constraints);
+    let reach = reach_of(plan, &uses, heading.roster, case.constraints);
+    let undecided = reach.undecided.count;
     let codes = bindings(plan, case, reach.bound);
-    let variables = variables_of(codes);
-    let influence = influence_sets(reach, variables);
-    let facts = plan.facts;
-    let booleans = boolean_count(facts);
-    let undecided = reach.undecided;
-    let order = variable_order(booleans, undecided.count, reach.count);
-    let count = count_worlds(codes, reach.count, undecided.count, heading.most_worlds);
+    let influence = influence_sets(reach, variables_of(codes));
+    let order = variable_order(boolean_count(plan.facts), undecided, reach.count);
+    let count = count_worlds(codes, reach.count, undecided, heading.most_worlds);
     let refusal = refusal_of(case, count.refused);
     Bound {
-        codes: codes,
-        influence: influence,
-        order: order,
-        count: count,
-        refusal: refusal,
+        codes,
+        influence,
+        order,
+        count,
+        refusal,
     }
 }
 
@@ -98,13 +91,13 @@ pub fn bind(plan: &[u8], case: &[u8]) -> Bound
 }
 
 // A set of the list; nobody past the last.
+#[tactic(auto, using(crate::proofs::Entering::taken_at, crate::proofs::Entering::taken_past, crate::proofs::Entering::taken_long), unfolding(expressions::specs::code::Influences::sets_of))]
 pub fn set_at(known: Influence, number: usize) -> u64
     ensures { result ≡ get_or (sets_of known) number 0 }
 {
-    if number < known.count {
-        if number < 80 {
-            return known.sets[number];
-        }
+    if number < known.count && number < 80 {
+        known.sets[number]
+    } else {
+        0
     }
-    0
 }

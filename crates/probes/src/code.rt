@@ -6,8 +6,5 @@ ghost use Rattle.probes.specs.Entries.{code_of};
 pub fn told_code(code: u8) -> u8
     ensures { result ≡ code_of (bound_of code) }
 {
-    if code < 6 {
-        return code;
-    }
-    6
+    code.min(6)
 }

@@ -17,22 +17,20 @@ use variables::{list_variables, variable_at};
 // How a case binds a fact, as a code: 0 not bound, and for every fact where plan or case is not read; 1 known false, 2 known true, 3 unknown,
 // 4 a conflict of false, 5 of true, 6 of both.
 #[unsafe(no_mangle)]
+#[tactic(auto, unfolding(crate::specs::Entries::binding_in))]
 pub extern "C" fn lukhveri_binding(plan: &[u8], case: &[u8], fact: usize) -> u8
     ensures { result ≡ code_of (binding_in plan.now case.now fact) }
 {
-    let found = bind(plan, case);
-    let codes = found.codes;
-    told_code(entry(codes, fact))
+    told_code(entry(bind(plan, case).codes, fact))
 }
 
 // The influence of a fact by its number, or of a decision behind the facts: nobody for what is no variable.
 #[unsafe(no_mangle)]
+#[tactic(auto, unfolding(crate::specs::Entries::influences))]
 pub extern "C" fn lukhveri_influence(plan: &[u8], case: &[u8], number: usize) -> u64
     ensures { result ≡ get_or (influences plan.now case.now) number 0 }
 {
-    let found = bind(plan, case);
-    let influence = found.influence;
-    set_at(influence, number)
+    set_at(bind(plan, case).influence, number)
 }
 
 // How many variables there are: none where plan or case is not read.
@@ -40,8 +38,7 @@ pub extern "C" fn lukhveri_influence(plan: &[u8], case: &[u8], number: usize) ->
 pub extern "C" fn lukhveri_variables(plan: &[u8], case: &[u8]) -> usize
     ensures { result ≡ length (variables plan.now case.now) }
 {
-    let listed = list_variables(plan, case);
-    listed.count
+    list_variables(plan, case).count
 }
 
 // The variable of that place in document 01's order: in the low byte a fact's number or a decision's number and 64, in the next its
@@ -50,29 +47,28 @@ pub extern "C" fn lukhveri_variables(plan: &[u8], case: &[u8]) -> usize
 pub extern "C" fn lukhveri_variable(plan: &[u8], case: &[u8], place: usize) -> u16
     ensures { result ≡ get_or (variables plan.now case.now) place 0 }
 {
-    let listed = list_variables(plan, case);
-    variable_at(listed, place)
+    variable_at(list_variables(plan, case), place)
 }
 
 // The count of worlds before constraints; behind the reference the heading's maximum; both 2^64 − 1 from 2^64 worlds on, and 0 where plan or
 // case is not read.
 #[unsafe(no_mangle)]
+#[tactic(auto, unfolding(crate::specs::Entries::worlds_counted))]
 pub extern "C" fn lukhveri_worlds(plan: &[u8], case: &[u8], maximum: &mut u64) -> u64
     ensures { (result ≡ (worlds_counted plan.now case.now).count) × (maximum.new ≡ (worlds_counted plan.now case.now).maximum) }
 {
-    let found = bind(plan, case);
-    let count = found.count;
+    let count = bind(plan, case).count;
     *maximum = count.maximum;
     count.count
 }
 
 // The first refusal of plan and case up to 5, 10 and 11, but for 8, 9 and 12: its number, 0 for none. The record goes behind the reference.
 #[unsafe(no_mangle)]
+#[tactic(auto, unfolding(crate::specs::Entries::case_refusal))]
 pub extern "C" fn lukhveri_bindable(plan: &[u8], case: &[u8], place: &mut u64) -> u8
     ensures { (result ≡ refusal_number (case_refusal plan.now case.now)) × (place.new ≡ record_of (case_refusal plan.now case.now)) }
 {
-    let found = bind(plan, case);
-    let refusal = found.refusal;
+    let refusal = bind(plan, case).refusal;
     *place = refusal.place as u64;
     refusal.number
 }

@@ -18,15 +18,14 @@ pub struct Refusal {
 pub fn refusal_of(case: Case, over: bool) -> Refusal
     ensures { TellsVerdict (refusal_by (case_of case) over) result }
 {
-    let found = bindable(case);
-    match found {
+    match bindable(case) {
         Checked::Accepted => Refusal {
             number: if over { 11 } else { 0 },
             place: 0,
         },
-        Checked::Refused { number, record: k } => Refusal {
-            number: number,
-            place: k,
+        Checked::Refused { number, record } => Refusal {
+            number,
+            place: record,
         },
     }
 }

@@ -14,13 +14,13 @@ pub struct Variables {
     pub items: [u16; 80],
 }
 
+#[tactic(auto, unfolding(crate::specs::Binds::codes_of))]
 fn add(mut known: Variables, item: u16) -> Variables
     requires { known.count < 80 }
     ensures { (result.count ≡ known.count + 1) × (codes_of result ≡ codes_of known ++ (item ∷ [])) }
 {
-    let i = known.count;
-    known.items[i] = item;
-    known.count = i + 1;
+    known.items[known.count] = item;
+    known.count += 1;
     known
 }
 
@@ -29,7 +29,7 @@ fn varies(codes: [u8; 64], item: u8) -> bool
     ensures { result ≡ varies_in (map bound_of codes) (slot_of item) }
 {
     let at = usize::from(item);
-    if at < 64 { codes[at] >= 3 } else { true }
+    at >= 64 || codes[at] >= 3
 }
 
 // Which it is and, in the next byte, its candidates.
@@ -38,7 +38,7 @@ fn coded(codes: [u8; 64], item: u8) -> u16
 {
     let at = usize::from(item);
     let choice = if at < 64 { candidates(codes[at]) } else { 3 };
-    item as u16 + 256 * choice as u16
+    u16::from(item) + 256 * u16::from(choice)
 }
 
 // The variables among what a world gives values to.
@@ -49,9 +49,7 @@ fn among(order: Slots, codes: [u8; 64]) -> Variables
         count: 0,
         items: [0; 80],
     };
-    let n = order.count.min(80);
-    for i in 0..n {
-        let item = order.items[i];
+    for &item in &order.items[..order.count.min(80)] {
         if varies(codes, item) {
             out = add(out, coded(codes, item));
         }
@@ -59,23 +57,22 @@ fn among(order: Slots, codes: [u8; 64]) -> Variables
     out
 }
 
+#[tactic(auto, using(crate::proofs::VariableLaws::variables_in_lem), unfolding(crate::specs::Entries::variables))]
 pub fn list_variables(plan: &[u8], case: &[u8]) -> Variables
     ensures { (result.count ≡ length (codes_of result)) × (codes_of result ≡ variables plan.now case.now) }
 {
     let found = bind(plan, case);
-    let order = found.order;
-    let codes = found.codes;
-    among(order, codes)
+    among(found.order, found.codes)
 }
 
 // The k-th; 0 past the last.
+#[tactic(auto, using(crate::proofs::Entering::taken_at, crate::proofs::Entering::taken_past, crate::proofs::Entering::taken_long), unfolding(crate::specs::Binds::codes_of))]
 pub fn variable_at(known: Variables, k: usize) -> u16
     ensures { result ≡ get_or (codes_of known) k 0 }
 {
-    if k < known.count {
-        if k < 80 {
-            return known.items[k];
-        }
+    if k < known.count && k < 80 {
+        known.items[k]
+    } else {
+        0
     }
-    0
 }

@@ -1,20 +1,16 @@
 -- Events as bytes: written one by one into a lent buffer, for the numbers of a set, and set after set.
 use mathlib.Core.Path.{◌≡◌, refl, sym, ap, ap₂, ◌∙◌, subst}
-use mathlib.Core.Bool.{Bool, true, false, cond, ◌||◌, or-true, false≢true}
+use mathlib.Core.Bool.{Bool, true, false, cond, false≢true}
 use mathlib.Core.Logic.{⊎_elim}
-use mathlib.Core.List.{List, [], ◌∷◌, ◌++◌, append_assoc, append-nil, flat_map, map}
+use mathlib.Core.List.{List, [], ◌∷◌, ◌++◌, append-nil, flat_map, map}
 use Prim.Native.Nat.{ℕ, zero, suc, ◌+◌, ◌-◌, ◌*◌, ◌/◌, ◌%◌, ◌^◌, ◌≤◌, ◌<◌}
-use native.Mathlib.Nat.{not-suc-le-zero, le_of_suc-le-suc, lt_trans, le_refl, add-zero, zero-add}
+use native.Mathlib.Nat.{not-suc-le-zero, le_of_suc-le-suc, le_refl, add-zero, zero-add}
 use native.Mathlib.Numerals.{add-one}
 use native.Mathlib.Omega.{arith}
-use lib.Dec.{eqb}
 use lib.Arith.{lt-one}
-use lib.Bits.{bit_and}
-use lib.ListN.{length, get_or, set, take, drop, take-append-drop, length-append, length-drop, length-map, drop_of_length-le}
-use lib.Seq.{drop-cons, take-suc, set_at, length-take-le, append_snoc, take_at, take_all, drop-append-add, drop-drop}
-use borrow.Author.Tests.{eq-eqb}
-use borrow.Rule.Slice.PartMut.{put_mid}
-use Rattle.sets.specs.paper.Sets.{odd, has, size, lowest, when, members, members_from, numbers}
+use lib.ListN.{length, get_or, take, length-append, length-drop, length-map}
+use lib.Seq.{length-take-le}
+use Rattle.sets.specs.paper.Sets.{odd, has, size, when, members, members_from, numbers}
 use Rattle.sets.proofs.SetLaws.{has-zero, has-suc, has-none, lt_or_le}
 use Rattle.sets.proofs.MemberLaws.{members-length}
 use Rattle.records.proofs.UsedLaws.{flat_append}
@@ -33,21 +29,10 @@ use Rattle.expressions.specs.paper.Rules.{edge_count, cut_count, attachment_coun
 use Rattle.expressions.specs.paper.Bindings.{default_of}
 use Rattle.page.specs.Little.{little_bytes}
 use Rattle.worlds.specs.paper.Events.{event, listed, election_actor}
-use Rattle.sets.proofs.TurnLaws.{members-next, members-none, and-less, turn_has}
+use Rattle.sets.proofs.TurnLaws.{members-none}
 use Rattle.report.specs.paper.EventList.{number_of, election_citation, event_length}
 use Rattle.report.proofs.PieceLaws.{size_none, over, over-long, over-both, will, will_none}
 use Rattle.report.specs.code.EventBytes.{Below, Writes, sizes}
-
--- ---- byte by byte
-
--- one byte more is copied
-pub copied : (e d : List ℕ) (i : ℕ) → i < length e → i < length d → set (take i e ++ drop i d) i (get_or e i 0) ≡ take (i + 1) e ++ drop (i + 1) d
-copied e d i he hd =
-    rw (drop-cons d i 0 hd, set_at (take i e) (get_or d i 0) (drop (suc i) d) (get_or e i 0) i (length-take-le i e (omega arith)), add-one, take-suc e i 0 he)
-    (sym (append_snoc (take i e) (get_or e i 0) (drop (suc i) d)))
-
-pub copied_long : (e d : List ℕ) (i : ℕ) → i ≤ length e → i ≤ length d → length (take i e ++ drop i d) ≡ length d
-copied_long e d i he hd = rw (length-append, length-take-le i e he, length-drop) (omega arith)
 
 pub event-length : (kind a b c mask : ℕ) → length (event kind a b c mask) ≡ event_length
 unfolding event little_bytes
@@ -184,7 +169,7 @@ long-both {es} {fs} a b =
 
 -- ---- set after set
 
-numbers-last : (n k : ℕ) → numbers (suc n) k ≡ numbers n k ++ ((k + n) ∷ [])
+pub numbers-last : (n k : ℕ) → numbers (suc n) k ≡ numbers n k ++ ((k + n) ∷ [])
 unfolding numbers
 numbers-last zero k = ap (λ (x : ℕ). x ∷ []) (sym (add-zero k))
 numbers-last (suc n) k = ap (λ (xs : List ℕ). k ∷ xs) (numbers-last n (suc k) ∙ ap (λ (x : ℕ). numbers n (suc k) ++ (x ∷ [])) (let z : suc k + n ≡ k + suc n = omega arith in z))

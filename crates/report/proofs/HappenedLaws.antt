@@ -1,11 +1,11 @@
 -- Events written kind after kind, in front of those of kind 9.
 use mathlib.Core.Path.{◌≡◌, refl, sym, ap, ap₂, ◌∙◌, subst}
 use mathlib.Core.List.{List, [], ◌∷◌, ◌++◌, append_assoc, append-nil, flat_map}
-use Prim.Native.Nat.{ℕ, zero, suc, ◌+◌, ◌-◌, ◌*◌, ◌≤◌, ◌<◌}
+use Prim.Native.Nat.{ℕ, zero, suc, ◌+◌, ◌-◌, ◌*◌, ◌≤◌}
 use native.Mathlib.Nat.{zero-add}
 use native.Mathlib.Omega.{arith}
-use lib.ListN.{length, get_or, set, take, drop, take-append-drop, length-append, length-take, length-map, length-set, drop_of_length-le}
-use lib.Seq.{drop-cons, drop-drop, drop-set-lt, take-set-le, take-take, get_or-set_same, get_or-take, take_at, drop_at, length-take-le}
+use lib.ListN.{length, take, drop, take-append-drop, length-append, length-map}
+use lib.Seq.{drop_at, length-take-le}
 use Rattle.std.specs.List.{copy_within}
 use Rattle.sets.specs.paper.Sets.{has, size, members, numbers}
 use Rattle.sets.proofs.MemberLaws.{members-length}
@@ -21,7 +21,7 @@ use Rattle.report.specs.paper.EventList.{event_length}
 use Rattle.report.specs.code.Happened.{frozen_over, applied_over, blocked_over, overlap_over, attachment_over, bar_over, status_over, default_over, discretion_over, happened}
 use Rattle.report.specs.code.EventBytes.{Below, Writes, sizes}
 use Rattle.report.specs.code.EventsWritten.{by_rules, event_count, RuleEvents, EventsWritten, AllWritten}
-use Rattle.report.proofs.EventLaws.{event-length, listed-members, Long, long-map, long-both, writes_both, writes_long}
+use Rattle.report.proofs.EventLaws.{event-length, listed-members, numbers-last, Long, long-map, long-both, writes_both, writes_long}
 
 -- ---- how many events, each of `event_length` bytes
 
@@ -36,11 +36,6 @@ many-listed : (f : ℕ → List ℕ) → ((i : ℕ) → length (f i) ≡ event_l
 many-listed f h n m few b =
     subst (λ (es : List (List ℕ)). Many es (size m)) (listed-members f n m (few-low n m few b) b)
     (record { count = length-map (members m) f ∙ members-length m; each = long-map f h (members m) })
-
-numbers-last : (n k : ℕ) → numbers (suc n) k ≡ numbers n k ++ ((k + n) ∷ [])
-unfolding numbers
-numbers-last zero k = ap (λ (x : ℕ). x ∷ []) (omega arith)
-numbers-last (suc n) k = ap (λ (xs : List ℕ). k ∷ xs) (numbers-last n (suc k) ∙ ap (λ (x : ℕ). numbers n (suc k) ++ (x ∷ [])) (omega arith))
 
 many_flat : (h : ℕ → List (List ℕ)) (sets : ℕ → ℕ) → ((c : ℕ) → Many (h c) (size (sets c))) → (n : ℕ) → Many (flat_map h (numbers n 0)) (sizes n sets)
 unfolding flat_map numbers sizes
@@ -156,8 +151,8 @@ module _ (plan : Plan) (c : Case) (sums noted : List (List ℕ)) (defaults : ℕ
 
 -- ---- the others made room for
 
-pub room-same : (plan : Plan) (c : Case) (sums noted : List (List ℕ)) (defaults : ℕ) {m n : ℕ} → n ≡ m → RuleEvents plan c sums noted defaults m → RuleEvents plan c sums noted defaults n
-room-same plan c sums noted defaults e = subst (RuleEvents plan c sums noted defaults) (sym e)
+pub room_same : (plan : Plan) (c : Case) (sums noted : List (List ℕ)) (defaults : ℕ) {m n : ℕ} → n ≡ m → RuleEvents plan c sums noted defaults m → RuleEvents plan c sums noted defaults n
+room_same plan c sums noted defaults e = subst (RuleEvents plan c sums noted defaults) (sym e)
 
 -- where there are none, nothing moves
 pub none_written : (plan : Plan) (c : Case) (sums noted : List (List ℕ)) (defaults count listed : ℕ) (before : List ℕ) → RuleEvents plan c sums noted defaults (length before) → count ≡ 0

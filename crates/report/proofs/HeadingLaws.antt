@@ -1,25 +1,16 @@
 -- Laws of a case's heading: the persons of all rules from the list of their sets, and the first of the refusals 8, 9 and 12.
 use mathlib.Core.Path.{◌≡◌, refl, sym, ap, ap₂, ◌∙◌}
-use mathlib.Core.Bool.{Bool, true, false, ◌||◌, not, cond, or-true}
 use mathlib.Core.List.{List, [], ◌∷◌, ◌++◌, map}
-use Prim.Native.Nat.{ℕ, ◌+◌, ◌*◌, ◌<◌, ◌≤◌, min}
-use native.Mathlib.Omega.{arith}
-use lib.Dec.{eqb, ltb}
-use lib.ListN.{length, get_or, take, drop, drop_of_length-le}
+use Prim.Native.Nat.{ℕ, ◌+◌}
 use Rattle.std.specs.List.{fold}
-use Rattle.sets.specs.paper.Sets.{union, subset, size, below, union_below, union_of}
+use Rattle.sets.specs.paper.Sets.{union, below, union_below, union_of}
 use Rattle.records.specs.paper.Plan.{Plan}
-use Rattle.records.specs.paper.Case.{CaseHeading}
 use Rattle.expressions.specs.paper.Rules.{edge_count, cut_count, attachment_count, bar_count, status_count, cut, bar, status, pair, with_anchor, rule_sets, rule_persons}
 use Rattle.expressions.specs.code.Listed.{held_by_status}
-use Rattle.records.proofs.UsedLaws.{rest-next}
-use Rattle.expressions.proofs.ListLaws.{made-length, made_at}
 use Rattle.expressions.proofs.RuleLaws.{below-list}
 use Rattle.sets.proofs.UnionLaws.{union_assoc, union_append, union-none, none-union}
 use Rattle.worlds.proofs.DiscretionLaws.{union-below}
-use Rattle.report.specs.paper.Line.{line_length}
 use Rattle.report.specs.code.Opening.{itself}
-use Rattle.report.specs.paper.Operations.{relation_of, mismatched, heading_fault}
 
 -- ---- taken in one after another
 
@@ -62,60 +53,3 @@ persons_are P =
     ∙ ap₂ union (union-below itself (cut_count P) (λ i. (cut P i).members)) (union_then cs ds e
     ∙ ap₂ union (union-below itself (attachment_count P) (with_anchor P))
     (ap₂ union (union-below itself (bar_count P) (λ i. (bar P i).members)) (status-union P))))
-
--- ---- the refusals
-
-module _ (P : Plan) (h : CaseHeading) where
-  pub other_relation : eqb h.relation (relation_of P) ≡ false → mismatched P h ≡ true
-  unfolding mismatched
-  other_relation e =
-      ap (λ (b : Bool). not b || (eqb h.scope 0 || (eqb h.segment 0 || (eqb h.roster 0 || not (subset (rule_persons P) h.roster))))) e
-
-  pub no-scope : eqb h.scope 0 ≡ true → mismatched P h ≡ true
-  unfolding mismatched
-  no-scope e =
-      let a = not (eqb h.relation (relation_of P)) in
-      ap (λ (b : Bool). a || (b || (eqb h.segment 0 || (eqb h.roster 0 || not (subset (rule_persons P) h.roster))))) e ∙ or-true a
-
-  pub no-segment : eqb h.segment 0 ≡ true → mismatched P h ≡ true
-  unfolding mismatched
-  no-segment e =
-      let a = not (eqb h.relation (relation_of P)) in
-      let s = eqb h.scope 0 in
-      ap (λ (b : Bool). a || (s || (b || (eqb h.roster 0 || not (subset (rule_persons P) h.roster))))) e
-      ∙ ap (λ (b : Bool). a || b) (or-true s) ∙ or-true a
-
-  pub no-roster : eqb h.roster 0 ≡ true → mismatched P h ≡ true
-  unfolding mismatched
-  no-roster e =
-      let a = not (eqb h.relation (relation_of P)) in
-      let s = eqb h.scope 0 in
-      let g = eqb h.segment 0 in
-      ap (λ (b : Bool). a || (s || (g || (b || not (subset (rule_persons P) h.roster))))) e
-      ∙ ap (λ (b : Bool). a || (s || b)) (or-true g) ∙ ap (λ (b : Bool). a || b) (or-true s) ∙ or-true a
-
-  -- where the first four tests pass, the last decides
-  pub by_persons : eqb h.relation (relation_of P) ≡ true → eqb h.scope 0 ≡ false → eqb h.segment 0 ≡ false → eqb h.roster 0 ≡ false
-      → mismatched P h ≡ not (subset (rule_persons P) h.roster)
-  unfolding mismatched
-  by_persons e s g r =
-      let w = not (subset (rule_persons P) h.roster) in
-      ap (λ (b : Bool). not b || (eqb h.scope 0 || (eqb h.segment 0 || (eqb h.roster 0 || w)))) e
-      ∙ ap (λ (b : Bool). b || (eqb h.segment 0 || (eqb h.roster 0 || w))) s
-      ∙ ap (λ (b : Bool). b || (eqb h.roster 0 || w)) g ∙ ap (λ (b : Bool). b || w) r
-
-  module _ (room : ℕ) where
-    pub fault_8 : h.segment_complete ≡ false → 8 ≡ heading_fault P h room
-    unfolding heading_fault
-    fault_8 e = ap (λ (b : Bool). cond b (cond (mismatched P h) 9 (cond (ltb room (line_length * size h.roster)) 12 0)) 8) (sym e)
-
-    pub fault_9 : h.segment_complete ≡ true → mismatched P h ≡ true → 9 ≡ heading_fault P h room
-    unfolding heading_fault
-    fault_9 e m = ap₂ (λ (b k : Bool). cond b (cond k 9 (cond (ltb room (line_length * size h.roster)) 12 0)) 8) (sym e) (sym m)
-
-    pub fault-last : (b : Bool) → h.segment_complete ≡ true → mismatched P h ≡ false → ltb room (line_length * size h.roster) ≡ b
-        → cond b 12 0 ≡ heading_fault P h room
-    unfolding heading_fault
-    fault-last b e m l =
-        ap (λ (x : Bool). cond x 12 0) (sym l)
-        ∙ ap₂ (λ (b k : Bool). cond b (cond k 9 (cond (ltb room (line_length * size h.roster)) 12 0)) 8) (sym e) (sym m)

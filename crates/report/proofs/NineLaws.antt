@@ -1,18 +1,13 @@
 -- Events of kind 9 in a buffer: bytes compared one by one, events as bytes, and one event more in the list that is kept.
 use mathlib.Core.Path.{◌≡◌, refl, sym, ap, ap₂, ◌∙◌, subst}
-use mathlib.Core.Bool.{Bool, true, false, ◌||◌, cond, not}
-use mathlib.Core.List.{List, [], ◌∷◌, ◌++◌, append_assoc, append-nil, flat_map, map}
-use mathlib.Core.Logic.{◌⊎◌, inl, inr}
+use mathlib.Core.Bool.{Bool, true, false, cond}
+use mathlib.Core.List.{List, [], ◌∷◌, ◌++◌, append_assoc, flat_map, map}
 use Prim.Native.Nat.{ℕ, zero, suc, ◌+◌, ◌-◌, ◌*◌, ◌≤◌, ◌<◌}
 use native.Mathlib.Omega.{arith}
-use native.Mathlib.Numerals.{add-one}
-use lib.ListN.{length, get_or, take, drop, replicate, length-append, length-take, length-drop, take-append-drop, drop_of_length-le}
-use lib.Seq.{drop-cons, take_at, drop_at, take_all, drop-drop, drop-append-add}
+use lib.ListN.{length, take, drop, replicate, length-append, length-take, length-drop, take-append-drop}
+use lib.Seq.{take_at, drop_at, take_all, drop-drop, drop-append-add}
 use Rattle.std.proofs.Common.{Result, Ok, Err, is_err}
-use borrow.Author.Tests.{eqb-true, eq-eqb, lt-ltb, le-ltb}
-use borrow.Rule.Slice.PartMut.{put_mid}
-use Rattle.sets.specs.paper.Sets.{lex_less, any_of, members, All}
-use Rattle.sets.proofs.SetLaws.{lt_or_le}
+use Rattle.sets.specs.paper.Sets.{lex_less, members, All}
 use Rattle.sets.proofs.Local.{clash}
 use Rattle.worlds.specs.paper.Events.{event}
 use Rattle.worlds.specs.code.Over.{entry}
@@ -22,8 +17,8 @@ use Rattle.report.specs.code.EventBytes.{chunks}
 use Rattle.report.specs.code.Nine.{PlaceOf, Inserted, Nines, prepended, PartListed, PartsListed}
 use Rattle.report.specs.declared.nine.Listing.{Listing}
 use Rattle.report.proofs.EventLaws.{event-length}
-use Rattle.report.proofs.AmongLaws.{Among, all_each, each_all, of_any}
-use Rattle.report.proofs.RisingSet.{less_head, less_tail, less-self, less_thru, rising-rises, of_rising, rising-set}
+use Rattle.report.proofs.AmongLaws.{all_each, each_all}
+use Rattle.report.proofs.RisingSet.{less-self, less_thru, rising-rises, of_rising}
 
 -- ---- inserting, by the first of the list
 
@@ -58,12 +53,9 @@ insert_grows e (x ∷ xs) = go (lex_less e x) (lex_less x e) (insert_grows e xs)
 
 -- ---- parts of a buffer
 
--- the part behind k bytes, and what the buffer is after a part was worked on
+-- the part behind k bytes
 pub rest_is : (s : List ℕ) (k : ℕ) → take (length s - k) (drop k s) ≡ drop k s
 rest_is s k = take_all (length s - k) (drop k s) (simp length-drop (omega arith))
-
-pub put_is : (s u : List ℕ) (a : ℕ) → put_mid a (length s - a) s u ≡ take a s ++ u
-put_is s u a = rw (drop_of_length-le (drop a s) {i = length s - a} (simp length-drop (omega arith)), append-nil u)
 
 -- ---- events one after another as bytes
 

@@ -54,11 +54,6 @@ use Rattle.report.proofs.ReadyLaws.{somebody}
 
 -- ---- the first that stops
 
-pub stop_fault : (k : ℕ) (b : Bool) (f : Checked) (n : Count) → (k ≡ 0 → ⊥) → Stopped (Refused k 0) ≡ stop_by k b f n
-unfolding stop_by
-stop_fault zero b f n h = absurd (h refl)
-stop_fault (suc k) b f n h = refl
-
 -- where nothing stops, there are not too many worlds
 unrefused : (k : ℕ) (b : Bool) (f : Checked) (n : Count) → stop_by k b f n ≡ Nothing → n.refused ≡ false
 unfolding stop_by

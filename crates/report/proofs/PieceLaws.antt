@@ -13,7 +13,7 @@ use borrow.Rule.Slice.PartMut.{put_mid}
 use Rattle.sets.specs.paper.Sets.{has, size, members}
 use Rattle.sets.specs.code.Members.{Turn}
 use Rattle.sets.proofs.MemberLaws.{members-length}
-use Rattle.sets.proofs.TurnLaws.{members-next, members-none, and-less, turn_has}
+use Rattle.sets.proofs.TurnLaws.{members-none, turn_has}
 
 -- ---- bytes in place of others
 

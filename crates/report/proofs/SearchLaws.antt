@@ -18,7 +18,7 @@ use Rattle.std.specs.List.{copy_within}
 use Rattle.std.specs.List.Sorted.{IsBinarySearchResult, IsSearchInRange, IsSortedBy}
 use Rattle.std.specs.Ordering.{nat_cmp, is_lt, ordering_reverse}
 use Rattle.std.specs.Simd.{first_chunks}
-use Rattle.sets.specs.paper.Sets.{lex_less, All}
+use Rattle.sets.specs.paper.Sets.{lex_less}
 use Rattle.sets.proofs.Every.{all_parts}
 use Rattle.sets.proofs.LoopLaws.{all_at, all_append}
 use Rattle.records.proofs.UsedLaws.{flat_append}

@@ -1,28 +1,20 @@
 -- The sets that hold a person, and what each kind of line says of the sums.
-use mathlib.Core.Path.{◌≡◌, refl, sym, ap, ap₂, ◌∙◌}
-use mathlib.Core.Bool.{Bool, true, false, ◌||◌, not, cond, or-true, not-not}
-use mathlib.Core.List.{List, [], ◌∷◌, ◌++◌, append_assoc, append-nil, flat_map}
-use Prim.Native.Nat.{ℕ, zero, suc, ◌+◌, ◌-◌, ◌*◌, ◌%◌, ◌^◌, ◌≤◌, ◌<◌}
-use native.Mathlib.Nat.{lt_trans, mod-eq_of_lt}
-use native.Mathlib.Numerals.{add-one}
+use mathlib.Core.Path.{◌≡◌, refl, sym, ap, ◌∙◌}
+use mathlib.Core.Bool.{Bool, true, false, not, cond, not-not}
+use mathlib.Core.List.{List, [], ◌∷◌}
+use Prim.Native.Nat.{ℕ, zero, suc, ◌-◌, ◌%◌, ◌^◌, ◌≤◌, ◌<◌}
+use native.Mathlib.Nat.{mod-eq_of_lt}
 use native.Mathlib.Omega.{arith}
-use lib.ListN.{length, get_or, set, take, drop, length-append, length-take, length-drop, drop_of_length-le}
-use lib.Seq.{drop-cons, take-suc, set_at, length-take-le, append_snoc, take_at, drop_at, take_all, drop-drop}
+use lib.ListN.{length, get_or}
 use lib.Dec.{eqb}
-use lib.Bits.{bit_and}
 use lib.Pow.{pow_pos}
-use borrow.Author.Tests.{eq-eqb, eqb-false}
-use borrow.Rule.Slice.PartMut.{put_mid, same_len_mid}
-use Rattle.sets.specs.paper.Sets.{has, one, only, size, lowest, members, any_of, union_of, union_below, All}
+use borrow.Author.Tests.{eqb-false}
+use Rattle.sets.specs.paper.Sets.{has, one, only, union_of, union_below, All}
 use Rattle.sets.proofs.SetLaws.{one_lt, union_lt}
-use Rattle.sets.proofs.MemberLaws.{members-length}
-use Rattle.records.proofs.UsedLaws.{flat_append}
 use Rattle.expressions.specs.paper.Variables.{Influence}
-use Rattle.page.specs.Little.{little_bytes}
 use Rattle.worlds.specs.paper.View.{View}
 use Rattle.worlds.specs.code.Tables.{row}
-use Rattle.sets.proofs.TurnLaws.{has-members, members-next, members-none}
-use Rattle.report.specs.paper.Line.{Line, line_bytes, line_by, line_over, first_kind, holding, line_length}
+use Rattle.report.specs.paper.Line.{line_by, line_over, first_kind, holding}
 use Rattle.report.specs.code.Summed.{stands, roles_agree}
 use Rattle.report.specs.code.Written.{LineBy}
 

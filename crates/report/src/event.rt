@@ -23,6 +23,7 @@ pub struct Event {
 }
 
 // Kind, three numbers, and a mask, its lowest byte first.
+#[tactic(auto, unfolding(worlds::specs::paper::Events::event))]
 pub fn encode_event(e: Event) -> [u8; EVENT]
     ensures { result ≡ event e.kind e.a e.b e.c e.mask }
 {

@@ -41,6 +41,7 @@ pub fn rule_persons(groups: Groups, statuses: Statuses) -> u64
 }
 
 // The number of the first of 8, 9 and 12; 0 for none. `relation` and `persons` are the plan's, `room` the length of the lent lines.
+#[tactic(auto, unfolding(records::specs::code::Decoded::case_heading_of, crate::specs::paper::Operations::heading_fault, crate::specs::paper::Operations::mismatched))]
 pub fn heading_fault(heading: CaseHeading, relation: u8, persons: u64, room: usize) -> u8
     ensures { HeadingFault heading relation persons room result }
 {
@@ -51,10 +52,8 @@ pub fn heading_fault(heading: CaseHeading, relation: u8, persons: u64, room: usi
         || heading.scope == 0
         || heading.segment == 0
         || heading.roster == 0
+        || !subset(persons, heading.roster)
     {
-        return 9;
-    }
-    if !subset(persons, heading.roster) {
         return 9;
     }
     if room < LINE * size(heading.roster) as usize {

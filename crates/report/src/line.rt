@@ -24,6 +24,7 @@ pub struct Line {
 }
 
 // Person, kind, role, block, open facts, open decisions, citations; each number's lowest byte first.
+#[tactic(auto, unfolding(page::specs::Little::little_bytes, crate::specs::paper::Line::line_bytes))]
 pub fn encode(l: Line) -> [u8; LINE]
     ensures { result ≡ line_bytes (line_from l) }
 {

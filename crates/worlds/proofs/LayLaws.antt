@@ -52,9 +52,6 @@ laid_beside {k} {i} {v} {t} {u} n a e = a.at k n ∙ ap (λ (b : Bool). cond (eq
 pub record Filled (Q : ℕ → ℕ → Type 0) (t : List (List ℕ)) (k n : ℕ) : Type 0 where
   pub at : (j : ℕ) → j < n → Q j (row t k j)
 
-pub filled_none : {Q : ℕ → ℕ → Type 0} (t : List (List ℕ)) (k : ℕ) → Filled Q t k 0
-filled_none t k = record { at = λ j l. absurd (omega arith) }
-
 -- an entry more of the row
 pub filled_next : {Q : ℕ → ℕ → Type 0} {k i v : ℕ} {t u : List (List ℕ)} → Laid k i v t u → Q i v → Filled Q t k i → Filled Q u k (i + 1)
 filled_next {Q} {k} {i} {v} {t} {u} a q e = record {
@@ -71,19 +68,27 @@ filled_other {Q} {k} {i} {v} {m} {n} {t} {u} a h e = record { at = λ j l. subst
 pub filled_row : {value : ℕ → ℕ} {t : List (List ℕ)} {k m n : ℕ} → m ≡ n → Filled (λ j v. v ≡ value j) t k n → Row t k m value
 filled_row e a = record { at = λ j l. a.at j (omega arith) }
 
--- as Q wants it beside what stands at its number in a list
-abbrev pub Each : {A : Type 0} → (A → ℕ → Type 0) → A → List A → List (List ℕ) → ℕ → ℕ → Type 0
-Each Q d xs = Filled (λ j. Q (get_or xs j d))
+-- ---- the entries of a row below n, each as Q wants it beside what stands at its number in a list
+
+pub record Each {A : Type 0} (Q : A → ℕ → Type 0) (d : A) (xs : List A) (t : List (List ℕ)) (k n : ℕ) : Type 0 where
+  pub at : (j : ℕ) → j < n → Q (get_or xs j d) (row t k j)
 
 module _ {A : Type 0} (Q : A → ℕ → Type 0) (d : A) (xs : List A) where
   pub each_none : (t : List (List ℕ)) (k : ℕ) → Each Q d xs t k 0
-  each_none = filled_none
+  each_none t k = record { at = λ j l. absurd (omega arith) }
 
+  -- an entry more of the row
   pub each_next : {k i v : ℕ} {t u : List (List ℕ)} → Laid k i v t u → Q (get_or xs i d) v → Each Q d xs t k i → Each Q d xs u k (i + 1)
-  each_next = filled_next
+  each_next {k} {i} {v} {t} {u} a q e =
+      record {
+        at = below_more (λ (j : ℕ). Q (get_or xs j d) (row u k j)) i
+            (λ j l. subst (Q (get_or xs j d)) (sym (laid_beside j a (ne_eqb i j (λ z. omega arith)))) (e.at j l))
+            (subst (Q (get_or xs i d)) (sym (laid-here a)) q);
+      }
 
+  -- an entry of another row
   pub each_other : {k i v m n : ℕ} {t u : List (List ℕ)} → Laid k i v t u → eqb k m ≡ false → Each Q d xs t m n → Each Q d xs u m n
-  each_other = filled_other
+  each_other {k} {i} {v} {m} {n} {t} {u} a h e = record { at = λ j l. subst (Q (get_or xs j d)) (sym (laid_other m j a h)) (e.at j l) }
 
 -- the rows that are not named stay
 pub same_start : (ks : List ℕ) (t : List (List ℕ)) → Same ks t t

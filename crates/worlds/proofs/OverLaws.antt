@@ -37,9 +37,6 @@ pub record Changing {A : Type 0} (g : ℕ → A → A) (past : A) (all left : �
   pub at : (i : ℕ) → cond (has left i) (g i (get_or now i past)) (get_or now i past) ≡ cond (has all i) (g i (get_or before i past)) (get_or before i past)
 
 module _ {A : Type 0} (g : ℕ → A → A) (past : A) where
-  pub changing_start : (all : ℕ) (before : List A) → all < 2 ^ 64 → length before ≡ 64 → Changing g past all all before before
-  changing_start all before few long = record { few = few; long = long; at = λ i. refl }
-
   pub changing_next : ((i : ℕ) (x : A) → g i (g i x) ≡ g i x) → {all m t r : ℕ} {before table : List A} (v : A) → Turn m t r → v ≡ g t (get_or table t past)
       → Changing g past all m before table → Changing g past all r before (set table t v)
   changing_next twice {all} {m} {t} {r} {before} {table} v turn e known = record {

@@ -35,9 +35,6 @@ unfolding chain_by fold_below
 chain_next direct from i m e =
     ap (λ (x : ℕ). union x (union_of (entry direct) (members x))) e ∙ ap (λ (k : ℕ). chain_by direct k from) (sym (add-one i))
 
-pub chain_end : (direct : List ℕ) (from i steps : ℕ) → i ≤ steps → steps ≤ i → chain_by direct i from ≡ chain_by direct steps from
-chain_end direct from i steps h l = ap (λ (k : ℕ). chain_by direct k from) (omega arith)
-
 -- ---- the numbers below a number
 
 ltb-suc : (d c : ℕ) → ltb d c ≡ ltb (suc d) (suc c)

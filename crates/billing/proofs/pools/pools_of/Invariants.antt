@@ -1,7 +1,7 @@
 -- `pools::pools_of`: the units with their pools and marks, one after another.
 use mathlib.Core.Path.{◌≡◌}
 use mathlib.Core.Bool.{false}
-use Prim.Native.Nat.{◌≤◌, ◌-◌}
+use Prim.Native.Nat.{◌≤◌}
 use Rattle.report.specs.paper.LineAt.{lines_from}
 use Rattle.report.specs.paper.Units.{units as units_of}
 use Rattle.billing.specs.paper.Pools.{shares, pool_of, mark_of}

@@ -1,5 +1,4 @@
 -- `bindable::boolean_faults`: the records passed have no fault, and their facts are kept.
-use Prim.Native.Nat.{◌-◌}
 use Rattle.records.specs.code.Decoded.{boolean_of}
 use Rattle.expressions.proofs.FaultLaws.{boolean_judge, Judging}
 use Rattle.expressions.proofs.bindable.boolean_faults.Given as goal

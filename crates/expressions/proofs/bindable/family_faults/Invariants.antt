@@ -1,5 +1,4 @@
 -- `bindable::family_faults`: the records passed have no fault, and their numbers are kept.
-use Prim.Native.Nat.{◌-◌}
 use Rattle.records.specs.code.Decoded.{family_of}
 use Rattle.expressions.proofs.FaultLaws.{family_judge, Judging}
 use Rattle.expressions.proofs.bindable.family_faults.Given as goal

@@ -1,5 +1,5 @@
 -- `bindings::bind_facts`: the facts below i have their binding, and those of them that took their default are found.
-use Prim.Native.Nat.{◌≤◌, ◌-◌}
+use Prim.Native.Nat.{◌≤◌}
 use mathlib.Core.Path.{◌≡◌}
 use lib.ListN.{length}
 use Rattle.sets.proofs.MaskLaws.{built}

@@ -1,5 +1,5 @@
 -- `expressions::bindings::silence` meets its contract: the first family that fits is among the records from i on.
-use Prim.Native.Nat.{◌≤◌, ◌-◌}
+use Prim.Native.Nat.{◌≤◌}
 use mathlib.Core.Path.{◌≡◌}
 use lib.ListN.{length}
 use Rattle.expressions.proofs.FamilyLaws.{silent_from}

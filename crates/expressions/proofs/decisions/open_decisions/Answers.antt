@@ -1,5 +1,4 @@
 -- `decisions::open_decisions`: an accepted plan has at most sixteen.
-use mathlib.Core.Path.{◌≡◌}
 use native.Mathlib.Omega.{arith}
 use Rattle.records.specs.code.Decoded.{plan_of, edge_of}
 use Rattle.expressions.specs.paper.Influence.{open_decisions}

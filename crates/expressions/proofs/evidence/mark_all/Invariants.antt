@@ -1,5 +1,5 @@
 -- `expressions::evidence::mark_all` meets its contract: what is marked, with what is left of the list, gives the whole.
-use Prim.Native.Nat.{◌≤◌, ◌-◌}
+use Prim.Native.Nat.{◌≤◌}
 use mathlib.Core.Path.{◌≡◌}
 use lib.ListN.{drop}
 use Rattle.expressions.specs.code.Evident.{evidence_mark}

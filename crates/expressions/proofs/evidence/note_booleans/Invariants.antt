@@ -1,5 +1,4 @@
 -- `evidence::note_booleans`: what is noted, with what the records from i on give, gives the whole, for each fact.
-use Prim.Native.Nat.{◌-◌}
 use Rattle.records.specs.code.Decoded.{boolean_of}
 use Rattle.expressions.specs.code.Evident.{boolean_evidence}
 use Rattle.expressions.proofs.EvidenceLaws.{Noting}

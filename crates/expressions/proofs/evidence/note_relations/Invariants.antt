@@ -1,5 +1,4 @@
 -- `evidence::note_relations`: what is noted, with what the records from i on give, gives the whole, for each fact.
-use Prim.Native.Nat.{◌-◌}
 use Rattle.records.specs.code.Decoded.{relation_of}
 use Rattle.expressions.specs.code.Evident.{evidence_mark}
 use Rattle.expressions.proofs.EvidenceLaws.{Noting}

@@ -1,5 +1,5 @@
 -- `expressions::observations::look_all` meets its contract: what is left of the list from entry i on, seen after what was seen, gives the whole.
-use Prim.Native.Nat.{◌≤◌, ◌-◌}
+use Prim.Native.Nat.{◌≤◌}
 use mathlib.Core.Path.{◌≡◌}
 use lib.ListN.{drop}
 use Rattle.expressions.proofs.SeenLaws.{pairs}

@@ -1,5 +1,4 @@
 -- `observations::look_in_booleans`: what is left of the records from record i on, seen after what was seen, gives the whole, for each fact.
-use Prim.Native.Nat.{◌-◌}
 use Rattle.records.specs.code.Decoded.{boolean_of}
 use Rattle.expressions.proofs.SeenLaws.{Looking}
 use Rattle.expressions.proofs.observations.look_in_booleans.Given as goal

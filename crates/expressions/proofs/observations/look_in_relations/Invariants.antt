@@ -1,5 +1,4 @@
 -- `observations::look_in_relations`: what is left of the records from record i on, seen after what was seen, gives the whole, for each fact.
-use Prim.Native.Nat.{◌-◌}
 use mathlib.Core.List.{[], ◌∷◌}
 use Rattle.records.specs.code.Decoded.{relation_of}
 use Rattle.expressions.proofs.SeenLaws.{Looking}

@@ -1,6 +1,5 @@
 -- `touch::bound_facts`: the facts of each rule, taken in one after another.
 use mathlib.Core.Path.{◌≡◌, ◌∙◌}
-use Prim.Native.Nat.{ℕ}
 use borrow.Author.Rules.{rules}
 use Rattle.std.specs.List.{fold}
 use Rattle.sets.specs.paper.Sets.{union}

@@ -1,7 +1,7 @@
 -- `touch::named_persons`: the persons of the tuple, taken in one after another.
 use Prim.Native.Nat.{ℕ, ◌<◌, min}
 use mathlib.Core.Path.{◌≡◌, sym, ap, ◌∙◌}
-use mathlib.Core.List.{List, map}
+use mathlib.Core.List.{map}
 use native.Mathlib.Omega.{arith}
 use borrow.Author.Rules.{rules}
 use lib.ListN.{length, take}
@@ -14,7 +14,7 @@ use Rattle.sets.proofs.UnionLaws.{set-union}
 use Rattle.records.specs.code.Decoded.{fact_of}
 use Rattle.records.specs.declared.plan.Fact.{Fact}
 use Rattle.records.specs.promises.Sound.{Person}
-use Rattle.records.proofs.UsedLaws.{used_take, used_each}
+use Rattle.records.proofs.UsedLaws.{used_take}
 use Rattle.expressions.proofs.ListLaws.{folded-map}
 use Rattle.expressions.proofs.touch.named_persons.Goals as goal
 

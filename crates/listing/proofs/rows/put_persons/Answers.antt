@@ -1,33 +1,18 @@
-use mathlib.Core.Path.{refl, ap, ◌∙◌}
+use mathlib.Core.Path.{refl, ◌∙◌}
 use mathlib.Core.Bool.{false}
-use lib.ListN.{length}
-use Rattle.page.specs.Page.{Page}
-use Rattle.page.proofs.PageLaws.{puts-length}
 use Rattle.listing.proofs.PersonLaws.{turn_put, none_put, all_put}
 use Rattle.listing.proofs.rows.put_persons.Goals as goal
 
-pub loop-m-init : goal.loop-m-init
-loop-m-init c = (refl, refl)
+pub loop-p-init : goal.loop-p-init
+loop-p-init c = rw c.into_iter-p-iterator.ensures.into_iter_gives
 
-pub low-requires : goal.low-requires
-low-requires c = c.loop-m-test.true
-
-pub others-m-requires : goal.others-m-requires
-others-m-requires c = c.loop-m-test.true
-
-pub loop-m-smaller : goal.loop-m-smaller
-loop-m-smaller c = c.others-m.ensures.1
-
-pub loop-m-preserved : goal.loop-m-preserved
-loop-m-preserved c =
-    let l = c.loop-m in
-    let put = c.put_person-next in (
-      ap (λ (p : Page). length p.out) put.ensures ∙ puts-length _ _ ∙ l.invariant.0,
-      turn_put _ _ l.first false _ l.m _ c.low.ensures.0 c.others-m.ensures.0 put.ensures refl ∙ l.invariant.1,
-    )
+pub loop-p-preserved : goal.loop-p-preserved
+loop-p-preserved c =
+    let s = c.in-Some.ensures.steps in
+    turn_put _ _ c.loop-p.first false c.in-Some.p c.loop-p.p-iterator.0 c.next.new.self.0 s.first.0 s.rest.0 c.put_person-next.ensures refl ∙ c.loop-p.invariant
 
 pub returns-then-first : goal.returns-then-first
-returns-then-first c = let l = c.loop-m in none_put _ _ _ l.first l.m c.loop-m-test.false c.if-first.true c.put.ensures l.invariant.1
+returns-then-first c = none_put _ _ _ c.loop-p.first c.loop-p.p-iterator.0 c.in-None.ensures.steps.0 c.if-first.true c.put.ensures c.loop-p.invariant
 
 pub returns : goal.returns
-returns c = let l = c.loop-m in all_put _ _ l.first l.m c.loop-m-test.false c.if-first.false l.invariant.1
+returns c = all_put _ _ c.loop-p.first c.loop-p.p-iterator.0 c.in-None.ensures.steps.0 c.if-first.false c.loop-p.invariant

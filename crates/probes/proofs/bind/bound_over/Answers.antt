@@ -22,7 +22,7 @@ reach_of-reach-requires c = (c.requires.0, c.node_uses-uses.ensures)
 pub variable_order-order-requires : goal.variable_order-order-requires
 variable_order-order-requires c =
     let r = c.reach_of-reach in (
-      booleans-fit c.args.plan c.args.case c.requires.0 c.requires.1 r.result r.ensures c.boolean_count-booleans.result c.boolean_count-booleans.ensures.0,
+      booleans-fit c.args.plan c.args.case c.requires.0 c.requires.1 r.result r.ensures c.boolean_count.result c.boolean_count.ensures.0,
       r.ensures.few,
       r.ensures.sixteen,
     )
@@ -36,9 +36,9 @@ returns c =
     record {
       codes = coded;
       influence = c.influence_sets-influence.ensures
-          ∙ listed-sets c.args.plan c.args.case c.requires.0 c.requires.1 r.result r.ensures c.bindings-codes.result coded c.variables_of-variables.result c.variables_of-variables.ensures;
+          ∙ listed-sets c.args.plan c.args.case c.requires.0 c.requires.1 r.result r.ensures c.bindings-codes.result coded c.variables_of.result c.variables_of.ensures;
       order = c.variable_order-order.ensures
-          ∙ in_order c.args.plan c.args.case c.requires.0 c.requires.1 r.result r.ensures c.boolean_count-booleans.result c.boolean_count-booleans.ensures.0;
+          ∙ in_order c.args.plan c.args.case c.requires.0 c.requires.1 r.result r.ensures c.boolean_count.result c.boolean_count.ensures.0;
       count = count;
       refusal = subst (λ (k : Count). TellsVerdict (refusal_by (case_of c.args.case) k.refused) c.refusal_of-refusal.result) count c.refusal_of-refusal.ensures;
     }

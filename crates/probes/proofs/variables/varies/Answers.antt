@@ -1,22 +1,12 @@
 -- `variables::varies`: a fact by its code, a decision always.
-use mathlib.Core.Path.{ap, ◌∙◌}
-use mathlib.Core.List.{map}
-use Prim.Native.Nat.{ℕ}
+use mathlib.Core.Path.{◌∙◌}
 use native.Mathlib.Omega.{arith}
-use lib.Dec.{leb}
-use lib.ListN.{get_or}
-use Rattle.expressions.specs.code.Codes.{bound_of}
+use borrow.Author.Tests.{le-leb}
 use Rattle.probes.proofs.VariableLaws.{fact-varies, decision-varies}
 use Rattle.probes.proofs.variables.varies.Goals as goal
 
-pub returns-then-at-lt64 : goal.returns-then-at-lt64
-returns-then-at-lt64 c =
-    let a = c.args in
-    let e = c.from-at.ensures in
-    ap (λ (n : ℕ). leb 3 (get_or a.codes n 0)) e ∙ fact-varies a.codes a.item (omega (arith, c.if-at-lt64.true, e))
+pub returns-then-at-ge64 : goal.returns-then-at-ge64
+returns-then-at-ge64 c = le-leb 64 c.from-at.result c.if-at-ge64.true ∙ decision-varies _ c.args.item (omega arith)
 
-pub returns-else-at-lt64 : goal.returns-else-at-lt64
-returns-else-at-lt64 c =
-    let a = c.args in
-    let e = c.from-at.ensures in
-    decision-varies (map bound_of a.codes) a.item (omega (arith, c.if-at-lt64.false, e))
+pub returns-else-at-ge64 : goal.returns-else-at-ge64
+returns-else-at-ge64 c = rw c.from-at.ensures (fact-varies c.args.codes c.args.item (omega arith))

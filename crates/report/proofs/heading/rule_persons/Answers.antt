@@ -1,5 +1,5 @@
 -- `heading::rule_persons`: those of the sets in use and those of the statuses are the persons of all rules.
-use mathlib.Core.Path.{◌≡◌, sym, ap, ap₂, ◌∙◌}
+use mathlib.Core.Path.{sym, ap, ap₂, ◌∙◌}
 use native.Mathlib.Omega.{arith}
 use Rattle.sets.specs.paper.Sets.{union, union_of}
 use Rattle.expressions.specs.code.Listed.{held_by_status}

@@ -1,6 +1,6 @@
 -- `lines::write_lines`: each line is the person's, whatever worlds the sums are of.
 use borrow.Author.Rules.{rules}
-use mathlib.Core.Path.{ap, ◌∙◌}
+use mathlib.Core.Path.{ap}
 use Rattle.report.specs.paper.Line.{line_bytes}
 use Rattle.report.proofs.WriteLaws.{holding_lt}
 use Rattle.report.proofs.lines.write_lines.Goals as goal

@@ -1,8 +1,7 @@
 -- `nine::insert`: an event that stands at its place stays alone; else those from the place on move up.
-use mathlib.Core.Path.{◌≡◌, ap}
-use Prim.Native.Nat.{ℕ, ◌+◌, ◌-◌, ◌*◌}
+use mathlib.Core.Path.{◌≡◌}
+use Prim.Native.Nat.{◌+◌, ◌-◌, ◌*◌}
 use native.Mathlib.Omega.{arith}
-use borrow.Rule.Slice.PartMut.{put_mid}
 use Rattle.report.specs.paper.EventList.{event_length}
 use Rattle.report.proofs.SearchLaws.{inserted_known, inserted_new}
 use Rattle.report.proofs.nine.insert.Goals as goal

@@ -1,6 +1,6 @@
 use mathlib.Core.Path.{ap, ◌∙◌}
 use native.Mathlib.Omega.{arith}
-use lib.ListN.{length, take}
+use lib.ListN.{take}
 use Rattle.report.proofs.SearchLaws.{placed, chunks_front}
 use Rattle.report.proofs.nine.place_of.Goals as goal
 

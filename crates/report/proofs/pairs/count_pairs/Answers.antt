@@ -1,7 +1,6 @@
 use mathlib.Core.Path.{◌≡◌, refl}
 use native.Mathlib.Omega.{arith}
 use Rattle.sets.proofs.SetLaws.{size_le}
-use Rattle.worlds.specs.code.Over.{entry}
 use Rattle.report.specs.code.EventBytes.{sizes}
 use Rattle.report.proofs.EventLaws.{sizes-more}
 use Rattle.report.proofs.pairs.count_pairs.Goals as goal

@@ -7,12 +7,9 @@ use Rattle.expressions.specs.paper.Influence.{has_verdict}
 use Rattle.expressions.specs.paper.Rules.{cut_count}
 use Rattle.expressions.proofs.ListLaws.{made_each}
 use Rattle.worlds.specs.code.Laid.{CutFits}
-use Rattle.worlds.proofs.LayLaws.{filled_none, filled_next, filled_other, filled_row, same_start, same_next}
+use Rattle.worlds.proofs.LayLaws.{filled_next, filled_other, filled_row, same_next}
 use Rattle.worlds.proofs.PlanAt.{cut-count, cut_at}
 use Rattle.worlds.proofs.lay.lay_cuts.Goals as goal
-
-pub loop-i-init : goal.loop-i-init
-loop-i-init c = (λ P e. (filled_none _ _, filled_none _ _, filled_none _ _), same_start _ _)
 
 pub bit-requires : goal.bit-requires
 unfolding cut_of

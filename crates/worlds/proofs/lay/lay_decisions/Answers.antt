@@ -1,8 +1,6 @@
 use mathlib.Core.Path.{◌≡◌, refl, sym, ap, ◌∙◌}
-use mathlib.Core.Bool.{or-false}
 use Prim.Native.Nat.{ℕ, ◌<◌}
 use native.Mathlib.Omega.{arith}
-use borrow.Author.Tests.{le-ltb}
 use Rattle.sets.specs.paper.Sets.{has, one, union, any_of, All}
 use Rattle.sets.proofs.SetLaws.{has-none}
 use Rattle.records.specs.paper.Plan.{Plan}
@@ -11,7 +9,7 @@ use Rattle.expressions.specs.code.Undecided.{opens_of, open_at}
 use Rattle.expressions.specs.declared.decisions.Undecided.{Undecided}
 use Rattle.worlds.specs.code.Tables.{row}
 use Rattle.worlds.specs.code.Laid.{OpenFits}
-use Rattle.worlds.proofs.LayLaws.{filled_none, filled_next, filled_other, filled_row, same_start, same_next, laid_other, below_each, digit-next}
+use Rattle.worlds.proofs.LayLaws.{filled_next, filled_other, filled_row, same_next, laid_other, below_each, digit-next}
 use Rattle.worlds.proofs.PlanAt.{decision-count, decision_at}
 use Rattle.worlds.proofs.lay.lay_decisions.Goals as goal
 
@@ -19,9 +17,6 @@ use Rattle.worlds.proofs.lay.lay_decisions.Goals as goal
 fits : (u : Undecided) (i : ℕ) → i < u.count → All OpenFits (opens_of u) → OpenFits (open_at u.cuts u.edges i)
 unfolding opens_of
 fits u i h all = below_each OpenFits (open_at u.cuts u.edges) u.count i h all
-
-pub loop-i-init : goal.loop-i-init
-loop-i-init c = (λ P e. (filled_none _ _, λ x d. rw (le-ltb d 0 (omega arith), or-false)), same_start _ _)
 
 pub bit-requires : goal.bit-requires
 bit-requires c = (fits c.args.undecided c.loop-i.i c.loop-i-test.true c.requires.1).1

@@ -6,12 +6,9 @@ use Rattle.records.specs.code.Decoded.{edge_of, edges_of}
 use Rattle.expressions.specs.paper.Rules.{edge_count, pair, ends_of}
 use Rattle.expressions.proofs.ListLaws.{made_each}
 use Rattle.worlds.specs.code.Laid.{EdgeFits}
-use Rattle.worlds.proofs.LayLaws.{filled_none, filled_next, filled_other, filled_row, same_start, same_next}
+use Rattle.worlds.proofs.LayLaws.{filled_next, filled_other, filled_row, same_next}
 use Rattle.worlds.proofs.PlanAt.{edge-count, edge_at}
 use Rattle.worlds.proofs.lay.lay_edges.Goals as goal
-
-pub loop-i-init : goal.loop-i-init
-loop-i-init c = (λ P e. (filled_none _ _, filled_none _ _), same_start _ _)
 
 pub bit-requires : goal.bit-requires
 unfolding edge_of

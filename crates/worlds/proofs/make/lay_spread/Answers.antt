@@ -1,18 +1,14 @@
-use mathlib.Core.Path.{◌≡◌, refl, sym, ap, ◌∙◌}
-use mathlib.Core.Bool.{true≢false}
+use mathlib.Core.Path.{◌≡◌, refl, ap, ◌∙◌}
 use Prim.Native.Nat.{ℕ}
 use native.Mathlib.Omega.{arith}
 use borrow.Author.Rules.{rules}
 use Rattle.sets.specs.paper.Sets.{has, one, close_of, any_of}
 use Rattle.sets.proofs.SetLaws.{has-none}
 use Rattle.worlds.specs.code.Tables.{row}
-use Rattle.worlds.proofs.LayLaws.{same_start, same_next, laid-here, laid_beside}
+use Rattle.worlds.proofs.LayLaws.{same_next, laid-here, laid_beside}
 use Rattle.worlds.proofs.RelateLaws.{done_next}
 use Rattle.worlds.proofs.MakeLaws.{spread_gathered}
 use Rattle.worlds.proofs.make.lay_spread.Goals as goal
-
-pub loop-p-init : goal.loop-p-init
-loop-p-init c = rw c.into_iter-p-iterator.ensures.into_iter_gives (c.ranges.roster.fits, same_start _ _, λ p h e. absurd (true≢false (sym h ∙ e)))
 
 pub loop-p-preserved : goal.loop-p-preserved
 unfolding any_of

@@ -2,15 +2,11 @@
 use mathlib.Core.Path.{◌≡◌, ap, ◌∙◌}
 use Prim.Native.Nat.{ℕ, ◌-◌}
 use native.Mathlib.Omega.{arith}
-use lib.Pow.{pow_pos}
 use lib.Dec.{ltb}
 use Rattle.sets.specs.paper.Sets.{has}
 use Rattle.sets.proofs.SetLaws.{shl_one}
 use Rattle.worlds.proofs.RelateLaws.{has_pred}
 use Rattle.worlds.proofs.make.numbers_below.Goals as goal
-
-pub overflow_sub-result : goal.overflow_sub-result
-overflow_sub-result c = omega (arith, shl_one c.args.n c.if-n-ge64.false, pow_pos c.args.n)
 
 pub returns-then-n-ge64 : goal.returns-then-n-ge64
 returns-then-n-ge64 c = λ h i. has_pred 64 i ∙ ap (ltb i) (let z : 64 ≡ c.args.n = omega arith in z)

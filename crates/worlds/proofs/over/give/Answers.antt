@@ -1,7 +1,7 @@
 use mathlib.Core.Path.{refl}
 use Rattle.sets.specs.paper.Sets.{union}
 use Rattle.sets.proofs.UnionLaws.{union_twice}
-use Rattle.worlds.proofs.OverLaws.{changing_start, changing_next, changing_end}
+use Rattle.worlds.proofs.OverLaws.{changing_next, changing_end}
 use Rattle.worlds.proofs.over.give.Goals as goal
 
 pub loop-i-preserved : goal.loop-i-preserved

@@ -1,5 +1,5 @@
 use mathlib.Core.Path.{refl}
-use Rattle.worlds.proofs.OverLaws.{changing_start, changing_next, changing_end}
+use Rattle.worlds.proofs.OverLaws.{changing_next, changing_end}
 use Rattle.worlds.proofs.over.put.Goals as goal
 
 pub loop-i-preserved : goal.loop-i-preserved

@@ -1,7 +1,6 @@
 use mathlib.Core.Path.{ap, ◌∙◌}
-use native.Mathlib.Omega.{arith}
 use Rattle.sets.specs.paper.Sets.{union}
-use Rattle.worlds.proofs.RelateLaws.{chain-none, chain_next, chain_end}
+use Rattle.worlds.proofs.RelateLaws.{chain-none, chain_next}
 use Rattle.worlds.proofs.relate.chain.Goals as goal
 
 pub loop-step-init : goal.loop-step-init

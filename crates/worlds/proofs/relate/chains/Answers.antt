@@ -1,5 +1,5 @@
 use mathlib.Core.Path.{refl}
-use Rattle.worlds.proofs.OverLaws.{changing_start, changing_next, changing_at}
+use Rattle.worlds.proofs.OverLaws.{changing_next, changing_at}
 use Rattle.worlds.proofs.relate.chains.Goals as goal
 
 pub loop-c-preserved : goal.loop-c-preserved

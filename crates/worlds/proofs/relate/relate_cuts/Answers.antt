@@ -1,12 +1,10 @@
-use mathlib.Core.Path.{refl, sym, ap, ◌∙◌}
-use mathlib.Core.Bool.{true≢false}
+use mathlib.Core.Path.{refl, ap, ◌∙◌}
 use mathlib.Core.List.{List, [], ◌∷◌}
 use Prim.Native.Nat.{ℕ}
 use native.Mathlib.Omega.{arith}
 use Rattle.sets.specs.paper.Sets.{has, any_of}
 use Rattle.sets.proofs.SetLaws.{has-none}
 use Rattle.worlds.specs.code.Related.{RelatedAt}
-use Rattle.worlds.proofs.LayLaws.{same_start}
 use Rattle.worlds.proofs.RelateLaws.{done_next, related_before, related_after, same_then}
 use Rattle.worlds.proofs.relate.relate_cuts.Goals as goal
 

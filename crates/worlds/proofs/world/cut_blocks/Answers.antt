@@ -1,10 +1,7 @@
 use mathlib.Core.Path.{refl}
 use Rattle.sets.specs.paper.Sets.{meet}
-use Rattle.worlds.proofs.CutBlocks.{cut_start, cut_turn, cut_end}
+use Rattle.worlds.proofs.CutBlocks.{cut_turn, cut_end}
 use Rattle.worlds.proofs.world.cut_blocks.Goals as goal
-
-pub loop-c-init : goal.loop-c-init
-loop-c-init c = rw c.into_iter-c-iterator.ensures.into_iter_gives (cut_start _ _ _ _ c.ranges.applied.fits)
 
 pub loop-c-preserved : goal.loop-c-preserved
 unfolding meet

@@ -1,10 +1,7 @@
 use Rattle.worlds.proofs.AttachLaws.{regrouped_twice}
-use Rattle.worlds.proofs.OverLaws.{changing_start, changing_next, changing_end}
+use Rattle.worlds.proofs.OverLaws.{changing_next, changing_end}
 use Rattle.worlds.proofs.world.regroup.Goals as goal
 use Rattle.worlds.proofs.world.regroup.Goals.{else-has_person, then-has_person}
-
-pub loop-p-init : goal.loop-p-init
-loop-p-init c = rw c.into_iter-p-iterator.ensures.into_iter_gives (changing_start _ 0 c.args.persons c.args.blocks.now c.ranges.persons.fits c.told-blocks)
 
 pub loop-p-preserved : goal.loop-p-preserved
 loop-p-preserved c =
