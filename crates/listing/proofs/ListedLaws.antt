@@ -47,8 +47,8 @@ named plan case l e = over (opened plan case l) (opened_law plan case l)
 
 module _ (plan case lines₀ events₀ lines₁ events₁ : List ℕ) (a : Answer)
     (answered : ◌≡◌ {A = Outcome} (record { answer = a; lines = lines₁; events = events₁ }) (answer plan case (length lines₀) (length events₀))) where
-  pub few_lines : (n : ℕ) → (told a).lines ≡ n → length lines₁ ≡ length lines₀ → (n ≤ 64) × (line_length * n ≤ length lines₁)
-  few_lines n e h = let few = lines-few plan case (length lines₀) (length events₀) a lines₁ events₁ answered h in (omega (arith, few.0, e), omega (arith, few.1, e))
+  pub told-few : (n : ℕ) → (told a).lines ≡ n → length lines₁ ≡ length lines₀ → (n ≤ 64) × (line_length * n ≤ length lines₁)
+  told-few n e h = let few = lines-few plan case (length lines₀) (length events₀) a lines₁ events₁ answered h in (omega (arith, few.0, e), omega (arith, few.1, e))
 
   pub refused_named : (n k : ℕ) → a ≡ Refused n k → n ≡ 0 → ⊥
   refused_named n k e = named plan case (length lines₀) (length events₀) n k (sym (ap (λ (o : Outcome). o.answer) answered) ∙ e)

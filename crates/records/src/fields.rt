@@ -51,6 +51,13 @@ pub enum Elected {
     Bad,
 }
 
+// A byte as a wider number: for callers elsewhere, as here std's `From` serves.
+pub fn to_u16(x: u8) -> u16
+    ensures { (result ≡ x) × (result < 256) }
+{
+    u16::from(x)
+}
+
 // a byte from `low` to `top`
 pub fn byte_at(s: &[u8], at: usize, low: u8, top: u8) -> Field
     ensures { field_read result ≡ byte_at s.now at (record { low = low; top = top }) }

@@ -1,4 +1,5 @@
 pub mod SetLaws
+pub mod WholeLaws
 pub mod Closing
 pub mod LoopLaws
 pub mod BelowLaws

@@ -2,7 +2,9 @@
 #![tactic(auto)]
 
 pub mod members;
+pub mod numbers;
 pub mod persons;
+pub mod whole;
 
 ghost use Rattle.std.specs.Prelude.{◌≡◌, ◌∷◌, ◌<◌};
 ghost use Rattle.sets.specs.paper.Sets.{has, one, union, minus, subset, size, lowest, members, rising_less, pass, close_of};

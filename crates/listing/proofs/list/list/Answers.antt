@@ -2,12 +2,12 @@
 use mathlib.Core.Path.{ap}
 use native.Mathlib.Omega.{arith}
 use Rattle.report.specs.paper.Operations.{told}
-use Rattle.listing.proofs.ListedLaws.{few_lines, refused_named, listed-refused, listed-table}
+use Rattle.listing.proofs.ListedLaws.{told-few, refused_named, listed-refused, listed-table}
 use Rattle.listing.proofs.list.list.Goals as goal
 
 pub put_table-requires-in-Answered : goal.put_table-requires-in-Answered
 put_table-requires-in-Answered c =
-    few_lines _ _ c.args.lines.now c.args.events.now _ _ _ c.answer.ensures _ (ap (λ x. (told x).lines) c.in-Answered.is) c.answer.auto.lines
+    told-few _ _ c.args.lines.now c.args.events.now _ _ _ c.answer.ensures _ (ap (λ x. (told x).lines) c.in-Answered.is) c.answer.auto.lines
 
 pub returns-in-Accepted : goal.returns-in-Accepted
 returns-in-Accepted c =
