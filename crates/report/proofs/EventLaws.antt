@@ -8,8 +8,8 @@ use native.Mathlib.Nat.{not-suc-le-zero, le_of_suc-le-suc, le_refl, add-zero, ze
 use native.Mathlib.Numerals.{add-one}
 use native.Mathlib.Omega.{arith}
 use lib.Arith.{lt-one}
-use lib.ListN.{length, get_or, take, length-append, length-drop, length-map}
-use lib.Seq.{length-take-le}
+use lib.ListN.{length, get_or, set, take, drop, length-append, length-drop, length-map}
+use lib.Seq.{drop-cons, take-suc, set_at, length-take-le, append_snoc}
 use Rattle.sets.specs.paper.Sets.{odd, has, size, when, members, members_from, numbers}
 use Rattle.sets.proofs.SetLaws.{has-zero, has-suc, has-none, lt_or_le}
 use Rattle.sets.proofs.MemberLaws.{members-length}
@@ -31,12 +31,30 @@ use Rattle.page.specs.Little.{little_bytes}
 use Rattle.worlds.specs.paper.Events.{event, listed, election_actor}
 use Rattle.sets.proofs.TurnLaws.{members-none}
 use Rattle.report.specs.paper.EventList.{number_of, election_citation, event_length}
-use Rattle.report.proofs.PieceLaws.{size_none, over, over-long, over-both, will, will_none}
+use Rattle.report.proofs.PieceLaws.{size_none, over, over-long, over-both, will, will_none, Writing, writing_place, writing_bytes}
 use Rattle.report.specs.code.EventBytes.{Below, Writes, sizes}
+
+-- ---- byte by byte
+
+-- one byte more is copied
+pub copied : (e d : List ℕ) (i : ℕ) → i < length e → i < length d → set (take i e ++ drop i d) i (get_or e i 0) ≡ take (i + 1) e ++ drop (i + 1) d
+copied e d i he hd =
+    rw (drop-cons d i 0 hd, set_at (take i e) (get_or d i 0) (drop (suc i) d) (get_or e i 0) i (length-take-le i e (omega arith)), add-one, take-suc e i 0 he)
+    (sym (append_snoc (take i e) (get_or e i 0) (drop (suc i) d)))
 
 pub event-length : (kind a b c mask : ℕ) → length (event kind a b c mask) ≡ event_length
 unfolding event little_bytes
 event-length kind a b c mask = refl
+
+-- ---- events of a set
+
+-- at the end of a loop that writes one for each number all are written
+module _ {X : Type 0} (f : X → ℕ → List ℕ) (at all : ℕ) (before : List ℕ) (m place : ℕ) (after : List ℕ) (w : Writing event_length f at all before m place after) where
+  pub writing_end : m ≡ 0 → (x : X) → Writes at (map (f x) (members all)) before after place
+  writing_end e x =
+      let n : length (map (f x) (members all)) ≡ size all = length-map (members all) (f x) ∙ members-length all in
+      let p = writing_place event_length w e in
+      record { bytes = writing_bytes event_length w e x; place = omega arith }
 
 -- ---- the numbers of a set, and the numbers below n that are of it
 
@@ -191,6 +209,12 @@ sizes_le i zero sets h = absurd (not-suc-le-zero h)
 sizes_le i (suc n) sets h =
     ⊎_elim (λ l. let r = sizes_le i n sets l in omega arith) (λ l. let e : i ≡ n = omega arith in subst (λ (k : ℕ). sizes i sets + size (sets i) ≤ sizes k sets + size (sets k)) e (le_refl _))
     (lt_or_le i n)
+
+-- events of their length, joined over any list
+long_flat : (h : ℕ → List (List ℕ)) → ((c : ℕ) → Long (h c)) → (xs : List ℕ) → Long (flat_map h xs)
+unfolding flat_map
+long_flat h l [] = record { bytes = refl }
+long_flat h l (x ∷ xs) = long-both (l x) (long_flat h l xs)
 
 -- a loop over sets: the events of the first i are written. `X` as for `Writing`.
 pub record Pairing {X : Type 0} (es : X → ℕ → List (List ℕ)) (at : ℕ) (sets : ℕ → ℕ) (before : List ℕ) (i place : ℕ) (after : List ℕ) : Type 0 where

@@ -41,6 +41,11 @@ pub insert-same : (e x : List ℕ) (xs : List (List ℕ)) → x ≡ e → insert
 unfolding insert
 insert-same e x xs h = rw (h, less-self e)
 
+-- those that are less stay in front
+pub insert-past : (e : List ℕ) (xs ys : List (List ℕ)) → All (λ f. lex_less f e ≡ true) xs → insert e (xs ++ ys) ≡ xs ++ insert e ys
+insert-past e [] ys h = refl
+insert-past e (x ∷ xs) ys h = insert-on e x (xs ++ ys) h.0 ∙ ap (λ (l : List (List ℕ)). x ∷ l) (insert-past e xs ys h.1)
+
 pub insert_grows : (e : List ℕ) (xs : List (List ℕ)) → length xs ≤ length (insert e xs)
 unfolding insert
 insert_grows e [] = omega arith

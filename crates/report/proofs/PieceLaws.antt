@@ -109,8 +109,8 @@ module _ (n : ℕ) where
     pub writing_place : m ≡ 0 → place ≡ at + n * size all
     writing_place e = let z : n * size m ≡ n * 0 = ap (λ (k : ℕ). n * k) (size_none m e) in omega (arith, w.room)
 
-    pub writing_end : m ≡ 0 → (x : X) → after ≡ will at (map (f x) (members all)) before
-    writing_end e x = sym (will_none place after) ∙ ap (λ (ps : List ℕ). will place (map (f x) ps) after) (sym (members-none m e)) ∙ w.same x
+    pub writing_bytes : m ≡ 0 → (x : X) → after ≡ will at (map (f x) (members all)) before
+    writing_bytes e x = sym (will_none place after) ∙ ap (λ (ps : List ℕ). will place (map (f x) ps) after) (sym (members-none m e)) ∙ w.same x
 
 flat_made : (f : ℕ → List ℕ) (ps : List ℕ) → flat_map (λ e. e) (map f ps) ≡ flat_map f ps
 unfolding flat_map
@@ -121,6 +121,6 @@ module _ (n : ℕ) {X : Type 0} {f : X → ℕ → List ℕ} {all : ℕ} {before
   -- all of them, at the start
   pub writing_front : m ≡ 0 → (x : X) → after ≡ flat_map (f x) (members all) ++ drop (n * size all) before
   writing_front e x =
-      writing_end n w e x
+      writing_bytes n w e x
       ∙ ap₂ (λ (l : List ℕ) (k : ℕ). l ++ drop k before) (flat_made (f x) (members all))
       (let z = ap (λ (k : ℕ). n * k) (length-map (members all) (f x) ∙ members-length all) in omega arith)

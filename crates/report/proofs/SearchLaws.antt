@@ -3,6 +3,7 @@ use mathlib.Core.Path.{◌≡◌, refl, sym, ap, ap₂, ◌∙◌}
 use mathlib.Core.Bool.{true}
 use mathlib.Core.List.{List, [], ◌∷◌, ◌++◌, append_assoc, flat_map}
 use Prim.Native.Nat.{ℕ, zero, suc, ◌+◌, ◌-◌, ◌*◌, ◌≤◌, ◌<◌}
+use native.Mathlib.Nat.{le_of_suc-le-suc, not-suc-le-zero}
 use native.Mathlib.Numerals.{add-one}
 use native.Mathlib.Omega.{arith}
 use lib.ListN.{length, get_or, take, drop, length-append, length-take, length-drop, take-append-drop}
@@ -54,6 +55,11 @@ same_of f e h = go (order f e)
 
 -- ---- a place among rising ones
 
+-- the back of rising ones rises
+rises-behind : (xs ys : List (List ℕ)) → Rises (xs ++ ys) → Rises ys
+rises-behind [] ys r = r
+rises-behind (x ∷ xs) ys r = rises-behind xs ys r.1
+
 rises-next : (xs : List (List ℕ)) → Rises xs → (k : ℕ) (d : List ℕ) → suc k < length xs → lex_less (get_or xs k d) (get_or xs (suc k) d) ≡ true
 rises-next [] r k d l = absurd (omega arith)
 rises-next (x ∷ xs) r zero d l = all_at (λ f. lex_less x f ≡ true) xs d 0 r.0 (omega arith)
@@ -100,7 +106,36 @@ chunks_front zero m s h = refl
 chunks_front (suc n) zero s h = absurd (omega arith)
 chunks_front (suc n) (suc m) s h = ap (λ (l : List (List ℕ)). take event_length s ∷ l) (chunks_front n m (drop event_length s) (omega arith))
 
+-- ---- events by their places
+
+-- the event at a place, places counted from 0
+abbrev pub chunk : ℕ → List ℕ → List ℕ
+chunk i s = take event_length (drop (i * event_length) s)
+
+chunk_next : (i : ℕ) (s : List ℕ) → chunk i (drop event_length s) ≡ chunk (suc i) s
+chunk_next i s =
+    let k : event_length + i * event_length ≡ suc i * event_length = omega arith in
+    ap (take event_length) (drop-drop (i * event_length) event_length s ∙ ap (λ (m : ℕ). drop m s) k)
+
+chunk_at : (n : ℕ) (s : List ℕ) (i : ℕ) → i < n → get_or (chunks n s) i [] ≡ chunk i s
+unfolding chunks
+chunk_at zero s i h = absurd (not-suc-le-zero h)
+chunk_at (suc n) s zero h = refl
+chunk_at (suc n) s (suc i) h = chunk_at n (drop event_length s) i (le_of_suc-le-suc h) ∙ chunk_next i s
+
 -- ---- the buffer
+
+-- the first k + m events are the first k and the m behind them
+chunks-add : (k m : ℕ) (s : List ℕ) → chunks (k + m) s ≡ chunks k s ++ chunks m (drop (k * event_length) s)
+unfolding chunks
+chunks-add zero m s = let z : 0 + m ≡ m = omega arith in ap (λ (i : ℕ). chunks i s) z
+chunks-add (suc k) m s =
+    let z : suc k + m ≡ suc (k + m) = omega arith in
+    let j : event_length + k * event_length ≡ suc k * event_length = omega arith in
+    let rest = drop event_length s in
+    ap (λ (i : ℕ). chunks i s) z
+    ∙ ap (λ (l : List (List ℕ)). take event_length s ∷ l)
+    (chunks-add k m rest ∙ ap (λ (t : List ℕ). chunks k rest ++ chunks m t) (drop-drop (k * event_length) event_length s ∙ ap (λ (i : ℕ). drop i s) j))
 
 chunks_sized : (n : ℕ) (s : List ℕ) → n * event_length ≤ length s → Sized (chunks n s)
 unfolding chunks

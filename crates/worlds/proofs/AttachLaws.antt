@@ -26,9 +26,7 @@ use Rattle.worlds.specs.code.Tables.{row, Stands, TellsActive}
 use Rattle.worlds.specs.code.Blocks.{Parted, MovedTo, start_of}
 use Rattle.worlds.specs.declared.tables.Common.{Common}
 use Rattle.worlds.specs.declared.tables.Active as masks
-use Rattle.sets.specs.code.Members.{Turn}
 use Rattle.sets.proofs.TurnLaws.{members-none, union-has, has-union_of}
-use Rattle.worlds.proofs.OverLaws.{turn-in, turn-rest, turn-listed}
 use Rattle.worlds.proofs.FirstBlocks.{Blocks, out_of_blocks, first-blocks}
 use Rattle.worlds.proofs.Partition.{not_set, moved-block, cut_on, live_below, movers_live, attach-blocks}
 
@@ -431,7 +429,6 @@ pub record Reached (P : Plan) (I : Influence) (k : Common) (a : Active) (moved m
   pub state : State
   pub parts : Blocks (live_in P k.roster I a) state
   pub entries : (p : ℕ) → entry blocks p ≡ block_of state p
-  pub few : m < 2 ^ 64
   pub inside : Within m moved
   pub left : over (attach P (marks_in_lem P k.roster I a) a) (members m) state ≡ (world_of P k.roster I a).state
 
@@ -461,7 +458,6 @@ module _ (P : Plan) (I : Influence) (k : Common) (a : Active) (t : List (List �
     state = start_of P k.roster I a;
     parts = start_blocks P I k t a T.stands T.below;
     entries = T.begun;
-    few = fits;
     inside = within-refl moved;
     left = sym (state_run P I k t a T.stands T.below moved fits T.is);
   }
@@ -469,11 +465,11 @@ module _ (P : Plan) (I : Influence) (k : Common) (a : Active) (t : List (List �
   pub reached_end : (m : ℕ) (blocks : List ℕ) → m ≡ 0 → Reached P I k a moved m blocks → (p : ℕ) → entry blocks p ≡ block_of (world_of P k.roster I a).state p
   reached_end m blocks e R p = R.entries p ∙ ap (λ (s : State). block_of s p) (sym (over_none (attach P unplaced a) (members m) R.state (members-none m e)) ∙ R.left)
 
-  module _ (m i r : ℕ) (blocks : List ℕ) (R : Reached P I k a moved m blocks) (turn : Turn m i r) where
+  module _ (m i : ℕ) (blocks : List ℕ) (R : Reached P I k a moved m blocks) (here : has m i ≡ true) where
     goes_here : (on a.attachments i ≡ true) × (has live (attachment P i).anchor ≡ true)
     goes_here =
         and_parts (on a.attachments i) (has live (attachment P i).anchor)
-        (sym (moved_goes P I k t a T.stands T.below moved fits T.is i) ∙ R.inside.at i (turn-in R.few turn))
+        (sym (moved_goes P I k t a T.stands T.below moved fits T.is i) ∙ R.inside.at i here)
 
     anchor_is : meet (row t 12 i) placed ≡ one (attachment P i).anchor
     anchor_is =
@@ -503,15 +499,14 @@ module _ (P : Plan) (I : Influence) (k : Common) (a : Active) (t : List (List �
         (record { at = λ q h. in_meet (attachment P i).members live q (of_minus (attachment P i).members unplaced q h).0 (movers_in.at q h) })
 
     -- ONE ATTACHMENT, lowest first
-    pub reached-next : (x : ℕ) (after : List ℕ) → x ≡ lowest (meet (row t 12 i) placed)
+    pub reached-next : (r x : ℕ) (after : List ℕ) → Within r m → members m ≡ i ∷ members r → x ≡ lowest (meet (row t 12 i) placed)
         → MovedTo (entry blocks x) (meet (row t 11 i) placed) blocks after → Reached P I k a moved r after
-    reached-next x after at M = record {
+    reached-next r x after less e at M = record {
       state = attach P unplaced a i R.state;
       parts = attach-blocks P k.roster T.stands.named T.stands.roster a (world_of P k.roster I a).marks i R.state R.parts;
       entries = λ p. M.at live x (parted live R.state blocks R.parts R.entries) refl inside p ∙ said p ∙ sym (then p);
-      few = omega (arith, R.few, turn.rest.1);
-      inside = thru (turn-rest R.few turn) R.inside;
-      left = sym (over_first (attach P unplaced a) (members m) i (members r) R.state (turn-listed R.few turn)) ∙ R.left;
+      inside = thru less R.inside;
+      left = sym (over_first (attach P unplaced a) (members m) i (members r) R.state e) ∙ R.left;
     }
       where
         s : State

@@ -154,14 +154,19 @@ pub record Left (blocks : List ℕ) (f : ℕ → ℕ → ℕ) (rules : ℕ) (bef
 pub left_all : (blocks : List ℕ) (f : ℕ → ℕ → ℕ) (rules : ℕ) (before : List ℕ) → Left blocks f rules before before rules
 left_all blocks f rules before = record { at = λ live fits B p l. refl }
 
-pub left-next : {blocks : List ℕ} {f : ℕ → ℕ → ℕ} {rules : ℕ} {before after next : List ℕ} {m r t : ℕ} → Left blocks f rules before after m
-    → Turn m t r → CitesIn blocks (f t) after next → Left blocks f rules before next r
-left-next {blocks} {f} {rules} {before} {after} {next} {m} {r} {t} L turn C = record {
+pub left-next : {blocks : List ℕ} {f : ℕ → ℕ → ℕ} {rules : ℕ} {before after : List ℕ} (next : List ℕ) {m : ℕ} (r t : ℕ) → Left blocks f rules before after m
+    → t ≡ lowest m → members m ≡ lowest m ∷ members r → CitesIn blocks (f t) after next → Left blocks f rules before next r
+left-next {blocks} {f} {rules} {before} {after} next {m} r t L z e C = record {
   at = λ live fits B p l.
       let s = entry blocks p in
-      union-first (λ i. f i s) (entry after (lowest s)) (entry next (lowest s)) (f t s) (members m) (members r) (lowest m) turn.rest.0 (C.at live fits B p l) (ap (λ (i : ℕ). f i s) turn.first.0)
+      union-first (λ i. f i s) (entry after (lowest s)) (entry next (lowest s)) (f t s) (members m) (members r) (lowest m) e (C.at live fits B p l) (ap (λ (i : ℕ). f i s) z)
       ∙ L.at live fits B p l;
 }
+
+-- the same at a turn
+pub left-turn : {blocks : List ℕ} {f : ℕ → ℕ → ℕ} {rules : ℕ} {before after next : List ℕ} {m r t : ℕ} → Left blocks f rules before after m
+    → Turn m t r → CitesIn blocks (f t) after next → Left blocks f rules before next r
+left-turn {next = next} {r = r} {t = t} L turn C = left-next next r t L turn.first.0 turn.rest.0 C
 
 pub left-none : {blocks : List ℕ} {f : ℕ → ℕ → ℕ} {rules : ℕ} {before after : List ℕ} {m : ℕ} → m ≡ 0 → Left blocks f rules before after m
     → CitesIn blocks (λ b. union_of (λ i. f i b) (members rules)) before after

@@ -16,9 +16,7 @@ use Rattle.sets.proofs.Closing.{Takes, Closed, close_closed, close_within, close
 use Rattle.records.proofs.ListLaws.{all_append}
 use Rattle.worlds.specs.code.Over.{entry, Marked}
 use Rattle.worlds.specs.code.Classes.{Alone, ClassesBy, Joins, joinable}
-use Rattle.sets.specs.code.Members.{Turn}
 use Rattle.sets.proofs.TurnLaws.{members-none, union-has, has-union_of}
-use Rattle.worlds.proofs.SetTurns.{turn-members}
 
 -- ---- closed sets and closings
 
@@ -265,10 +263,10 @@ classes_end sets classes i l by p k = by.at p (everyone p k) ∙ ap (λ (xs : Li
 -- ---- the pairs of edges
 
 -- a turn of the loop, which is at t and leaves r of m
-pub pairs_next : (pairs : List ℕ) (within : ℕ) {m t r : ℕ} {a b last : List ℕ} → Turn m t r → Joins (joinable pairs within t ∷ []) a b
+pub pairs_next : (pairs : List ℕ) (within m t r : ℕ) {a b last : List ℕ} → members m ≡ lowest m ∷ members r → t ≡ lowest m → Joins (joinable pairs within t ∷ []) a b
     → Joins (map (joinable pairs within) (members r)) b last → Joins (map (joinable pairs within) (members m)) a last
-pairs_next pairs within {m} {t} {r} {a} {b} {last} turn j js =
-    subst (λ (xs : List ℕ). Joins (map (joinable pairs within) xs) a last) (sym (turn-members turn))
+pairs_next pairs within m t r {a} {b} {last} e k j js =
+    subst (λ (xs : List ℕ). Joins (map (joinable pairs within) xs) a last) (sym (e ∙ ap (λ (x : ℕ). x ∷ members r) (sym k)))
     (joins-next (joinable pairs within t ∷ []) (map (joinable pairs within) (members r)) a b last j js)
 
 pub pairs_end : (pairs : List ℕ) (within m : ℕ) (classes : List ℕ) → m ≡ 0 → Joins (map (joinable pairs within) (members m)) classes classes

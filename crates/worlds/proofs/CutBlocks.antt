@@ -1,18 +1,16 @@
 -- Cuts as blocks, one after another.
 use mathlib.Core.Path.{◌≡◌, refl, sym, ap, ap₂, ◌∙◌}
-use mathlib.Core.Bool.{Bool, true, false, ◌&&◌, ◌||◌, not, cond, and-true, true≢false}
-use mathlib.Core.List.{List}
+use mathlib.Core.Bool.{Bool, true, false, ◌&&◌, ◌||◌, not, cond, and-true, or-true, true≢false}
+use mathlib.Core.List.{List, ◌∷◌}
 use Prim.Native.Nat.{ℕ, ◌<◌, ◌^◌}
-use native.Mathlib.Omega.{arith}
+use native.Mathlib.Nat.{lt_trans}
 use lib.Dec.{eqb}
-use borrow.Author.Tests.{eqb-true}
-use Rattle.sets.specs.paper.Sets.{has, union, meet, minus, members, union_of}
-use Rattle.sets.specs.code.Members.{Turn}
+use borrow.Author.Tests.{eqb-true, eq-eqb}
+use Rattle.sets.specs.paper.Sets.{has, union, meet, minus, lowest, members, union_of}
 use Rattle.sets.proofs.SetLaws.{has-none, has-union, has-minus, ext}
 use Rattle.worlds.specs.code.Over.{entry, Marked}
 use Rattle.worlds.specs.code.Blocks.{CutInto}
-use Rattle.sets.proofs.TurnLaws.{members-none}
-use Rattle.worlds.proofs.OverLaws.{turn-is, turn-in, turn-rest, turn-listed}
+use Rattle.sets.proofs.TurnLaws.{members-none, member_has}
 use Rattle.worlds.proofs.Partition.{not_set}
 
 -- a loop over applied cuts that has `todo` left
@@ -51,21 +49,24 @@ module _ (table : List ℕ) (cuts placed todo : ℕ) (before blocks : List ℕ) 
   abbrev part : ℕ → ℕ
   part c = meet (entry table c) placed
 
-  pub cut_turn : {t next : ℕ} → Turn todo t next → (v rest' : ℕ) (after : List ℕ) → v ≡ meet (entry table t) placed
+  pub cut_turn : (t next v rest' : ℕ) (after : List ℕ) → t ≡ lowest todo → members todo ≡ lowest todo ∷ members next → next < todo → v ≡ meet (entry table t) placed
       → Marked v v blocks after → rest' ≡ minus rest v → CutSoFar table cuts placed next before after rest'
   unfolding union_of
-  cut_turn {t} {next} turn v rest' after is put less-rest = record {
-    few = omega (arith, turn.rest.1, S.few);
-    within = λ c h. S.within c ((turn-rest S.few turn).at c h);
+  cut_turn t next v rest' after low list less is put less-rest = record {
+    few = lt_trans less S.few;
+    within = λ c h. S.within c (todo_is c ∙ ap (λ (b : Bool). eqb t c || b) h ∙ or-true (eqb t c));
     left =
         ap (λ (x : ℕ). minus x (union_of part (members next))) (less-rest ∙ ap (minus rest) is) ∙ minus_minus rest (part t) (union_of part (members next))
-        ∙ ap (λ (l : List ℕ). minus rest (union_of part l)) (sym (turn-listed S.few turn)) ∙ S.left;
+        ∙ ap (λ (l : List ℕ). minus rest (union_of part l)) (ap (λ (x : ℕ). x ∷ members next) low ∙ sym list) ∙ S.left;
     others = λ p h. at p ∙ ap (λ (b : Bool). cond b (part t) (entry blocks p)) (h t mine) ∙ S.others p h;
     held = λ p c x y h e. at p ∙ now p c x y h e (has (part t) p) refl;
   }
     where
+      todo_is : (c : ℕ) → has todo c ≡ (eqb t c || has next c)
+      todo_is c = member_has todo next S.few less list c ∙ ap (λ (i : ℕ). eqb i c || has next c) (sym low)
+
       mine : has cuts t ≡ true
-      mine = S.within t (turn-in S.few turn)
+      mine = S.within t (todo_is t ∙ ap (λ (b : Bool). b || has next t) (eq-eqb t t refl))
 
       at : (p : ℕ) → entry after p ≡ cond (has (part t) p) (part t) (entry blocks p)
       at p = put.at p 0 ∙ ap (λ (m : ℕ). cond (has m p) m (entry blocks p)) is
@@ -76,7 +77,7 @@ module _ (table : List ℕ) (cuts placed todo : ℕ) (before blocks : List ℕ) 
       now p c x y h e true k = ap (λ (b : Bool). cond b (part t) (entry blocks p)) k ∙ e t mine k
       now p c x y h e false k =
           ap (λ (b : Bool). cond b (part t) (entry blocks p)) k
-          ∙ S.held p c x (turn-is S.few turn c ∙ ap₂ ◌||◌ (not_set (eqb t c) (λ z. true≢false (sym h ∙ ap (λ (i : ℕ). has (part i) p) (sym (eqb-true t c z)) ∙ k))) y) h e
+          ∙ S.held p c x (todo_is c ∙ ap₂ ◌||◌ (not_set (eqb t c) (λ z. true≢false (sym h ∙ ap (λ (i : ℕ). has (part i) p) (sym (eqb-true t c z)) ∙ k))) y) h e
 
   pub cut_end : todo ≡ 0 → CutInto table cuts placed before blocks rest
   unfolding union_of

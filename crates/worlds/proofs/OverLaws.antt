@@ -37,34 +37,38 @@ pub record Changing {A : Type 0} (g : ℕ → A → A) (past : A) (all left : �
   pub at : (i : ℕ) → cond (has left i) (g i (get_or now i past)) (get_or now i past) ≡ cond (has all i) (g i (get_or before i past)) (get_or before i past)
 
 module _ {A : Type 0} (g : ℕ → A → A) (past : A) where
+  -- at one number of m, whichever it is: r are the others
+  pub change_at : ((i : ℕ) (x : A) → g i (g i x) ≡ g i x) → (m r t : ℕ) (v : A) (table : List A) → ((i : ℕ) → has m i ≡ (eqb t i || has r i)) → t < length table
+      → v ≡ g t (get_or table t past)
+      → (i : ℕ) → cond (has r i) (g i (get_or (set table t v) i past)) (get_or (set table t v) i past) ≡ cond (has m i) (g i (get_or table i past)) (get_or table i past)
+  change_at twice m r t v table is l e i = pick (eqb t i) refl
+    where
+      now : Bool → A → A
+      now b x = cond b (g i x) x
+
+      once : (b : Bool) (x : A) → now b (g i x) ≡ g i x
+      once true x = twice i x
+      once false x = refl
+
+      here : get_or (set table t v) t past ≡ g t (get_or table t past)
+      here = get_or-set_same table t v past l ∙ e
+
+      pick : (b : Bool) → eqb t i ≡ b → now (has r i) (get_or (set table t v) i past) ≡ now (has m i) (get_or table i past)
+      pick true k =
+          ap (now (has r i)) (subst (λ (j : ℕ). get_or (set table t v) j past ≡ g j (get_or table j past)) (eqb-true t i k) here)
+          ∙ once (has r i) (get_or table i past) ∙ sym (ap (λ (b : Bool). now b (get_or table i past)) (is i ∙ ap (λ (b : Bool). b || has r i) k))
+      pick false k =
+          ap (now (has r i)) (get_or-set_other table t i v past (λ z. eqb-false t i k (sym z)))
+          ∙ sym (ap (λ (b : Bool). now b (get_or table i past)) (is i ∙ ap (λ (b : Bool). b || has r i) k))
+
+  -- at the lowest
   pub changing_next : ((i : ℕ) (x : A) → g i (g i x) ≡ g i x) → {all m t r : ℕ} {before table : List A} (v : A) → Turn m t r → v ≡ g t (get_or table t past)
       → Changing g past all m before table → Changing g past all r before (set table t v)
   changing_next twice {all} {m} {t} {r} {before} {table} v turn e known = record {
     few = omega (arith, turn.rest.1, known.few);
     long = simp length-set known.long;
-    at = λ i. pick i (eqb t i) refl ∙ known.at i;
+    at = λ i. change_at twice m r t v table (turn-is known.few turn) (omega (arith, turn.first.1, known.long)) e i ∙ known.at i;
   }
-    where
-      now : ℕ → Bool → A → A
-      now i b x = cond b (g i x) x
-
-      once : (i : ℕ) (b : Bool) (x : A) → now i b (g i x) ≡ g i x
-      once i true x = twice i x
-      once i false x = refl
-
-      is : (i : ℕ) → has m i ≡ (eqb t i || has r i)
-      is = turn-is known.few turn
-
-      here : get_or (set table t v) t past ≡ g t (get_or table t past)
-      here = get_or-set_same table t v past (omega (arith, turn.first.1, known.long)) ∙ e
-
-      pick : (i : ℕ) (b : Bool) → eqb t i ≡ b → now i (has r i) (get_or (set table t v) i past) ≡ now i (has m i) (get_or table i past)
-      pick i true k =
-          ap (now i (has r i)) (subst (λ (j : ℕ). get_or (set table t v) j past ≡ g j (get_or table j past)) (eqb-true t i k) here)
-          ∙ once i (has r i) (get_or table i past) ∙ sym (ap (λ (b : Bool). now i b (get_or table i past)) (is i ∙ ap (λ (b : Bool). b || has r i) k))
-      pick i false k =
-          ap (now i (has r i)) (get_or-set_other table t i v past (λ z. eqb-false t i k (sym z)))
-          ∙ sym (ap (λ (b : Bool). now i b (get_or table i past)) (is i ∙ ap (λ (b : Bool). b || has r i) k))
 
   -- at the end nothing is left
   pub changing_end : {all m : ℕ} {before table : List A} → m ≡ 0 → Changing g past all m before table

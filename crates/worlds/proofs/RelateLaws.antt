@@ -14,14 +14,13 @@ use lib.Dec.{eqb, ltb}
 use borrow.Author.Count.{below_more}
 use borrow.Author.Tests.{eqb-true, lt-ltb, le-ltb}
 use Rattle.sets.specs.paper.Sets.{odd, has, one, union, minus, disjoint, meets, rising_less, fold_below, any_of, union_of, members}
-use Rattle.sets.specs.code.Members.{Turn}
 use Rattle.sets.proofs.SetLaws.{has-zero, has-suc, has-none, has_one, has-and, has-minus, disjoint-true, disjoint-false, lt_or_le}
 use Rattle.sets.proofs.Closing.{in_one}
 use Rattle.worlds.specs.code.Over.{entry}
 use Rattle.worlds.specs.code.Tables.{row}
 use Rattle.worlds.specs.code.Laid.{Laid, Same}
 use Rattle.worlds.specs.code.Related.{chain_by, RelatedAt}
-use Rattle.worlds.proofs.OverLaws.{turn-is}
+use Rattle.worlds.proofs.OverLaws.{change_at}
 use Rattle.worlds.proofs.LayLaws.{laid_other, laid-here, same_start, same_next}
 
 -- ---- chains, step after step
@@ -85,7 +84,13 @@ clashing-has sharing twins d all shared same h k = has-minus sharing twins d ∙
     pick true = refl
     pick false = refl
 
--- ---- a table filled entry after entry
+-- ---- a table filled by a function of the number
+
+-- at the numbers of a set
+module _ (f : ℕ → ℕ) where
+  pub filled_next : (m r t v : ℕ) (table : List ℕ) → ((p : ℕ) → has m p ≡ (eqb t p || has r p)) → t < length table → v ≡ f t
+      → (p : ℕ) → cond (has r p) (f p) (entry (set table t v) p) ≡ cond (has m p) (f p) (entry table p)
+  filled_next m r t v table = change_at (λ (p x : ℕ). f p) 0 (λ p x. refl) m r t v table
 
 -- at the numbers below i + 1
 pub stored_next : (Q : ℕ → ℕ → Type 0) (table : List ℕ) (i v : ℕ) → i < length table → Q i v → ((j : ℕ) → j < i → Q j (entry table j))
@@ -96,13 +101,13 @@ stored_next Q table i v l q h =
 
 -- ---- a loop over a set: of those that are not left, all are done
 
-module _ (Q : ℕ → Type 0) (all : ℕ) {m t r : ℕ} (few : m < 2 ^ 64) (turn : Turn m t r) where
+module _ (Q : ℕ → Type 0) (all m r t : ℕ) (turn : (i : ℕ) → has m i ≡ (eqb t i || has r i)) where
   pub done_next : Q t → ((i : ℕ) → eqb t i ≡ false → has all i ≡ true → has m i ≡ false → Q i) → (i : ℕ) → has all i ≡ true → has r i ≡ false → Q i
   done_next here there i h e = pick (eqb t i) refl
     where
       pick : (b : Bool) → eqb t i ≡ b → Q i
       pick true q = subst Q (eqb-true t i q) here
-      pick false q = there i q h (turn-is few turn i ∙ ap₂ ◌||◌ q e)
+      pick false q = there i q h (turn i ∙ ap₂ ◌||◌ q e)
 
 -- ---- the rows of a cut
 

@@ -2,7 +2,7 @@ use lib.ListN.{length-take, length-drop}
 use native.Mathlib.Omega.{arith}
 use Rattle.report.specs.paper.EventList.{event_length}
 use Rattle.report.proofs.EventLaws.{event-length, writes_listed}
-use Rattle.report.proofs.PieceLaws.{writing_none, writing_has, writing_room, writing_next, writing_place, writing_end}
+use Rattle.report.proofs.PieceLaws.{writing_none, writing_has, writing_room, writing_next, writing_place, writing_bytes}
 use Rattle.report.proofs.event.write_each.Goals as goal
 
 pub loop-i-init : goal.loop-i-init
@@ -31,4 +31,4 @@ pub returns-clause-written : goal.returns-clause-written
 returns-clause-written g c n f b made =
     let w = c.loop-i.invariant in
     let e = c.in-None.ensures.steps.0 in
-    writes_listed f n c.args.at c.args.set c.ranges.set.fits b (writing_end event_length w e (f, made)) (writing_place event_length w e)
+    writes_listed f n c.args.at c.args.set c.ranges.set.fits b (writing_bytes event_length w e (f, made)) (writing_place event_length w e)

@@ -5,7 +5,7 @@ use native.Mathlib.Omega.{arith}
 use Rattle.sets.specs.paper.Sets.{union, members, lowest}
 use Rattle.worlds.specs.code.Over.{entry}
 use Rattle.worlds.specs.code.Citing.{CitesIn, far, through}
-use Rattle.worlds.proofs.CiteLaws.{left_all, left-next, left-none}
+use Rattle.worlds.proofs.CiteLaws.{left_all, left-turn, left-none}
 use Rattle.worlds.proofs.CiteTurns.{far_other, far-same, ends_cite, ends_added, ends_idle, ends-none}
 use Rattle.worlds.proofs.cite.cite_cuts.Goals as goal
 use Rattle.worlds.proofs.cite.cite_cuts.Goals.{then-more-ne0, else-more-ne0}
@@ -35,7 +35,7 @@ loop-e-preserved-then-near-far-ne0 c =
       | then-more-ne0 w ↦ far-end pair c.others-more.result _ _ c.others-more.ensures.0 c.others-more.type_inv w.if-more-ne0.true w.r-is w.low-r.ensures
       | else-more-ne0 w ↦ same-end pair c.others-more.result _ _ c.others-more.ensures.0 w.if-more-ne0.false w.r-is c.low-l.ensures
     ] in
-    left-next c.loop-e.invariant c.in-Some.ensures.steps
+    left-turn c.loop-e.invariant c.in-Some.ensures.steps
     (ends_added c.args.blocks.now pair own c.low-l.result c.if-more-ne0.r c.low-l.ensures.0 f.0 c.cite_one.ensures c.cite_one-then-near-far-ne0.ensures)
 
 pub loop-e-preserved-else-near-far-ne0 : goal.loop-e-preserved-else-near-far-ne0
@@ -47,12 +47,12 @@ loop-e-preserved-else-near-far-ne0 c =
       | then-more-ne0 w ↦ far-end pair c.others-more.result _ _ c.others-more.ensures.0 c.others-more.type_inv w.if-more-ne0.true w.r-is w.low-r.ensures
       | else-more-ne0 w ↦ same-end pair c.others-more.result _ _ c.others-more.ensures.0 w.if-more-ne0.false w.r-is c.low-l.ensures
     ] in
-    left-next c.loop-e.invariant c.in-Some.ensures.steps
+    left-turn c.loop-e.invariant c.in-Some.ensures.steps
     (ends_idle c.args.blocks.now pair own c.low-l.result c.if-more-ne0.r c.loop-e.cited c.low-l.ensures.0 f.0 c.if-near-far-ne0.false)
 
 pub loop-e-preserved : goal.loop-e-preserved
 loop-e-preserved c =
-    left-next c.loop-e.invariant c.in-Some.ensures.steps
+    left-turn c.loop-e.invariant c.in-Some.ensures.steps
     (ends-none c.args.blocks.now (entry c.args.pairs.now c.in-Some.e) (entry c.args.own.now) c.loop-e.cited c.if-pair-ne0.false)
 
 pub returns : goal.returns

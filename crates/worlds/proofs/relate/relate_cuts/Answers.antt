@@ -5,6 +5,7 @@ use native.Mathlib.Omega.{arith}
 use Rattle.sets.specs.paper.Sets.{has, any_of}
 use Rattle.sets.proofs.SetLaws.{has-none}
 use Rattle.worlds.specs.code.Related.{RelatedAt}
+use Rattle.worlds.proofs.OverLaws.{turn-is}
 use Rattle.worlds.proofs.RelateLaws.{done_next, related_before, related_after, same_then}
 use Rattle.worlds.proofs.relate.relate_cuts.Goals as goal
 
@@ -17,7 +18,7 @@ loop-c-preserved c =
     let ks : List ℕ = 2 ∷ 3 ∷ 4 ∷ 5 ∷ 6 ∷ 7 ∷ [] in (
       omega (arith, s.rest.1),
       same_then v.1 r.ensures.same,
-      done_next (λ i. RelatedAt c.args.preceded.now i c.args.cuts c.args.combination c.args.t.now r.new.t) c.args.cuts v.0 s
+      done_next (λ i. RelatedAt c.args.preceded.now i c.args.cuts c.args.combination c.args.t.now r.new.t) c.args.cuts _ _ _ (turn-is v.0 s)
           (related_before _ _ _ _ ks refl refl v.1 r.ensures.here)
           (λ i q h e. related_after _ _ _ _ (λ k. r.ensures.others k i q) (v.2 i h e)),
     )

@@ -5,7 +5,9 @@ use Rattle.worlds.proofs.world.cut_blocks.Goals as goal
 
 pub loop-c-preserved : goal.loop-c-preserved
 unfolding meet
-loop-c-preserved c = cut_turn _ _ _ _ _ _ _ c.loop-c.invariant c.in-Some.ensures.steps _ _ _ refl c.put.ensures c.minus-rest.ensures
+loop-c-preserved c =
+    let s = c.in-Some.ensures.steps in
+    cut_turn _ _ _ _ _ _ _ c.loop-c.invariant _ _ _ _ _ s.first.0 s.rest.0 s.rest.1 refl c.put.ensures c.minus-rest.ensures
 
 pub returns : goal.returns
 returns c = cut_end _ _ _ _ _ _ _ c.loop-c.invariant c.in-None.ensures.steps.0
