@@ -21,7 +21,7 @@ use Rattle.encoding.specs.paper.Encoded.{record_bytes}
 use Rattle.encoding.specs.code.Written.{Few}
 use Rattle.encoding.proofs.FlatLaws.{flat_map_lem}
 
-two_kinds : (f : Raw → List ℕ) (xs ys : List Raw) (p q r : Page) → q ≡ puts p (flat_map f xs) → r ≡ puts q (flat_map f ys) → r ≡ puts p (flat_map f (xs ++ ys))
+pub two_kinds : (f : Raw → List ℕ) (xs ys : List Raw) (p q r : Page) → q ≡ puts p (flat_map f xs) → r ≡ puts q (flat_map f ys) → r ≡ puts p (flat_map f (xs ++ ys))
 two_kinds f xs ys p q r h k = puts_then p q r (flat_map f xs) (flat_map f ys) h k ∙ ap (puts p) (sym (flat_append f xs ys))
 
 -- the records in use of a kind: the first n of an array

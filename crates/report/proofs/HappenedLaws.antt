@@ -5,7 +5,7 @@ use Prim.Native.Nat.{ℕ, zero, suc, ◌+◌, ◌-◌, ◌*◌, ◌≤◌}
 use native.Mathlib.Nat.{zero-add}
 use native.Mathlib.Omega.{arith}
 use lib.ListN.{length, take, drop, take-append-drop, length-append, length-map}
-use lib.Seq.{drop_at, length-take-le}
+use lib.Seq.{drop_at, length-take-le, drop-drop}
 use Rattle.std.specs.List.{copy_within}
 use Rattle.sets.specs.paper.Sets.{has, size, members, numbers}
 use Rattle.sets.proofs.MemberLaws.{members-length}
@@ -121,8 +121,21 @@ module _ (plan : Plan) (c : Case) (sums noted : List (List ℕ)) (defaults : ℕ
         ++ overlap_over (plan_of plan) (row noted 2) ++ attachment_over (plan_of plan) (case_of c) (row sums 4 6) ++ bar_over (plan_of plan) (row sums 4 7)
         ++ status_over (plan_of plan) (row sums 4 8) ++ default_over (plan_of plan) defaults
 
-    -- ALL KINDS ARE WRITTEN
-    pub all_written : {m₁ m₂ m₃ m₄ m₅ m₆ m₇ m₈ : List ℕ} {p₁ p₂ p₃ p₄ p₅ p₆ p₇ p₈ : ℕ}
+    -- WHAT IS WRITTEN OF ALL KINDS
+    pub all_written : {after : List ℕ} {next : ℕ}
+        → Upto one_by_one (size (row sums 4 4) + size (row sums 4 5) + sizes (cut_count (plan_of plan)) (row noted 1) + sizes (cut_count (plan_of plan)) (row noted 2)
+        + size (row sums 4 6) + size (row sums 4 7) + size (row sums 4 8) + size defaults) before after next
+        → EventsWritten (plan_of plan) (case_of c) sums noted defaults before after
+    unfolding by_rules happened discretion_over event_count
+    all_written {after} {next} u =
+        let e : one_by_one ≡ by_rules (plan_of plan) (case_of c) sums noted defaults = simp (append_assoc, append-nil) in
+        let l = ap length e in record {
+          bytes = u.written.bytes ∙ ap₂ (λ (k : ℕ) (es : List (List ℕ)). flat_map (λ e. e) es ++ drop k before) (omega arith) e;
+          count = let k = u.many.count in omega arith;
+        }
+
+    -- ALL KINDS ARE WRITTEN, one behind another
+    pub each_written : {m₁ m₂ m₃ m₄ m₅ m₆ m₇ m₈ : List ℕ} {p₁ p₂ p₃ p₄ p₅ p₆ p₇ p₈ : ℕ}
         → Writes 0 (frozen_over (plan_of plan) (row sums 4 4)) before m₁ p₁
         → Writes p₁ (applied_over (plan_of plan) (case_of c) (row sums 4 5)) m₁ m₂ p₂
         → Writes p₂ (blocked_over (plan_of plan) (case_of c) (row noted 1)) m₂ m₃ p₃
@@ -132,8 +145,8 @@ module _ (plan : Plan) (c : Case) (sums noted : List (List ℕ)) (defaults : ℕ
         → Writes p₆ (status_over (plan_of plan) (row sums 4 8)) m₆ m₇ p₇
         → Writes p₇ (default_over (plan_of plan) defaults) m₇ m₈ p₈
         → EventsWritten (plan_of plan) (case_of c) sums noted defaults before m₈
-    unfolding by_rules happened discretion_over event_count
-    all_written w₁ w₂ w₃ w₄ w₅ w₆ w₇ w₈ =
+    unfolding event_count
+    each_written w₁ w₂ w₃ w₄ w₅ w₆ w₇ w₈ =
         let f = r.fit in
         let u₁ = upto_first many-frozen (omega arith) w₁ in
         let u₂ = upto_more u₁ many-applied (omega arith) w₂ in
@@ -142,12 +155,7 @@ module _ (plan : Plan) (c : Case) (sums noted : List (List ℕ)) (defaults : ℕ
         let u₅ = upto_more u₄ many-attached (omega arith) w₅ in
         let u₆ = upto_more u₅ many-barred (omega arith) w₆ in
         let u₇ = upto_more u₆ many-excluded (omega arith) w₇ in
-        let u = upto_more u₇ many-defaulted (omega arith) w₈ in
-        let e : one_by_one ≡ by_rules (plan_of plan) (case_of c) sums noted defaults = simp (append_assoc, append-nil) in
-        let l = ap length e in record {
-          bytes = u.written.bytes ∙ ap₂ (λ (k : ℕ) (es : List (List ℕ)). flat_map (λ e. e) es ++ drop k before) (omega arith) e;
-          count = let k = u.many.count in omega arith;
-        }
+        all_written (upto_more u₇ many-defaulted (omega arith) w₈)
 
 -- ---- the others made room for
 
@@ -171,10 +179,29 @@ none_written plan c sums noted defaults count listed before r z = record {
     length_none [] k = refl
     length_none (x ∷ xs) k = absurd (omega arith)
 
+-- the others stand behind the events, and what lay behind all stays
 pub behind_all : (plan : Plan) (c : Case) (sums noted : List (List ℕ)) (defaults count listed : ℕ) (before mid after : List ℕ)
+    → take (listed * event_length) (drop (count * event_length) mid) ≡ take (listed * event_length) before
+    → drop (listed * event_length + count * event_length) mid ≡ drop (listed * event_length + count * event_length) before
+    → EventsWritten (plan_of plan) (case_of c) sums noted defaults mid after → AllWritten (plan_of plan) (case_of c) sums noted defaults count listed before after
+behind_all plan c sums noted defaults count listed before mid after moved behind w = record {
+  bytes = λ e.
+      let es = by_rules (plan_of plan) (case_of c) sums noted defaults in
+      let k : event_length * length es ≡ count * event_length = omega (arith, w.count) in
+      w.bytes ∙ ap (λ (l : List ℕ). flat_map (λ e. e) es ++ l)
+      (ap (λ (j : ℕ). drop j mid) k ∙ sym (take-append-drop (listed * event_length) (drop (count * event_length) mid))
+      ∙ ap₂ (λ (x y : List ℕ). x ++ y)
+      (moved ∙ ap (λ (j : ℕ). take j before) (let z : listed * event_length ≡ event_length * listed = omega arith in z))
+      (drop-drop (listed * event_length) (count * event_length) mid
+      ∙ ap (λ (j : ℕ). drop j mid) (let z : count * event_length + listed * event_length ≡ listed * event_length + count * event_length = omega arith in z) ∙ behind
+      ∙ ap (λ (j : ℕ). drop j before) (let z : listed * event_length + count * event_length ≡ event_length * (count + listed) = omega arith in z)));
+}
+
+-- where the buffer was copied up
+pub behind_copied : (plan : Plan) (c : Case) (sums noted : List (List ℕ)) (defaults count listed : ℕ) (before mid after : List ℕ)
     → event_length * (count + listed) ≤ length before → mid ≡ copy_within before 0 (listed * event_length) (count * event_length)
     → EventsWritten (plan_of plan) (case_of c) sums noted defaults mid after → AllWritten (plan_of plan) (case_of c) sums noted defaults count listed before after
-behind_all plan c sums noted defaults count listed before mid after room s w = record {
+behind_copied plan c sums noted defaults count listed before mid after room s w = record {
   bytes = λ e.
       let es = by_rules (plan_of plan) (case_of c) sums noted defaults in
       let by = count * event_length in

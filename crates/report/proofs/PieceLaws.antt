@@ -37,7 +37,7 @@ over-both place k j vs ws b e h =
     ap₂ (λ (y z : List ℕ). y ++ (ws ++ z)) t d ∙ simp append_assoc
 
 -- a part of b that is written from its start on
-part-over : (place k : ℕ) (vs b : List ℕ) → place + k ≤ length b
+pub part-over : (place k : ℕ) (vs b : List ℕ) → place + k ≤ length b
     → put_mid place (length b - place) b (vs ++ drop k (take (length b - place) (drop place b))) ≡ over place k vs b
 part-over place k vs b h =
     let q : length (drop place b) ≤ length b - place = simp length-drop (omega arith) in

@@ -50,7 +50,7 @@ fn write_rules(events: &mut [u8], plan: Plan, case: Case, sums: &Sums, noted: &N
 }
 
 // All events: `listed` of kind 9 stand at the start of the buffer, and come behind the `count` others, where there are any.
-#[tactic(auto, using(crate::proofs::HappenedLaws::none_written, crate::proofs::HappenedLaws::room_same, crate::proofs::HappenedLaws::behind_all))]
+#[tactic(auto, using(crate::proofs::HappenedLaws::none_written, crate::proofs::HappenedLaws::room_same, crate::proofs::HappenedLaws::behind_copied))]
 pub fn write_events(
     events: &mut [u8],
     plan: Plan,

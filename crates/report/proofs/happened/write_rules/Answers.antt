@@ -9,7 +9,7 @@ use Rattle.expressions.specs.paper.Rules.{cut_count}
 use Rattle.expressions.proofs.ListLaws.{made-length}
 use Rattle.report.specs.code.EventBytes.{sizes}
 use Rattle.report.specs.code.EventsWritten.{event_count}
-use Rattle.report.proofs.HappenedLaws.{all_written}
+use Rattle.report.proofs.HappenedLaws.{each_written}
 use Rattle.report.proofs.happened.write_rules.Goals as goal
 
 cuts-counted : (p : Plan) (n : ℕ) → length p.cuts.items ≡ 16 → n ≡ min p.cuts.count 16 → n ≡ cut_count (plan_of p)
@@ -57,7 +57,7 @@ returns c =
     let r = c.requires in
     let n = cuts-counted c.args.plan _ (omega (arith, c.well_formed)) c.min-n.ensures in
     let evidence = c.evidence_by_fact-evidence.ensures in
-    all_written _ _ _ _ _ _ r (c.write_frozen-a.ensures.written _ refl r.edges) (c.write_applied-b.ensures.written _ _ refl evidence r.cuts)
+    each_written _ _ _ _ _ _ r (c.write_frozen-a.ensures.written _ refl r.edges) (c.write_applied-b.ensures.written _ _ refl evidence r.cuts)
     (c.write_blocked-c.ensures.written _ _ refl evidence n r.blocked) (c.write_clashes-d.ensures.written _ n r.clashed)
     (c.write_attachments-e.ensures.written _ _ refl evidence r.attachments) (c.write_bars-f.ensures.written _ r.bars) (c.write_statuses-g.ensures.written _ refl r.statuses)
     (c.write_defaults.ensures.written _ refl refl r.facts)
